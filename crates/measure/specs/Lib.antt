@@ -1,0 +1,5 @@
+pub mod Choose
+pub mod Ranges
+pub mod Lists
+pub mod Refusals
+pub mod Table
