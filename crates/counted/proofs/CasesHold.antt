@@ -1,0 +1,11 @@
+-- The definitions compute to what document 01 prints.
+use mathlib.Core.Path.{refl}
+use Rattle.measure.specs.Lists.{firstAbove}
+use Rattle.measure.specs.Table.{Agree}
+use Rattle.counted.specs.Counted.{fromMark, counted}
+use Rattle.counted.specs.Refusals.{countedBits}
+use Rattle.counted.specs.Cases.{cases}
+
+pub cases-hold : Agree cases
+unfolding countedBits counted fromMark firstAbove
+cases-hold = (refl, (refl, (refl, tt)))

@@ -1,0 +1,27 @@
+-- 01, "Numbers to try": P7.
+use Prim.Native.Nat.{ℕ}
+use mathlib.Core.List.{List, [], _∷_}
+use Rattle.measure.specs.Refusals.{Answer, given, refusedAfter}
+use Rattle.measure.specs.Table.{Case}
+use Rattle.counted.specs.Refusals.{countedBits}
+
+-- the wave that P1 prints, taken as reads
+abbrev sent : List ℕ
+sent = 1 ∷ 1 ∷ 0 ∷ 0 ∷ 1 ∷ 1 ∷ 1 ∷ 0 ∷ 0 ∷ 0 ∷ 0 ∷ 0 ∷ 1 ∷ []
+
+-- a lent output of three places, whose bytes are no bits
+abbrev output : List ℕ
+output = 7 ∷ 8 ∷ 9 ∷ []
+
+-- P7: level 1, k 3: two bits; refusal 5 after two of three; nothing
+abbrev P7-2 : Case
+P7-2 = record { kind = Answer ℕ × List ℕ; gives = countedBits 3 2 1 sent output; printed = (given 2, 1 ∷ 0 ∷ 9 ∷ []) }
+
+abbrev P7-3 : Case
+P7-3 = record { kind = Answer ℕ × List ℕ; gives = countedBits 3 3 1 sent output; printed = (refusedAfter 5 0 2, 1 ∷ 0 ∷ 9 ∷ []) }
+
+abbrev P7-0 : Case
+P7-0 = record { kind = Answer ℕ × List ℕ; gives = countedBits 3 0 1 sent output; printed = (given 0, 7 ∷ 8 ∷ 9 ∷ []) }
+
+abbrev pub cases : List Case
+cases = P7-2 ∷ P7-3 ∷ P7-0 ∷ []

@@ -1,0 +1,54 @@
+-- 01, "Numbers to try": P2 to P6.
+use Prim.Native.Nat.{ℕ}
+use mathlib.Core.List.{List, [], _∷_}
+use Rattle.measure.specs.Table.{Case}
+use Rattle.line.specs.Smooth.{smooth}
+use Rattle.line.specs.Warp.{warp}
+use Rattle.line.specs.Settle.{settle}
+
+-- the wave that P1 prints
+abbrev sent : List ℕ
+sent = 1 ∷ 1 ∷ 0 ∷ 0 ∷ 1 ∷ 1 ∷ 1 ∷ 0 ∷ 0 ∷ 0 ∷ 0 ∷ 0 ∷ 1 ∷ []
+
+-- what P2 prints of it
+abbrev smoothed : List ℕ
+smoothed = 1 ∷ 1 ∷ 2 ∷ 0 ∷ 2 ∷ 1 ∷ 1 ∷ 2 ∷ 0 ∷ 0 ∷ 0 ∷ 0 ∷ 2 ∷ []
+
+-- what P3 prints of that
+abbrev warped : List ℕ
+warped = 1 ∷ 2 ∷ 2 ∷ 2 ∷ 2 ∷ 1 ∷ 2 ∷ 2 ∷ 0 ∷ 0 ∷ 0 ∷ 2 ∷ []
+
+abbrev P2 : Case
+P2 = record { kind = List ℕ; gives = smooth sent; printed = smoothed }
+
+-- P3: w 4, r 4, at phase 1 and at phase 0
+abbrev P3-1 : Case
+P3-1 = record { kind = List ℕ; gives = warp 4 4 1 smoothed; printed = warped }
+
+abbrev P3-0 : Case
+P3-0 = record { kind = List ℕ; gives = warp 4 4 0 smoothed; printed = smoothed }
+
+-- P4: choices 1 0 0 1
+abbrev P4 : Case
+P4 = record {
+  kind = List ℕ;
+  gives = settle warped (1 ∷ 0 ∷ 0 ∷ 1 ∷ []);
+  printed = 1 ∷ 1 ∷ 0 ∷ 0 ∷ 1 ∷ 1 ∷ 0 ∷ 0 ∷ 0 ∷ 0 ∷ 0 ∷ 0 ∷ [];
+}
+
+-- P5: 1 2 0 0 at w 2, p 0, with r 3 and with r 4
+abbrev P5-3 : Case
+P5-3 = record { kind = List ℕ; gives = warp 2 3 0 (1 ∷ 2 ∷ 0 ∷ 0 ∷ []); printed = 2 ∷ 2 ∷ [] }
+
+abbrev P5-4 : Case
+P5-4 = record { kind = List ℕ; gives = warp 2 4 0 (1 ∷ 2 ∷ 0 ∷ 0 ∷ []); printed = 2 ∷ 0 ∷ [] }
+
+-- P6: one cycle at w 3, r 3: one read at phase 0, none at phase 1
+abbrev P6-0 : Case
+P6-0 = record { kind = List ℕ; gives = warp 3 3 0 (1 ∷ []); printed = 1 ∷ [] }
+
+abbrev P6-1 : Case
+P6-1 = record { kind = List ℕ; gives = warp 3 3 1 (1 ∷ []); printed = [] }
+
+abbrev pub cases : List Case
+cases = P2 ∷ P3-1 ∷ P3-0 ∷ P4 ∷ P5-3 ∷ P5-4 ∷ P6-0 ∷ P6-1 ∷ []

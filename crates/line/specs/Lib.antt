@@ -1,0 +1,6 @@
+pub mod Smooth
+pub mod Warp
+pub mod Settle
+pub mod Sharing
+pub mod Refusals
+pub mod Cases

@@ -1,0 +1,17 @@
+-- 01, "The line, three passes", 3: settle.
+use Prim.Native.Nat.{ℕ}
+use mathlib.Core.List.{List, [], _∷_}
+use lib.ListN.{drop}
+use lib.Dec.{eqb}
+use Rattle.measure.specs.Choose.{choose}
+
+-- the next choice, and low once choices have run out
+abbrev pub next : List ℕ → ℕ
+next [] = 0
+next (choice ∷ choices) = choice
+
+-- Each unknown read takes the next choice; known reads use up none.
+unfoldable pub settle : List ℕ → List ℕ → List ℕ
+settle [] choices = []
+settle (read ∷ reads) choices =
+    choose (eqb read 2) (next choices ∷ settle reads (drop 1 choices)) (read ∷ settle reads choices)

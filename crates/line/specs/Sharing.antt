@@ -1,0 +1,52 @@
+-- What 01 asks to be shown of warp: which cycles a read looks at, what it then is, and how many reads there are.
+use Prim.Native.Nat.{ℕ, zero, suc, _+_, _*_, _-_, _/_, _<_, _≤_}
+use mathlib.Core.Path.{_≡_}
+use mathlib.Core.List.{List}
+use lib.ListN.{length, drop, getD}
+use Rattle.line.specs.Warp.{cycleStart, readStart, look, dropped, warp}
+
+-- cycle i and read j share more than a point of time
+pub record Shares (starts reads : ℕ → ℕ) (j i : ℕ) : Type 0 where
+  pub before-the-end : starts i < reads (suc j)
+  pub after-the-start : reads j < starts (suc i)
+
+-- the first cycle that is left for read j: each read drops the cycles that end at or before its own end
+unfoldable pub firstLeft : (ℕ → ℕ) → (ℕ → ℕ) → List ℕ → ℕ → ℕ
+firstLeft starts reads levels zero = 0
+firstLeft starts reads levels (suc j) =
+    firstLeft starts reads levels j
+    + dropped starts (reads (suc j)) (firstLeft starts reads levels j) (drop (firstLeft starts reads levels j) levels)
+
+-- read j looks at cycle i: that is the first one left, or every cycle looked at before it ends strictly before the read does
+pub record LooksAt (starts reads : ℕ → ℕ) (levels : List ℕ) (j i : ℕ) : Type 0 where
+  pub left : firstLeft starts reads levels j ≤ i
+  pub onward : (m : ℕ) → firstLeft starts reads levels j ≤ m → m < i → starts (suc m) < reads (suc j)
+
+-- v is read j: the level that the cycles sharing time with it all have, and otherwise unknown
+pub record ReadIs (starts reads : ℕ → ℕ) (levels : List ℕ) (j v : ℕ) : Type 0 where
+  -- where they all have one level, that is the read
+  pub same : (x : ℕ) → ((i : ℕ) → i < length levels → Shares starts reads j i → getD levels i 2 ≡ x) → v ≡ x
+  -- a read that is not unknown is the level that each of them has
+  pub known : (v ≡ 2 → ⊥) → (i : ℕ) → i < length levels → Shares starts reads j i → getD levels i 2 ≡ v
+
+-- the number of reads of so many cycles: (L·w − p) / r rounded down for one cycle or more, and none for none
+abbrev pub readCount : ℕ → ℕ → ℕ → ℕ → ℕ
+readCount w r p zero = 0
+readCount w r p (suc cycles) = (suc cycles * w - p) / r
+
+-- the laws of warp, for cycles of one length, reads of another and a phase
+pub record WarpLaws (w r p : ℕ) (levels : List ℕ) : Type 0 where
+  -- how many reads there are
+  pub count : length (warp w r p levels) ≡ readCount w r p (length levels)
+  -- read j is what is looked at from the first cycle left on
+  pub looks : (j : ℕ) → j < length (warp w r p levels)
+      → getD (warp w r p levels) j 2
+      ≡ look (cycleStart w) (readStart p r (suc j)) (firstLeft (cycleStart w) (readStart p r) levels j)
+      (drop (firstLeft (cycleStart w) (readStart p r) levels j) levels)
+  -- read j looks at exactly the cycles that share more than a point of time with it
+  pub looks-at-shared : (j i : ℕ) → j < length (warp w r p levels) → i < length levels
+      → LooksAt (cycleStart w) (readStart p r) levels j i → Shares (cycleStart w) (readStart p r) j i
+  pub shared-looked-at : (j i : ℕ) → j < length (warp w r p levels) → i < length levels
+      → Shares (cycleStart w) (readStart p r) j i → LooksAt (cycleStart w) (readStart p r) levels j i
+  -- and it is the level that they all have, else unknown
+  pub is : (j : ℕ) → j < length (warp w r p levels) → ReadIs (cycleStart w) (readStart p r) levels j (getD (warp w r p levels) j 2)

@@ -1,0 +1,48 @@
+-- 01, "The line, three passes", 2: warp, which is the recursion of source 002.
+use Prim.Native.Nat.{ℕ, zero, suc, _+_, _*_}
+use mathlib.Core.List.{List, [], _∷_}
+use lib.ListN.{length, drop}
+use lib.Dec.{eqb, leb, ltb}
+use Rattle.measure.specs.Choose.{choose}
+
+-- Writer cycle i covers the time from i·w to (i + 1)·w. A clock is given by when each of its cycles starts.
+abbrev pub cycleStart : ℕ → ℕ → ℕ
+cycleStart w i = i * w
+
+-- read j covers the time from p + j·r to p + (j + 1)·r
+abbrev pub readStart : ℕ → ℕ → ℕ → ℕ
+readStart p r j = p + j * r
+
+-- two levels that are equal are that level, and otherwise unknown
+abbrev pub reconcile : ℕ → ℕ → ℕ
+reconcile one other = choose (eqb one other) one 2
+
+-- A read that ends at time t looks at cycle i, the first that is left, and then at the rest, as long as the cycle looked at ends strictly before the read does.
+unfoldable pub look : (ℕ → ℕ) → ℕ → ℕ → List ℕ → ℕ
+look starts t i [] = 2
+look starts t i (level ∷ levels) =
+    choose (ltb (starts (suc i)) t) (reconcile level (look starts t (suc i) levels)) level
+
+-- how many of the cycles left, the first of them cycle i, end at or before time t: these are dropped for the next read
+unfoldable pub dropped : (ℕ → ℕ) → ℕ → ℕ → List ℕ → ℕ
+dropped starts t i [] = 0
+dropped starts t i (level ∷ levels) = choose (leb (starts (suc i)) t) (suc (dropped starts t (suc i) levels)) 0
+
+-- The reads from read j on, where cycle i is the first that is left. A read that would end after `end`, the end of the last writer cycle, does not exist.
+-- At most so many reads are made as the first argument says.
+unfoldable pub warpFrom : ℕ → (ℕ → ℕ) → (ℕ → ℕ) → ℕ → ℕ → ℕ → List ℕ → List ℕ
+warpFrom zero starts reads end j i levels = []
+warpFrom (suc most) starts reads end j i levels =
+    choose (leb (reads (suc j)) end)
+    (look starts (reads (suc j)) i levels
+    ∷ warpFrom most starts reads end (suc j) (i + dropped starts (reads (suc j)) i levels)
+    (drop (dropped starts (reads (suc j)) i levels) levels))
+    []
+
+-- a wave warped by two clocks: no read is shorter than one time unit, so there are at most as many as the wave has units
+abbrev pub warpBy : (ℕ → ℕ) → (ℕ → ℕ) → List ℕ → List ℕ
+warpBy starts reads levels = warpFrom (starts (length levels)) starts reads (starts (length levels)) 0 0 levels
+
+-- the pass, with 01's two clocks
+unfoldable pub warp : ℕ → ℕ → ℕ → List ℕ → List ℕ
+warp w r p levels = warpBy (cycleStart w) (readStart p r) levels

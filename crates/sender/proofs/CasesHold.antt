@@ -1,0 +1,9 @@
+-- The definitions compute to what document 01 prints.
+use mathlib.Core.Path.{refl}
+use Rattle.measure.specs.Table.{Agree}
+use Rattle.sender.specs.Sending.{wave, cells}
+use Rattle.sender.specs.Cases.{cases}
+
+pub cases-hold : Agree cases
+unfolding wave cells
+cases-hold = (refl, tt)

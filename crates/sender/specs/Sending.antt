@@ -1,0 +1,46 @@
+-- 01, "Sending": cells, the wave of a message, the wave of a plan.
+use Prim.Native.Nat.{ℕ, _-_}
+use mathlib.Core.List.{List, [], _∷_, _++_}
+use lib.ListN.{replicate, take, drop}
+use lib.Dec.{eqb}
+use Rattle.measure.specs.Choose.{choose}
+
+-- the other of the two levels
+abbrev pub opposite : ℕ → ℕ
+opposite level = 1 - level
+
+-- the level of a cell's code subcell: the level before the cell if the bit is 1, and the mark's level still if the bit is 0
+abbrev pub codeLevel : ℕ → ℕ → ℕ
+codeLevel before bit = choose (eqb bit 1) before (opposite before)
+
+-- A cell holds the opposite of the level before it for a cycles, and its code level for b more. The next cell starts from the level now on the line.
+unfoldable pub cells : ℕ → ℕ → ℕ → List ℕ → List ℕ
+cells a b before [] = []
+cells a b before (bit ∷ bits) =
+    replicate a (opposite before) ++ replicate b (codeLevel before bit) ++ cells a b (codeLevel before bit) bits
+
+-- so many high cycles
+abbrev pub pad : ℕ → List ℕ
+pad cycles = replicate cycles 1
+
+-- a wave: the lead pad, the cells from high, the trail pad
+unfoldable pub wave : ℕ → ℕ → ℕ → ℕ → List ℕ → List ℕ
+wave a b p1 p2 bits = pad p1 ++ cells a b 1 bits ++ pad p2
+
+-- a row of a plan: its own lead pad, trail pad and bits
+pub record Row : Type 0 where
+  pub lead : ℕ
+  pub trail : ℕ
+  pub bits : List ℕ
+
+-- a plan's wave: the rows' waves one behind another, each row's cells starting from high
+unfoldable pub planWave : ℕ → ℕ → List Row → List ℕ
+planWave a b [] = []
+planWave a b (row ∷ rows) = wave a b (row .lead) (row .trail) (row .bits) ++ planWave a b rows
+
+-- The rows of a plan that is lent as three lists: lead pads, trail pads, and the bits of all rows one behind another, n for each.
+unfoldable pub rowsOf : ℕ → List ℕ → List ℕ → List ℕ → List Row
+rowsOf n [] trails bits = []
+rowsOf n (p1 ∷ leads) [] bits = []
+rowsOf n (p1 ∷ leads) (p2 ∷ trails) bits =
+    record { lead = p1; trail = p2; bits = take n bits } ∷ rowsOf n leads trails (drop n bits)

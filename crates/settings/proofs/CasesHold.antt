@@ -1,0 +1,10 @@
+-- The definitions compute to what document 01 prints.
+use mathlib.Core.Path.{refl}
+use Rattle.measure.specs.Table.{Agree}
+use Rattle.settings.specs.Margins.{m1, m2, m3, m4, m5, accepted, quietAccepted}
+use Rattle.settings.specs.Refusals.{judgement}
+use Rattle.settings.specs.Cases.{cases}
+
+pub cases-hold : Agree cases
+unfolding judgement accepted m1 m2 m3 m4 m5
+cases-hold = (refl, (refl, (refl, (refl, (refl, (refl, (refl, (refl, (refl, tt)))))))))

@@ -1,0 +1,46 @@
+-- 01, "Numbers to try": P8, P9 and P10.
+use Prim.Native.Nat.{ℕ}
+use mathlib.Core.Bool.{Bool, true, false}
+use mathlib.Core.List.{List, [], _∷_}
+use lib.IntN.{ℤ, pos, negsuc}
+use Rattle.measure.specs.Refusals.{Answer, given}
+use Rattle.measure.specs.Table.{Case}
+use Rattle.settings.specs.Margins.{m2, m3, m4, m5, accepted}
+use Rattle.settings.specs.Refusals.{Judgement, judgement}
+
+-- what the judge is to say: three margins and yes or no
+abbrev says : ℤ → ℤ → ℤ → Bool → Answer Judgement
+says one two three verdict = given (record { margins = record { m1 = one; m2 = two; m3 = three }; accepts = verdict })
+
+-- P8: a 5, b 13, k 10, w 100 at four lengths of a read; of the last only M2 and the "no" are printed
+abbrev P8-141 : Case
+P8-141 = record { kind = Answer Judgement; gives = judgement 5 13 10 100 141; printed = says (pos 118) (pos 669) (pos 8) true }
+
+abbrev P8-142 : Case
+P8-142 = record { kind = Answer Judgement; gives = judgement 5 13 10 100 142; printed = says (pos 116) (pos 678) (negsuc 3) false }
+
+abbrev P8-67 : Case
+P8-67 = record { kind = Answer Judgement; gives = judgement 5 13 10 100 67; printed = says (pos 266) (pos 3) (pos 896) true }
+
+abbrev P8-66 : Case
+P8-66 = record { kind = ℤ × Bool; gives = (m2 5 10 100 66, accepted 5 13 10 100 66); printed = (negsuc 5, false) }
+
+-- P9: a 5, b 13, k 10 at two pairs of clocks, each with one margin exactly 0
+abbrev P9-12-17 : Case
+P9-12-17 = record { kind = ℤ × Bool; gives = (m3 5 13 10 12 17, accepted 5 13 10 12 17); printed = (pos 0, true) }
+
+abbrev P9-3-2 : Case
+P9-3-2 = record { kind = ℤ × Bool; gives = (m2 5 10 3 2, accepted 5 13 10 3 2); printed = (pos 0, true) }
+
+-- P10: a 5, b 13, w and r 100: the quiet margins at and beside their edge
+abbrev P10-21-23 : Case
+P10-21-23 = record { kind = ℤ × ℤ; gives = (m4 5 13 21 100 100, m5 23 21 100 100); printed = (pos 0, pos 0) }
+
+abbrev P10-20 : Case
+P10-20 = record { kind = ℤ; gives = m4 5 13 20 100 100; printed = negsuc 99 }
+
+abbrev P10-21-22 : Case
+P10-21-22 = record { kind = ℤ; gives = m5 22 21 100 100; printed = negsuc 99 }
+
+abbrev pub cases : List Case
+cases = P8-141 ∷ P8-142 ∷ P8-67 ∷ P8-66 ∷ P9-12-17 ∷ P9-3-2 ∷ P10-21-23 ∷ P10-20 ∷ P10-21-22 ∷ []

@@ -1,0 +1,41 @@
+-- 01, "Margins": the five margins, and when settings are accepted.
+use Prim.Native.Nat.{ℕ, _+_}
+use mathlib.Core.Bool.{Bool, true, false, _&&_}
+use lib.IntN.{ℤ, pos, negsuc, _-ℤ_, _*ℤ_}
+
+-- a length or a count as a signed whole number
+abbrev pub signed : ℕ → ℤ
+signed n = pos n
+
+-- M1: the mark subcell less one cycle is two reads long or longer by this
+unfoldable pub m1 : ℕ → ℕ → ℕ → ℤ
+m1 a w r = (signed a -ℤ signed 1) *ℤ signed w -ℤ signed 2 *ℤ signed r
+
+-- M2: the sampling count less one read passes the mark subcell and one cycle by this
+unfoldable pub m2 : ℕ → ℕ → ℕ → ℕ → ℤ
+m2 a k w r = (signed k -ℤ signed 1) *ℤ signed r -ℤ signed (a + 1) *ℤ signed w
+
+-- M3: the whole cell less one cycle passes the sampling count and two reads by this
+unfoldable pub m3 : ℕ → ℕ → ℕ → ℕ → ℕ → ℤ
+m3 a b k w r = (signed (a + b) -ℤ signed 1) *ℤ signed w -ℤ signed (k + 2) *ℤ signed r
+
+-- M4: the quiet count less two reads passes a cell and one cycle by this
+unfoldable pub m4 : ℕ → ℕ → ℕ → ℕ → ℕ → ℤ
+m4 a b Q w r = (signed Q -ℤ signed 2) *ℤ signed r -ℤ signed (a + b + 1) *ℤ signed w
+
+-- M5: the lead pad less one cycle passes the quiet count and one read by this
+unfoldable pub m5 : ℕ → ℕ → ℕ → ℕ → ℤ
+m5 p1 Q w r = (signed p1 -ℤ signed 1) *ℤ signed w -ℤ signed (Q + 1) *ℤ signed r
+
+-- zero or more
+abbrev pub zeroOrMore : ℤ → Bool
+zeroOrMore (pos n) = true
+zeroOrMore (negsuc n) = false
+
+-- settings are accepted exactly if M1, M2 and M3 are all zero or more
+unfoldable pub accepted : ℕ → ℕ → ℕ → ℕ → ℕ → Bool
+accepted a b k w r = zeroOrMore (m1 a w r) && zeroOrMore (m2 a k w r) && zeroOrMore (m3 a b k w r)
+
+-- the quiet settings exactly if M4 and M5 are too
+unfoldable pub quietAccepted : ℕ → ℕ → ℕ → ℕ → ℕ → ℕ → ℕ → Bool
+quietAccepted a b k w r Q p1 = accepted a b k w r && zeroOrMore (m4 a b Q w r) && zeroOrMore (m5 p1 Q w r)
