@@ -1,0 +1,47 @@
+-- Feeding: reads given to the receiver one behind another, and the reports, each with the place of its read.
+use Prim.Native.Nat.{ℕ, suc, _+_}
+use mathlib.Core.List.{List, [], _∷_}
+use lib.ListN.{length, take}
+use Rattle.board.specs.Rows.{Settings, State, Happening, nothing, row, broken, Moved, next}
+
+-- a read's place and what it brought
+pub record Report : Type 0 where
+  pub place : ℕ
+  pub event : Happening
+
+-- a report before others; a read that brings nothing gives none
+abbrev pub noted : ℕ → Happening → List Report → List Report
+noted place nothing reports = reports
+noted place (row bits) reports = record { place = place; event = row bits } ∷ reports
+noted place (broken found) reports = record { place = place; event = broken found } ∷ reports
+
+-- what one read does to a state
+abbrev pub Step : Type 0
+Step = State → ℕ → Moved
+
+-- the state after a list of reads
+unfoldable pub afterBy : Step → State → List ℕ → State
+afterBy step s [] = s
+afterBy step s (read ∷ reads) = afterBy step (step s read .state) reads
+
+-- the reports of a list of reads, whose first read has this place
+unfoldable pub reportsBy : Step → State → ℕ → List ℕ → List Report
+reportsBy step s place [] = []
+reportsBy step s place (read ∷ reads) =
+    noted place (step s read .event) (reportsBy step (step s read .state) (suc place) reads)
+
+-- by 01's rules
+abbrev pub after : Settings → State → List ℕ → State
+after g s reads = afterBy (next g) s reads
+
+abbrev pub reports : Settings → State → ℕ → List ℕ → List Report
+reports g s place reads = reportsBy (next g) s place reads
+
+-- the first thing reported, if any, and how many reads that takes: up to and with the read that brings it, or all
+abbrev pub firstEvent : List Report → Happening
+firstEvent [] = nothing
+firstEvent (report ∷ more) = report .event
+
+abbrev pub usedOf : List Report → ℕ → ℕ
+usedOf [] all = all
+usedOf (report ∷ more) all = report .place + 1

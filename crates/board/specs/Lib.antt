@@ -1,0 +1,5 @@
+pub mod Rows
+pub mod Feeding
+pub mod Packed
+pub mod WellFormed
+pub mod Refusals

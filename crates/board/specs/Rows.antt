@@ -1,0 +1,108 @@
+-- 01, "The row receiver": what one read does. The bits so far are a list here; how they are kept is said in Packed.
+use Prim.Native.Nat.{ℕ, _+_, _-_, min}
+use mathlib.Core.List.{List, [], _∷_, _++_}
+use mathlib.Core.Bool.{Bool, true, false}
+use lib.ListN.{length}
+use lib.Dec.{eqb}
+use Rattle.measure.specs.Choose.{choose}
+use Rattle.board.specs.declared.Mode.{Mode}
+use Rattle.board.specs.declared.Mode.the-variants.{Hunting, Ready, Counting, Waiting}
+
+-- the sampling count, the bits of a row, the quiet count
+pub record Settings : Type 0 where
+  pub k : ℕ
+  pub n : ℕ
+  pub Q : ℕ
+
+-- the mode, the reads left up to the sample, the level or mark kept, the run of high reads, the bits so far
+pub record State : Type 0 where
+  pub mode : Mode
+  pub left : ℕ
+  pub level : ℕ
+  pub run : ℕ
+  pub bits : List ℕ
+
+-- what a read brings: nothing, a row with its bits, or a row broken after so many bits
+pub data Happening : Type 0 where
+  nothing : Happening
+  row : List ℕ → Happening
+  broken : ℕ → Happening
+
+-- the state after a read, and what the read brought
+pub record Moved : Type 0 where
+  pub state : State
+  pub event : Happening
+
+-- a high read adds one to the run, up to Q; a low one makes it 0
+abbrev pub runAfter : ℕ → ℕ → ℕ → ℕ
+runAfter Q run read = choose (eqb read 1) (min (run + 1) Q) 0
+
+-- the four modes with what each keeps; in hunting and ready the level is high and there are no bits
+abbrev pub hunting : ℕ → State
+hunting run = record { mode = Hunting; left = 0; level = 1; run = run; bits = [] }
+
+abbrev pub ready : ℕ → State
+ready run = record { mode = Ready; left = 0; level = 1; run = run; bits = [] }
+
+abbrev pub counting : ℕ → ℕ → ℕ → List ℕ → State
+counting left mark run bits = record { mode = Counting; left = left; level = mark; run = run; bits = bits }
+
+abbrev pub waiting : ℕ → ℕ → List ℕ → State
+waiting sample run bits = record { mode = Waiting; left = 0; level = sample; run = run; bits = bits }
+
+-- fresh: hunting, run 0, no bits
+abbrev pub fresh : State
+fresh = hunting 0
+
+-- a row is in progress in counting and waiting
+abbrev pub inProgress : Mode → Bool
+inProgress Hunting = false
+inProgress Ready = false
+inProgress Counting = true
+inProgress Waiting = true
+
+-- nothing but the run changes, and nothing is reported
+abbrev pub stays : State → ℕ → Moved
+stays s run = record { state = record { mode = s .mode; left = s .left; level = s .level; run = run; bits = s .bits }; event = nothing }
+
+-- the run is now Q: a row in progress is reported broken with its number of bits and forgotten, and the mode becomes ready
+abbrev pub quietened : Settings → State → Moved
+quietened g s =
+    record { state = ready (g .Q); event = choose (inProgress (s .mode)) (broken (length (s .bits))) nothing }
+
+-- a mark: counting begins with k left
+abbrev pub marked : Settings → State → ℕ → ℕ → Moved
+marked g s run read = record { state = counting (g .k) read run (s .bits); event = nothing }
+
+-- the bit is 1 if sample and mark differ, else 0
+abbrev pub bitOf : ℕ → ℕ → ℕ
+bitOf mark sample = choose (eqb sample mark) 0 1
+
+-- a bit more: after n bits the row is delivered, the bits are cleared and the mode is hunting; else the mode is waiting with the sample's level
+abbrev pub collected : Settings → ℕ → ℕ → List ℕ → Moved
+collected g run sample bits =
+    choose (eqb (length bits) (g .n)) (record { state = hunting run; event = row bits })
+    (record { state = waiting sample run bits; event = nothing })
+
+-- counting: one fewer left; at none left this read is the sample
+abbrev pub counted : Settings → State → ℕ → ℕ → Moved
+counted g s run read =
+    choose (eqb (s .left - 1) 0) (collected g run read (s .bits ++ bitOf (s .level) read ∷ []))
+    (record { state = counting (s .left - 1) (s .level) run (s .bits); event = nothing })
+
+-- ready and waiting: a read that differs from the level kept is a mark (in ready that level is high, so a low read is)
+abbrev pub awaited : Settings → State → ℕ → ℕ → Moved
+awaited g s run read = choose (eqb read (s .level)) (stays s run) (marked g s run read)
+
+-- the run is not Q: what the read does in each mode
+abbrev pub listening : Mode → Settings → State → ℕ → ℕ → Moved
+listening Hunting g s run read = stays s run
+listening Ready g s run read = awaited g s run read
+listening Counting g s run read = counted g s run read
+listening Waiting g s run read = awaited g s run read
+
+-- one read
+unfoldable pub next : Settings → State → ℕ → Moved
+next g s read =
+    choose (eqb (runAfter (g .Q) (s .run) read) (g .Q)) (quietened g s)
+    (listening (s .mode) g s (runAfter (g .Q) (s .run) read) read)
