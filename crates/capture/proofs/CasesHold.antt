@@ -1,0 +1,10 @@
+-- The definitions compute to what document 01 prints.
+use mathlib.Core.Path.{refl}
+use Rattle.measure.specs.Table.{Agree}
+use Rattle.capture.specs.Numbers.{following, group, numberAt, grouped}
+use Rattle.capture.specs.Capture.{runsFrom}
+use Rattle.capture.specs.Cases.{cases}
+
+pub cases-hold : Agree cases
+unfolding following group numberAt grouped runsFrom
+cases-hold = (refl, (refl, (refl, (refl, (refl, tt)))))

@@ -1,0 +1,5 @@
+pub mod Numbers
+pub mod Capture
+pub mod Writing
+pub mod Refusals
+pub mod Cases

@@ -1,0 +1,75 @@
+-- What the operations on captures answer and leave in the lent output, for all input, and what each case of the code says.
+use Prim.Native.Nat.{ℕ, _+_}
+use mathlib.Core.Bool.{Bool, _&&_}
+use mathlib.Core.List.{List, [], _∷_}
+use lib.ListN.{length}
+use lib.Dec.{ltb}
+use Rattle.measure.specs.Choose.{choose}
+use Rattle.measure.specs.Ranges.{sampling, rowBits, quiet, entriesMost}
+use Rattle.measure.specs.Lists.{onto}
+use Rattle.measure.specs.Refusals.{Answer, given, refused, refusedAfter, denied, ranged, limited, entered, lent}
+use Rattle.capture.specs.Numbers.{Numeral}
+use Rattle.capture.specs.Capture.{Heading, Capture, then, capture, readsOf}
+use Rattle.capture.specs.Writing.{captureOf}
+use Rattle.capture.specs.declared.Number.{Number}
+use Rattle.capture.specs.declared.Number.the-variants.{Is, Refused as NumberRefused}
+use Rattle.capture.specs.declared.Header.{Header}
+use Rattle.capture.specs.declared.Head.{Head}
+use Rattle.capture.specs.declared.Head.the-variants.{Found, Refused as HeadRefused}
+use Rattle.capture.specs.declared.Summary.{Summary}
+use Rattle.capture.specs.declared.Checked.{Checked}
+use Rattle.capture.specs.declared.Checked.the-variants.{Capture as Good, Refused}
+use Rattle.capture.specs.declared.Written.{Written}
+use Rattle.capture.specs.declared.Written.the-variants.{Bytes, Refused as WrittenRefused}
+
+-- a capture's settings, and how many reads and runs it has
+abbrev pub summary : Capture → Summary
+summary c =
+    record {
+      k = record { 0 = c .k };
+      n = c .n;
+      q = record { 0 = c .Q };
+      reads = length (readsOf (c .level) (c .runs));
+      runs = length (c .runs);
+    }
+
+-- checking: the summary, or the capture's refusal
+unfoldable pub checked : List ℕ → Answer Summary
+checked bytes = then (capture bytes) (λ c. given (summary c))
+
+-- a capture's reads into a lent output: refusal 4 comes after all the rest
+abbrev pub unrolled : Answer Capture → List ℕ → Answer Summary × List ℕ
+unrolled (given c) output =
+    choose (ltb (length output) (length (readsOf (c .level) (c .runs)))) (refused 4 0, output)
+    (given (summary c), onto (readsOf (c .level) (c .runs)) output)
+unrolled (refused number place) output = (refused number place, output)
+unrolled (refusedAfter number place count) output = (refusedAfter number place count, output)
+
+unfoldable pub readBack : List ℕ → List ℕ → Answer Summary × List ℕ
+readBack bytes output = unrolled (capture bytes) output
+
+-- writing: refusal 1 for k, n or Q out of range, 3 for reads over their limit, 2 for an entry that is no level, 4
+unfoldable pub written : ℕ → ℕ → ℕ → List ℕ → List ℕ → Answer ℕ × List ℕ
+written k n Q reads output =
+    ranged (sampling k && rowBits n && quiet Q) output
+    (limited entriesMost (length reads) output
+    (entered 1 reads output
+    (lent (captureOf k n Q reads) output)))
+
+-- what each case of the code's answers says
+abbrev pub numberTold : Number → Answer Numeral
+numberTold (Is v after) = given (record { value = v; after = after })
+numberTold (NumberRefused refusal) = denied refusal
+
+abbrev pub headTold : Head → Answer Heading
+headTold (Found h) =
+    given (record { k = h .k .0; n = h .n; Q = h .q .0; level = h .level; level-at = h .«level_at»; after = h .after })
+headTold (HeadRefused refusal) = denied refusal
+
+abbrev pub told : Checked → Answer Summary
+told (Good s) = given s
+told (Refused refusal) = denied refusal
+
+abbrev pub writtenTold : Written → Answer ℕ
+writtenTold (Bytes n) = given n
+writtenTold (WrittenRefused refusal) = denied refusal

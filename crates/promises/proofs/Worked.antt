@@ -1,0 +1,25 @@
+-- Each room's cases hold, and tables that agree agree one behind another.
+use mathlib.Core.List.{List, [], _∷_, _++_}
+use Rattle.measure.specs.Table.{Case, Agree}
+use Rattle.sender.specs.Cases as Sender
+use Rattle.line.specs.Cases as Line
+use Rattle.counted.specs.Cases as Counted
+use Rattle.settings.specs.Cases as Settings
+use Rattle.capture.specs.Cases as Capture
+use Rattle.sender.proofs.CasesHold as SenderHold
+use Rattle.line.proofs.CasesHold as LineHold
+use Rattle.counted.proofs.CasesHold as CountedHold
+use Rattle.settings.proofs.CasesHold as SettingsHold
+use Rattle.capture.proofs.CasesHold as CaptureHold
+use Rattle.promises.specs.Worked.{WorkedCasesAgree}
+
+behind : (one other : List Case) → Agree one → Agree other → Agree (one ++ other)
+behind [] other x y = y
+behind (c ∷ one) other x y = (x .0, behind one other (x .1) y)
+
+pub worked-cases-agree : WorkedCasesAgree
+worked-cases-agree =
+    behind Sender.cases (Line.cases ++ Counted.cases ++ Settings.cases ++ Capture.cases) SenderHold.cases-hold
+    (behind Line.cases (Counted.cases ++ Settings.cases ++ Capture.cases) LineHold.cases-hold
+    (behind Counted.cases (Settings.cases ++ Capture.cases) CountedHold.cases-hold
+    (behind Settings.cases Capture.cases SettingsHold.cases-hold CaptureHold.cases-hold)))
