@@ -1,1 +1,4 @@
 pub mod Worked
+pub mod Clock
+pub mod Timing
+pub mod Cells
