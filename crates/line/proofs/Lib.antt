@@ -1,1 +1,11 @@
 pub mod CasesHold
+pub mod Entries
+pub mod Clocks
+pub mod LookSteps
+pub mod LookLaws
+pub mod FirstLeft
+pub mod ReadsThere
+pub mod SharedCycles
+pub mod WarpLaws
+pub mod SmoothLaws
+pub mod SettleLaws
