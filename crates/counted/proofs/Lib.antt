@@ -1,1 +1,3 @@
 pub mod CasesHold
+pub mod Marks
+pub mod Samples

@@ -1,5 +1,19 @@
 // The counted receiver: n bits out of a list of reads, with no quiet.
+ghost use mathlib.Core.Path.{_≡_};
+ghost use mathlib.Core.Bool.{_&&_};
+ghost use Prim.Native.Nat.{_+_, _^_, _≤_, _<_};
+ghost use lib.Dec.{leb};
+ghost use lib.ListN.{length, drop};
+ghost use Rattle.measure.specs.Ranges.{sampling, bitsMost};
+ghost use Rattle.counted.specs.Counted.{fromMark, bitOf, counted};
+ghost use Rattle.counted.specs.Refusals.{found, countedBits, told};
+use measure::BITS_MOST;
+use measure::ENTRIES_MOST;
+use measure::HIGH;
+use measure::ReadCycles;
 use measure::Refusal;
+use measure::SAMPLING_LEAST;
+use measure::SAMPLING_MOST;
 
 // What the counted receiver answers.
 pub enum Counted {
@@ -8,4 +22,92 @@ pub enum Counted {
     // Refusal 5: the reads ran out after so many bits, which stand at the front of the lent output.
     RanOut(usize),
     Refused(Refusal),
+}
+
+// Tells whether k, n and the level in force are in range.
+fn in_range(k: usize, n: usize, level: u8) -> bool
+    ensures { λ fits. ⌜ fits ≡ (sampling k && leb n bitsMost && leb level 1) ⌝ }
+{
+    if !measure::between(SAMPLING_LEAST, SAMPLING_MOST, k) {
+        return false;
+    }
+    if n > BITS_MOST {
+        return false;
+    }
+    level <= HIGH
+}
+
+// Gives the place of the mark: the first read, from the current one on, that differs from the level. Where there is none it is the number of reads.
+fn find_mark(reads: &[u8], current: usize, level: u8) -> usize
+    requires { ⌜ current ≤ length (now reads) ⌝ }
+    ensures { λ mark. ⌜ (mark ≤ length (now (reads .entry))) × (fromMark level (drop current (now (reads .entry))) ≡ drop mark (now (reads .entry))) ⌝ }
+{
+    let mut i = current;
+    while i < reads.len() {
+        if reads[i] != level {
+            return i;
+        }
+        i += 1;
+    }
+    i
+}
+
+// Gives the place of a mark's sample.
+fn sample_after(mark: usize, k: usize) -> usize
+    requires { ⌜ mark + k < 2 ^ 64 ⌝ }
+    ensures { λ r. ⌜ r ≡ mark + k ⌝ }
+{
+    mark + k
+}
+
+// Gives the bit that a mark and its sample stand for.
+fn bit(mark: u8, sample: u8) -> u8
+    ensures { λ r. ⌜ r ≡ bitOf mark sample ⌝ }
+{
+    if sample == mark { 0 } else { 1 }
+}
+
+// Finds n bits, or as many as there are, and writes them.
+fn count_into(k: usize, n: usize, level: u8, reads: &[u8], out: &mut [u8]) -> Counted
+    requires { ⌜ n ≤ length (now out) ⌝ }
+    ensures { λ x. ⌜ found n (counted k n level (now (reads .entry))) (now (out .entry)) ≡ (told x, now (out .exit)) ⌝ }
+{
+    let mut held = level;
+    let mut current = 0;
+    let mut i = 0;
+    while i < n {
+        let mark = find_mark(reads, current, held);
+        let left = reads.len() - mark;
+        if left <= k {
+            return Counted::RanOut(i);
+        }
+        current = sample_after(mark, k);
+        held = reads[current];
+        out[i] = bit(reads[mark], held);
+        i += 1;
+    }
+    Counted::Bits(n)
+}
+
+// The counted receiver. Gives the n bits of a message that starts with the level in force, each from its mark and the read k places later.
+// Refuses by 1 (k, n or level), 3 (more than 1,048,576 reads), 2 (the place of the first read that is no level), 4 (an output shorter than n), then 5.
+// The output holds the bits found at its front, fewer than n with refusal 5, and is otherwise untouched; refusals 1 to 4 leave all of it.
+pub fn count_bits(k: ReadCycles, n: usize, level: u8, reads: &[u8], out: &mut [u8]) -> Counted
+    ensures { λ x. ⌜ countedBits (k .0) n level (now (reads .entry)) (now (out .entry)) ≡ (told x, now (out .exit)) ⌝ }
+{
+    let places = k.0;
+    if !in_range(places, n, level) {
+        return Counted::Refused(Refusal::Setting);
+    }
+    if reads.len() > ENTRIES_MOST {
+        return Counted::Refused(Refusal::Limit);
+    }
+    let bad = measure::first_above(reads, HIGH);
+    if bad < reads.len() {
+        return Counted::Refused(Refusal::Entry(bad));
+    }
+    if out.len() < n {
+        return Counted::Refused(Refusal::Room);
+    }
+    count_into(places, n, level, reads, out)
 }
