@@ -1,3 +1,4 @@
 pub mod Above
 pub mod Wrote
+pub mod Laid
 pub mod Tests
