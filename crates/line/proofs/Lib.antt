@@ -9,3 +9,7 @@ pub mod SharedCycles
 pub mod WarpLaws
 pub mod SmoothLaws
 pub mod SettleLaws
+pub mod AgreeLaws
+pub mod UnderWay
+pub mod Times
+pub mod WarpRun

@@ -12,6 +12,7 @@ use lib.Dec.{eqb}
 use borrow.Author.Tests.{eq-eqb, ne-eqb}
 use Rattle.measure.specs.Choose.{choose}
 use Rattle.line.specs.Smooth.{smoothFrom, smooth}
+use Rattle.line.specs.Warp.{reconcile}
 use Rattle.line.proofs.Entries.{AtMost, most-none, most-more, most-first, most-rest}
 
 -- what a cycle becomes, from the level before and its own
@@ -62,11 +63,18 @@ smooth-most before (level ∷ levels) all =
         dite (ℕ-discrete before level) (λ e. rw (eq-eqb before level e) (omega (arith, most-first 1 level levels all)))
         (λ n. rw (ne-eqb before level n) (omega arith))
 
+-- what a cycle becomes is what it and the one before agree on
+pub smooth-agreed : (before level : ℕ) → smoothOne before level ≡ reconcile level before
+smooth-agreed before level =
+    dite (ℕ-discrete before level)
+    (λ e. rw (eq-eqb before level e, eq-eqb level before (sym e)))
+    (λ n. rw (ne-eqb before level n, ne-eqb level before (λ e. n (sym e))))
+
 -- from a place on, for a loop that counts by one
 pub smooth-step : (before : ℕ) (levels : List ℕ) (i : ℕ) → i < length levels
-    → smoothFrom before (drop i levels) ≡ smoothOne before (getD levels i 0) ∷ smoothFrom (getD levels i 0) (drop (i + 1) levels)
+    → smoothFrom before (drop i levels) ≡ reconcile (getD levels i 0) before ∷ smoothFrom (getD levels i 0) (drop (i + 1) levels)
 unfolding smoothFrom
-smooth-step before levels i h = rw (drop-cons levels i 0 h, add-one)
+smooth-step before levels i h = rw (drop-cons levels i 0 h, add-one, ← smooth-agreed before (getD levels i 0))
 
 pub smooth-end : (before : ℕ) (levels : List ℕ) (i : ℕ) → length levels ≤ i → smoothFrom before (drop i levels) ≡ []
 unfolding smoothFrom

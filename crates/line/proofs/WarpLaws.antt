@@ -1,9 +1,11 @@
 -- The laws of warp that 01 asks for: those of any two clocks, at cycles of w units and reads of r units from p on. The number of reads is
 -- the quotient, since read j is there exactly if its end, p + (j + 1)·r, is at most L·w.
 use mathlib.Core.Path.{_≡_, refl}
+use mathlib.Core.Logic.{dite}
 use mathlib.Core.List.{List}
 use Prim.Native.Nat.{ℕ, zero, suc, _+_, _*_, _-_, _/_, _<_, _≤_}
-use native.Mathlib.Nat.{le-div-iff-mul-le, mul-le-mul-right}
+use native.Mathlib.Nat.{le-div-iff-mul-le}
+use native.Mathlib.Decide.{decLt}
 use native.Mathlib.Omega.{arith}
 use lib.ListN.{length}
 use Rattle.line.specs.Warp.{cycleStart, readStart, warpBy, warp}
@@ -25,6 +27,15 @@ counted-ends w r p (suc cycles) j some-r h = omega (arith, le-div-iff-mul-le som
 pub ends-counted : (w r p cycles j : ℕ) → 0 < r → readStart p r (suc j) ≤ cycleStart w cycles → j < readCount w r p cycles
 ends-counted w r p zero j some-r h = absurd (omega arith)
 ends-counted w r p (suc cycles) j some-r h = le-div-iff-mul-le some-r .1 (omega arith)
+
+pub uncounted-late : (w r p cycles j : ℕ) → 0 < r → readCount w r p cycles ≤ j → cycleStart w cycles < readStart p r (suc j)
+uncounted-late w r p cycles j some-r h =
+    dite (decLt (cycleStart w cycles) (readStart p r (suc j))) (λ late. late)
+    (λ ends. absurd (omega (arith, ends-counted w r p cycles j some-r (omega arith))))
+
+pub count-some : (w r p cycles : ℕ) → (cycles ≡ 0 → ⊥) → readCount w r p cycles ≡ (cycles * w - p) / r
+count-some w r p zero some = absurd (some refl)
+count-some w r p (suc cycles) some = refl
 
 -- two numbers that the same ones are below
 same-below : (m n : ℕ) → ((j : ℕ) → j < m → j < n) → ((j : ℕ) → j < n → j < m) → m ≡ n

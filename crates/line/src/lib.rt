@@ -1,6 +1,25 @@
 // The line model: the three passes that a wave goes through before it is read, each over bytes: 0 low, 1 high, 2 unknown.
+ghost use mathlib.Core.Path.{_≡_};
+ghost use mathlib.Core.Bool.{true};
+ghost use Prim.Native.Nat.{_+_, _-_, _*_, _<_, _≤_};
+ghost use lib.ListN.{length, drop, getD};
+ghost use lib.Dec.{ltb};
+ghost use Rattle.measure.specs.Choose.{choose};
+ghost use Rattle.measure.specs.Lists.{onto};
+ghost use Rattle.measure.specs.Ranges.{cycleLength, entriesMost};
+ghost use Rattle.line.specs.Smooth.{smooth as smoothing};
+ghost use Rattle.line.specs.Warp.{cycleStart, reconcile as agree, look, dropped, warp as warping};
+ghost use Rattle.line.specs.Settle.{next as nextOf, settle as settling};
+ghost use Rattle.line.specs.Sharing.{readCount};
+ghost use Rattle.line.specs.Refusals.{smoothed, timed as isTimed, warped, settled, smoothTold, told};
+use measure::CYCLE_LEAST;
+use measure::CYCLE_MOST;
+use measure::ENTRIES_MOST;
+use measure::HIGH;
 use measure::ReadCycles;
 use measure::Refusal;
+use measure::TimeUnits;
+use measure::UNKNOWN;
 use measure::WriterCycles;
 
 // What smooth answers.
@@ -15,4 +34,300 @@ pub enum Read {
     // The reads stand at the front of the lent output, so many of them.
     Reads(ReadCycles),
     Refused(Refusal),
+}
+
+// The level that two cycles have, and unknown where they differ.
+fn agreed(one: u8, other: u8) -> u8
+    ensures { λ v. ⌜ agree one other ≡ v ⌝ }
+{
+    if one == other { one } else { UNKNOWN }
+}
+
+fn smooth_into(wave: &[u8], out: &mut [u8])
+    requires { ⌜ length (now wave) ≤ length (now out) ⌝ }
+    ensures { λ _. ⌜ onto (smoothing (now (wave .entry))) (now (out .entry)) ≡ now (out .exit) ⌝ }
+{
+    let mut before: u8 = HIGH;
+    let mut i = 0;
+    while i < wave.len() {
+        let level = wave[i];
+        out[i] = agreed(level, before);
+        before = level;
+        i += 1;
+    }
+}
+
+// Pass 1, smooth. Gives the wave in which each cycle whose level differs from the cycle before is unknown; high stands before the first.
+// Refuses a wave over its limit (3), an entry that is no level (2, its place), and an output shorter than the wave (4).
+// The output's front holds the smoothed wave, and its rest is untouched; a refusal leaves it whole as it was.
+pub fn smooth(wave: &[u8], out: &mut [u8]) -> Smoothed
+    ensures { λ x. ⌜ smoothed (now (wave .entry)) (now (out .entry)) ≡ (smoothTold x, now (out .exit)) ⌝ }
+{
+    if ENTRIES_MOST < wave.len() {
+        return Smoothed::Refused(Refusal::Limit);
+    }
+    let bad = measure::first_above(wave, HIGH);
+    if bad < wave.len() {
+        return Smoothed::Refused(Refusal::Entry(bad));
+    }
+    if out.len() < wave.len() {
+        return Smoothed::Refused(Refusal::Room);
+    }
+    smooth_into(wave, out);
+    Smoothed::Wave(WriterCycles(wave.len()))
+}
+
+// Tells whether w and r are in range and p is below w.
+fn timed(w: TimeUnits, r: TimeUnits, p: TimeUnits) -> bool
+    ensures { λ x. ⌜ isTimed (w .0) (r .0) (p .0) ≡ x ⌝ }
+{
+    let cycle = w.0;
+    let read = r.0;
+    let phase = p.0;
+    if !measure::between(CYCLE_LEAST, CYCLE_MOST, cycle) {
+        return false;
+    }
+    if !measure::between(CYCLE_LEAST, CYCLE_MOST, read) {
+        return false;
+    }
+    phase < cycle
+}
+
+// The number of reads of so many cycles: every whole read that fits after the phase.
+fn count(cycles: WriterCycles, w: TimeUnits, r: TimeUnits, p: TimeUnits) -> ReadCycles
+    requires { ⌜ (isTimed (w .0) (r .0) (p .0) ≡ true) × (cycles .0 ≤ entriesMost) ⌝ }
+    ensures { λ n. ⌜ readCount (w .0) (r .0) (p .0) (cycles .0) ≡ n .0 ⌝ }
+{
+    let all = cycles.0;
+    let cycle = w.0;
+    let read = r.0;
+    let phase = p.0;
+    if all == 0 {
+        return ReadCycles(0);
+    }
+    let end = all * cycle;
+    let span = end - phase;
+    let reads = span / read;
+    ReadCycles(reads)
+}
+
+// A read under way: the level found so far, the first cycle not looked at yet, and the end of the last one that was.
+struct Looking {
+    level: u8,
+    next: WriterCycles,
+    end: TimeUnits,
+}
+
+// What a read is, and the first cycle that it leaves for the next read.
+struct Looked {
+    level: u8,
+    left: WriterCycles,
+}
+
+// Looks at the first cycle that is left.
+fn look_first(wave: &[u8], first: WriterCycles, w: TimeUnits) -> Looking
+    requires { ⌜ (cycleLength (w .0) ≡ true) × (length (now wave) ≤ entriesMost) × (first .0 < length (now wave)) ⌝ }
+    ensures { λ x. ⌜ (getD (now (wave .entry)) (first .0) 0 ≡ x .level) × (first .0 + 1 ≡ x .next .0) × (x .next .0 * w .0 ≡ x .end .0) ⌝ }
+{
+    let i = first.0;
+    let cycle = w.0;
+    let level = wave[i];
+    let next = i + 1;
+    let end = next * cycle;
+    Looking {
+        level: level,
+        next: WriterCycles(next),
+        end: TimeUnits(end),
+    }
+}
+
+// Looks at one cycle more.
+fn look_on(wave: &[u8], looking: Looking, w: TimeUnits) -> Looking
+    requires { ⌜ (cycleLength (w .0) ≡ true) × (length (now wave) ≤ entriesMost) × (looking .next .0 < length (now wave)) ⌝ }
+    ensures { λ x. ⌜ (agree (looking .level) (getD (now (wave .entry)) (looking .next .0) 0) ≡ x .level) × (looking .next .0 + 1 ≡ x .next .0) × (x .next .0 * w .0 ≡ x .end .0) ⌝ }
+{
+    let i = looking.next.0;
+    let cycle = w.0;
+    let level = agreed(looking.level, wave[i]);
+    let next = i + 1;
+    let end = next * cycle;
+    Looking {
+        level: level,
+        next: WriterCycles(next),
+        end: TimeUnits(end),
+    }
+}
+
+// Ends a read at `t`, in the last cycle looked at: that one is dropped if it ends with the read, and otherwise left.
+fn leave(looking: Looking, t: TimeUnits) -> Looked
+    requires { ⌜ 0 < looking .next .0 ⌝ }
+    ensures { λ x. ⌜ (looking .level ≡ x .level) × (choose (ltb (t .0) (looking .end .0)) (looking .next .0 - 1) (looking .next .0) ≡ x .left .0) ⌝ }
+{
+    let level = looking.level;
+    let next = looking.next.0;
+    let end = looking.end.0;
+    let until = t.0;
+    if until < end {
+        let last = next - 1;
+        return Looked {
+            level: level,
+            left: WriterCycles(last),
+        };
+    }
+    Looked {
+        level: level,
+        left: WriterCycles(next),
+    }
+}
+
+// The most cycles that one call of reconcile looks at. A read looks at 65,536 at most, so at most 1,024 calls are open at a time.
+const BLOCK: usize = 64;
+
+// Reconciles the level found so far with the cycles that the read, which ends at `t`, has yet to look at: with a block of them here, and
+// with the rest by a call of itself. The number of cycles left falls at each call.
+fn reconcile(wave: &[u8], looking: Looking, w: TimeUnits, t: TimeUnits) -> Looked
+    requires { ⌜ (cycleLength (w .0) ≡ true) × (length (now wave) ≤ entriesMost) × (looking .next .0 * w .0 ≡ looking .end .0) × (looking .end .0 < t .0) × (t .0 ≤ length (now wave) * w .0) ⌝ }
+    ensures { λ x. ⌜ (agree (looking .level) (look (cycleStart (w .0)) (t .0) (looking .next .0) (drop (looking .next .0) (now (wave .entry)))) ≡ x .level) × (looking .next .0 + dropped (cycleStart (w .0)) (t .0) (looking .next .0) (drop (looking .next .0) (now (wave .entry))) ≡ x .left .0) ⌝ }
+{
+    let from = looking.next.0;
+    let cycle = w.0;
+    let until = t.0;
+    let block = (from + BLOCK) * cycle;
+    let mut stop = until;
+    if block < until {
+        stop = block;
+    }
+    let mut at = looking;
+    while at.end.0 < stop {
+        at = look_on(wave, at, w);
+    }
+    if stop < until {
+        return reconcile(wave, at, w, t);
+    }
+    leave(at, t)
+}
+
+// One read, which ends at `t`: it looks at the first cycle that is left and then at the rest. A read of up to twice a cycle's length looks at
+// three at most, and those are taken here, without a call.
+fn one_read(wave: &[u8], first: WriterCycles, w: TimeUnits, t: TimeUnits) -> Looked
+    requires { ⌜ (cycleLength (w .0) ≡ true) × (length (now wave) ≤ entriesMost) × (first .0 * w .0 < t .0) × (t .0 ≤ length (now wave) * w .0) ⌝ }
+    ensures { λ x. ⌜ (look (cycleStart (w .0)) (t .0) (first .0) (drop (first .0) (now (wave .entry))) ≡ x .level) × (first .0 + dropped (cycleStart (w .0)) (t .0) (first .0) (drop (first .0) (now (wave .entry))) ≡ x .left .0) ⌝ }
+{
+    let until = t.0;
+    let one = look_first(wave, first, w);
+    if until <= one.end.0 {
+        return leave(one, t);
+    }
+    let two = look_on(wave, one, w);
+    if until <= two.end.0 {
+        return leave(two, t);
+    }
+    let three = look_on(wave, two, w);
+    if until <= three.end.0 {
+        return leave(three, t);
+    }
+    reconcile(wave, three, w, t)
+}
+
+fn warp_into(wave: &[u8], w: TimeUnits, r: TimeUnits, p: TimeUnits, n: ReadCycles, out: &mut [u8])
+    requires { ⌜ (isTimed (w .0) (r .0) (p .0) ≡ true) × (length (now wave) ≤ entriesMost) × (readCount (w .0) (r .0) (p .0) (length (now wave)) ≡ n .0) × (n .0 ≤ entriesMost) × (n .0 ≤ length (now out)) ⌝ }
+    ensures { λ _. ⌜ onto (warping (w .0) (r .0) (p .0) (now (wave .entry))) (now (out .entry)) ≡ now (out .exit) ⌝ }
+{
+    let all = n.0;
+    let read = r.0;
+    let phase = p.0;
+    let mut first = WriterCycles(0);
+    let mut j = 0;
+    while j < all {
+        let t = phase + (j + 1) * read;
+        let looked = one_read(wave, first, w, TimeUnits(t));
+        out[j] = looked.level;
+        first = looked.left;
+        j += 1;
+    }
+}
+
+// Pass 2, warp. Gives the reads of a wave whose cycles are w long, by a reader whose reads are r long and start at p.
+// Refuses times out of range and a p that is not below w (1), a wave over its limit and one whose reads would be (3), an entry that is no
+// level and not unknown (2, its place), and an output shorter than the reads (4).
+// The output's front holds the reads, and its rest is untouched; a refusal leaves it whole as it was.
+pub fn warp(wave: &[u8], w: TimeUnits, r: TimeUnits, p: TimeUnits, out: &mut [u8]) -> Read
+    ensures { λ x. ⌜ warped (w .0) (r .0) (p .0) (now (wave .entry)) (now (out .entry)) ≡ (told x, now (out .exit)) ⌝ }
+{
+    if !timed(w, r, p) {
+        return Read::Refused(Refusal::Setting);
+    }
+    if ENTRIES_MOST < wave.len() {
+        return Read::Refused(Refusal::Limit);
+    }
+    let n = count(WriterCycles(wave.len()), w, r, p);
+    if ENTRIES_MOST < n.0 {
+        return Read::Refused(Refusal::Limit);
+    }
+    let bad = measure::first_above(wave, UNKNOWN);
+    if bad < wave.len() {
+        return Read::Refused(Refusal::Entry(bad));
+    }
+    if out.len() < n.0 {
+        return Read::Refused(Refusal::Room);
+    }
+    warp_into(wave, w, r, p, n, out);
+    Read::Reads(n)
+}
+
+// The next choice where so many are used up, and low once choices have run out.
+fn choice(choices: &[u8], used: usize) -> u8
+    ensures { λ v. ⌜ nextOf (drop used (now (choices .entry))) ≡ v ⌝ }
+{
+    if used < choices.len() {
+        choices[used]
+    } else {
+        0
+    }
+}
+
+fn settle_into(reads: &[u8], choices: &[u8], out: &mut [u8])
+    requires { ⌜ length (now reads) ≤ length (now out) ⌝ }
+    ensures { λ _. ⌜ onto (settling (now (reads .entry)) (now (choices .entry))) (now (out .entry)) ≡ now (out .exit) ⌝ }
+{
+    let mut used = 0;
+    let mut i = 0;
+    while i < reads.len() {
+        let read = reads[i];
+        if read == UNKNOWN {
+            out[i] = choice(choices, used);
+            used += 1;
+        } else {
+            out[i] = read;
+        }
+        i += 1;
+    }
+}
+
+// Pass 3, settle. Gives the reads with each unknown one made the next choice, or low once choices have run out.
+// Refuses reads or choices over their limit (3), a read that is no level and not unknown and then a choice that is no level (2, its place
+// in its own list), and an output shorter than the reads (4).
+// The output's front holds the settled reads, and its rest is untouched; a refusal leaves it whole as it was.
+pub fn settle(reads: &[u8], choices: &[u8], out: &mut [u8]) -> Read
+    ensures { λ x. ⌜ settled (now (reads .entry)) (now (choices .entry)) (now (out .entry)) ≡ (told x, now (out .exit)) ⌝ }
+{
+    if ENTRIES_MOST < reads.len() {
+        return Read::Refused(Refusal::Limit);
+    }
+    if ENTRIES_MOST < choices.len() {
+        return Read::Refused(Refusal::Limit);
+    }
+    let bad = measure::first_above(reads, UNKNOWN);
+    if bad < reads.len() {
+        return Read::Refused(Refusal::Entry(bad));
+    }
+    let wrong = measure::first_above(choices, HIGH);
+    if wrong < choices.len() {
+        return Read::Refused(Refusal::Entry(wrong));
+    }
+    if out.len() < reads.len() {
+        return Read::Refused(Refusal::Room);
+    }
+    settle_into(reads, choices, out);
+    Read::Reads(ReadCycles(reads.len()))
 }

@@ -1,0 +1,57 @@
+-- Times that pass the test of their ranges are in them: each part of a conjunction that holds does.
+use mathlib.Core.Path.{_≡_, refl}
+use mathlib.Core.Bool.{Bool, true, false, _&&_}
+use Prim.Native.Nat.{ℕ, _+_, _*_, _<_, _≤_}
+use native.Mathlib.Nat.{mul-le-mul, mul-le-mul-right, lt-of-mul-lt-mul-right}
+use native.Mathlib.Omega.{arith}
+use borrow.Author.Tests.{ltb-true, leb-true}
+use lib.Dec.{leb, ltb}
+use Rattle.measure.specs.Ranges.{cycleLength, entriesMost}
+use Rattle.line.specs.Refusals.{timed}
+
+and-left : (a b : Bool) → (a && b) ≡ true → a ≡ true
+and-left true b h = refl
+and-left false b h = h
+
+and-right : (a b : Bool) → (a && b) ≡ true → b ≡ true
+and-right true b h = h
+and-right false b h = absurd (never h)
+  where
+    never : false ≡ true → ⊥
+    never e = let z : _≡_ {A = ℕ} 0 1 = cc in omega arith
+
+module _ (x : ℕ) (fits : cycleLength x ≡ true) where
+  pub cycle-least : 1 ≤ x
+  cycle-least = leb-true 1 x (and-left (leb 1 x) (leb x 65535) fits)
+
+  pub cycle-most : x ≤ 65535
+  cycle-most = leb-true x 65535 (and-right (leb 1 x) (leb x 65535) fits)
+
+module _ (w r p : ℕ) (fits : timed w r p ≡ true) where
+  lengths : (cycleLength w && cycleLength r) ≡ true
+  lengths = and-left (cycleLength w && cycleLength r) (ltb p w) fits
+
+  pub timed-w : cycleLength w ≡ true
+  timed-w = and-left (cycleLength w) (cycleLength r) lengths
+
+  pub timed-r : cycleLength r ≡ true
+  timed-r = and-right (cycleLength w) (cycleLength r) lengths
+
+  pub timed-p : p < w
+  timed-p = ltb-true p w (and-right (cycleLength w && cycleLength r) (ltb p w) fits)
+
+-- so many cycles of a length in range
+pub product-most : (n w : ℕ) → n ≤ entriesMost + 64 → cycleLength w ≡ true → n * w ≤ 68722622400
+product-most n w few fits = mul-le-mul few (cycle-most w fits)
+
+-- a cycle that starts before a time by which the wave ends is one of the wave's
+pub in-wave : (w n k t : ℕ) → k * w < t → t ≤ n * w → k < n
+in-wave w n k t begun ends = lt-of-mul-lt-mul-right w (omega arith)
+
+-- each cycle starts a cycle's length after the one before
+pub next-start : (w i next : ℕ) → i + 1 ≡ next → next * w ≡ i * w + w
+next-start w i next e = rw (← e) (omega arith)
+
+-- a cycle that starts before another ends by that one's start
+pub ends-by : (w i k next : ℕ) → i * w < k * w → i + 1 ≡ next → next * w ≤ k * w
+ends-by w i k next h e = rw (← e) (mul-le-mul-right w (omega (arith, lt-of-mul-lt-mul-right w h)))

@@ -1,0 +1,97 @@
+-- `settle` meets its contract: each test that led to a return is one of the definition's, in its order.
+use borrow.Author.Needs.{needs}
+use borrow.Author.Tests.{lt-ltb, le-ltb}
+use Rattle.line.specs.Refusals.{settled}
+use Rattle.line.proofs.SettleLaws.{length-settle}
+use Rattle.line.proofs.settle.Statement.{statement}
+use Rattle.line.proofs.settle.Tie as tie
+
+returns : tie.Need-returns
+unfolding settled
+returns c = simp (lt-ltb _ _ (c .if1 .taken))
+
+returns-2 : tie.Need-returns-2
+unfolding settled
+returns-2 c = simp (le-ltb _ _ (c .before .if1 .left), lt-ltb _ _ (c .if2 .taken))
+
+first-above-requires : tie.Need-first-above-requires
+first-above-requires c κs = search needs
+
+returns-3 : tie.Need-returns-3
+unfolding settled
+returns-3 c =
+    simp (
+      le-ltb _ _ (c .before .before .before .if1 .left),
+      le-ltb _ _ (c .before .before .if2 .left),
+      ← c .before .first-above .ensures,
+      lt-ltb _ _ (c .if3 .taken),
+    )
+
+first-above-requires-2 : tie.Need-first-above-requires-2
+first-above-requires-2 c κs = search needs
+
+returns-4 : tie.Need-returns-4
+unfolding settled
+returns-4 c =
+    let d = c .before .before in
+    simp (
+      le-ltb _ _ (d .before .before .before .if1 .left),
+      le-ltb _ _ (d .before .before .if2 .left),
+      ← d .before .first-above .ensures,
+      le-ltb _ _ (d .if3 .left),
+      ← c .before .first-above2 .ensures,
+      lt-ltb _ _ (c .if4 .taken),
+    )
+
+returns-5 : tie.Need-returns-5
+unfolding settled
+returns-5 c =
+    let d = c .before .before .before in
+    simp (
+      length-settle,
+      le-ltb _ _ (d .before .before .before .if1 .left),
+      le-ltb _ _ (d .before .before .if2 .left),
+      ← d .before .first-above .ensures,
+      le-ltb _ _ (d .if3 .left),
+      ← c .before .before .first-above2 .ensures,
+      le-ltb _ _ (c .before .if4 .left),
+      lt-ltb _ _ (c .if5 .taken),
+    )
+
+settle-into-requires : tie.Need-settle-into-requires
+settle-into-requires c κs = search needs
+
+same-length : tie.Need-same-length
+same-length c = search needs
+
+returns-6 : tie.Need-returns-6
+unfolding settled
+returns-6 c =
+    let e = c .before .before .before .before in
+    let d = e .before .before .before in
+    simp (
+      length-settle,
+      le-ltb _ _ (d .before .before .before .if1 .left),
+      le-ltb _ _ (d .before .before .if2 .left),
+      ← d .before .first-above .ensures,
+      le-ltb _ _ (d .if3 .left),
+      ← e .before .before .first-above2 .ensures,
+      le-ltb _ _ (e .before .if4 .left),
+      le-ltb _ _ (e .if5 .left),
+      ← c .before .before .settle-into .ensures,
+    )
+
+pub settle-spec : {M : Type 1} → statement M
+settle-spec =
+    tie.close
+    (tie.spec
+    returns
+    returns-2
+    first-above-requires
+    returns-3
+    first-above-requires-2
+    returns-4
+    returns-5
+    settle-into-requires
+    same-length
+    returns-6)
