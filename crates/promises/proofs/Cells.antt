@@ -5,12 +5,12 @@ use Prim.Native.Nat.{ℕ, zero, suc, _+_, _-_, _<_}
 use native.Mathlib.Omega.{arith}
 use Rattle.sender.specs.Sending.{codeLevel}
 use Rattle.counted.specs.Counted.{bitOf}
+use Rattle.promises.specs.Levels.{Levels}
 use Rattle.promises.proofs.Timing.{Cell}
 
--- a message: each entry is 0 or 1
+-- a message
 abbrev pub Bits : List ℕ → Type 0
-Bits [] = Unit {0}
-Bits (x ∷ xs) = (x < 2) × Bits xs
+Bits bits = Levels bits
 
 pub code-level : (v x : ℕ) → v < 2 → x < 2 → codeLevel v x < 2
 code-level v zero h p = omega arith

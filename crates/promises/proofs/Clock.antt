@@ -2,6 +2,7 @@
 use mathlib.Core.Path.{_≡_, refl, subst, sym, ap, _∙_}
 use Prim.Native.Nat.{ℕ, zero, suc, _+_, _*_, _-_, _≤_, _<_}
 use native.Mathlib.Nat.{add-zero, add-suc, add-mul, sub-add-cancel}
+use native.Mathlib.Decide.{decLe}
 use native.Mathlib.Omega.{arith}
 
 pub record Clock (t : ℕ → ℕ) (lo hi : ℕ) : Type 0 where
@@ -36,3 +37,13 @@ module _ {t : ℕ → ℕ} {lo hi : ℕ} (clk : Clock t lo hi) where
     where
       eq : (i j : ℕ) → i ≤ j → j ≡ i + (j - i)
       eq i j h = omega arith
+
+-- the cycle in which a time lies, among d cycles from lo on
+pub cycle-of : (t : ℕ → ℕ) (x d lo : ℕ) → t lo ≤ x → x < t (lo + d) → (c : ℕ) × (lo ≤ c) × (c < lo + d) × (t c ≤ x) × (x < t (suc c))
+cycle-of t x zero lo p q = absurd (omega (arith, rw add-zero at q))
+cycle-of t x (suc d) lo p q = go (decLe (t (lo + d)) x) (cycle-of t x d lo p)
+  where
+    go : Dec (t (lo + d) ≤ x) → (x < t (lo + d) → (c : ℕ) × (lo ≤ c) × (c < lo + d) × (t c ≤ x) × (x < t (suc c)))
+        → (c : ℕ) × (lo ≤ c) × (c < lo + suc d) × (t c ≤ x) × (x < t (suc c))
+    go (yes y) more = (lo + d, omega arith, omega arith, y, rw add-suc at q)
+    go (no y) more = let (c, a, b, e, f) = more (omega arith) in (c, a, omega arith, e, f)

@@ -1,0 +1,94 @@
+-- Where 01's words place a row: the Q reads of a lead are the first that pass the test of lying within it, so the Q-th is the last of them, and the last sample is counted from the read after it.
+use mathlib.Core.Path.{_≡_, refl, subst, sym, ap, _∙_}
+use mathlib.Core.Bool.{Bool, true, false, _&&_}
+use mathlib.Core.List.{List, [], _∷_, _++_, append-nil}
+use Prim.Native.Nat.{ℕ, zero, suc, _+_, _*_, _-_, _≤_, _<_}
+use native.Mathlib.Nat.{add-zero, add-suc, suc-add, zero-add}
+use native.Mathlib.Omega.{arith}
+use lib.Dec.{leb}
+use lib.ListN.{length, getD, drop}
+use borrow.Author.Tests.{le-leb, lt-leb}
+use Rattle.sender.specs.Sending.{Row, planWave}
+use Rattle.line.specs.Warp.{cycleStart, readStart}
+use Rattle.board.specs.Feeding.{Report}
+use Rattle.promises.specs.Places.{Link, readsOf, cyclesOf, keep, passing, numbered, wholly, heard, lastSample, samplePlace, deliveries}
+use Rattle.promises.proofs.Clock.{mono}
+use Rattle.promises.proofs.Stretches.{length-wave}
+use Rattle.promises.proofs.Reading.{cycle-clock, read-clock}
+use Rattle.promises.proofs.Sampling.{Samples, samples-on, sampled-at}
+use Rattle.promises.proofs.OneRow.{deliveredAt}
+use Rattle.promises.proofs.Quiets.{Lead}
+use Rattle.promises.proofs.ManyRows.{Fit, Placed, no-row, a-row}
+
+module _ (test : ℕ → Bool) where
+  -- d places that do not pass
+  passing-none : (d many place : ℕ) → ((i : ℕ) → place ≤ i → i < place + d → test i ≡ false) → passing test place (d + many) ≡ passing test (place + d) many
+  unfolding passing
+  passing-none zero many place f = rw (zero-add, add-zero)
+  passing-none (suc d) many place f =
+      rw (suc-add, f place (omega arith) (omega arith), add-suc, ← suc-add) (passing-none d many (suc place) (λ i p q. f i (omega arith) (omega arith)))
+
+  -- q places and one more that pass
+  numbered-all : (q many place : ℕ) → q < many → ((i : ℕ) → place ≤ i → i ≤ place + q → test i ≡ true) → numbered (suc q) (passing test place many) ≡ place + q
+  unfolding passing numbered
+  numbered-all q zero place h f = absurd (omega arith)
+  numbered-all zero (suc many) place h f = rw (f place (omega arith) (omega arith), add-zero)
+  numbered-all (suc q) (suc many) place h f =
+      rw (f place (omega arith) (omega arith), add-suc, ← suc-add) (numbered-all q many (suc place) (omega arith) (λ i p r. f i (omega arith) (omega arith)))
+
+  pub numbered-first : (i0 q many : ℕ) → i0 + q < many → ((i : ℕ) → i < i0 → test i ≡ false) → ((i : ℕ) → i0 ≤ i → i ≤ i0 + q → test i ≡ true)
+      → numbered (suc q) (passing test 0 many) ≡ i0 + q
+  numbered-first i0 q many h f t =
+      ap (λ (m : ℕ). numbered (suc q) (passing test 0 m)) all
+      ∙ ap (λ (l : List ℕ). numbered (suc q) l) (passing-none i0 (many - i0) 0 (λ i p r. f i (omega arith)) ∙ rw zero-add)
+      ∙ numbered-all q (many - i0) i0 (omega arith) t
+    where
+      all : many ≡ i0 + (many - i0)
+      all = omega arith
+
+module _ (x : Link) where
+  abbrev R : List ℕ
+  R = readsOf x
+
+  abbrev tw : ℕ → ℕ
+  tw = cycleStart (x .w)
+
+  abbrev tr : ℕ → ℕ
+  tr = readStart (x .p) (x .r)
+
+  pub heard-is : (c : ℕ) (row : Row) (i0 : ℕ) → 0 < x .Q → Lead tw tr 1 (x .Q) c (row .lead) i0 → i0 + x .Q ≤ length R → suc (heard x c row) ≡ i0 + x .Q
+  unfolding heard
+  heard-is c row i0 some lead le = go (x .Q) some lead le
+    where
+      test : ℕ → Bool
+      test = wholly x (suc c) (c + row .lead)
+
+      go : (Q : ℕ) → 0 < Q → Lead tw tr 1 Q c (row .lead) i0 → i0 + Q ≤ length R → suc (numbered Q (passing test 0 (length R))) ≡ i0 + Q
+      go zero p lead le = absurd (omega arith)
+      go (suc q) p lead le = omega (arith, numbered-first test i0 q (length R) (omega arith) outside inside)
+        where
+          outside : (i : ℕ) → i < i0 → test i ≡ false
+          outside i h = rw (lt-leb (tw (suc c)) (tr i) (omega (arith, lead .first i h)))
+
+          inside : (i : ℕ) → i0 ≤ i → i ≤ i0 + q → test i ≡ true
+          inside i h l =
+              rw (
+                le-leb (tw (suc c)) (tr i) (omega (arith, lead .starts, mono (read-clock (x .p) (x .r)) i0 i h)),
+                le-leb (tr (suc i)) (tw (c + row .lead)) (omega (arith, lead .ends, mono (read-clock (x .p) (x .r)) (suc i) (i0 + suc q) (omega arith))),
+              )
+
+  cycles-of-row : (row : Row) → cyclesOf x (row ∷ []) ≡ row .lead + (length (row .bits) * (x .a + x .b) + row .trail)
+  unfolding planWave
+  cycles-of-row row = rw (append-nil, length-wave (x .a) (x .b) (row .lead) (row .trail) (row .bits))
+
+  -- rows that are placed are placed where 01's words place them
+  pub placed-is : {c : ℕ} {rows : List Row} {fs : List Report} → 0 < x .Q → Fit (x .n) (x .Q) 1 (x .w) (x .r) rows
+      → Placed tw tr (λ i. getD R i 2) 1 (x .k) (x .Q) (x .a + x .b) (length R) c rows fs → fs ≡ deliveries x c rows
+  unfolding deliveries lastSample
+  placed-is some fit no-row = refl
+  placed-is {c} some fit (a-row {i0 = i0} {s = s} {row = row} {rows = rows} {fs = fs} lead samples within more) =
+      rw (heard-is c row i0 some lead (omega (arith, samples-on samples)), sampled, cycles-of-row row)
+      (ap (λ (l : List Report). deliveredAt s (row .bits) ∷ l) (placed-is some (fit .3) more))
+    where
+      sampled : samplePlace (x .k) (x .n) 1 (i0 + x .Q) (drop (i0 + x .Q) R) ≡ s
+      sampled = subst (λ (n : ℕ). samplePlace (x .k) n 1 (i0 + x .Q) (drop (i0 + x .Q) R) ≡ s) (fit .1) (sampled-at R samples within)

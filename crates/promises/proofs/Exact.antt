@@ -1,0 +1,81 @@
+-- The exact rule for every settling count and for clocks that wander within bounds: every message is returned exactly if the margins are minus one or more.
+-- Where one is less, clocks of a constant length at the worse end of their bounds lose a message of one bit.
+use mathlib.Core.Path.{_≡_}
+use mathlib.Core.List.{List, [], _∷_}
+use Prim.Native.Nat.{ℕ, suc, _+_, _*_, _-_, _≤_, _<_}
+use native.Mathlib.Omega.{arith}
+use lib.ListN.{length}
+use Rattle.sender.specs.Sending.{wave}
+use Rattle.line.specs.Warp.{cycleStart, readStart, warpBy}
+use Rattle.line.specs.Settle.{settle}
+use Rattle.counted.specs.Counted.{counted}
+use Rattle.promises.specs.Levels.{Levels}
+use Rattle.promises.specs.WhatNoMeans.{OneBit}
+use Rattle.promises.proofs.Clock.{Clock}
+use Rattle.promises.proofs.Timing.{Margins}
+use Rattle.promises.proofs.LevelLists.{most-levels}
+use Rattle.promises.proofs.Smoothing.{smoothBy, smooth-by-most}
+use Rattle.promises.proofs.Stretches.{wave-most}
+use Rattle.promises.proofs.Reading.{within-bounds, cycle-clock, read-clock, line-reads}
+use Rattle.promises.proofs.Received.{returns}
+use Rattle.promises.proofs.Witness.{Loses, margins-or, highBit, lowBit, least, many, loses-1, loses-2, loses-3}
+
+-- every message is returned, with any pads, any phase below the first writer cycle and any choices
+abbrev pub Returned : ℕ → ℕ → ℕ → ℕ → ℕ → ℕ → ℕ → ℕ → Type 0
+Returned a b g k w1 w2 r1 r2 = (tw tr : ℕ → ℕ) → Clock tw w1 w2 → Clock tr r1 r2 → tw 0 ≤ tr 0 → tr 0 < tw 1
+    → (p1 p2 : ℕ) (bits choices : List ℕ) → Levels bits → Levels choices
+    → counted k (length bits) 1 (settle (warpBy tw tr (smoothBy g 0 1 (wave a b p1 p2 bits))) choices) ≡ bits
+
+pub enough : (a b g k w1 w2 r1 r2 : ℕ) → 0 < g → 0 < r1 → Margins a b g k w1 w2 r1 r2 → Returned a b g k w1 w2 r1 r2
+enough a b g k w1 w2 r1 r2 hg hr ok tw tr wclk rclk phase below p1 p2 bits choices hb hc =
+    returns wclk rclk hr phase below hg ok p1 p2 bits (settle (warpBy tw tr (smoothBy g 0 1 l)) choices) hb
+    (line-reads (within-bounds wclk rclk hr phase below) (smoothBy g 0 1 l) choices (smooth-by-most g 0 1 l (wave-most a b p1 p2 bits))
+    (most-levels choices hc))
+  where
+    l : List ℕ
+    l = wave a b p1 p2 bits
+
+-- with the lead (g - 1)·(r - 1) and the phase w - 1, read (g - 1)·w starts one time unit before the mark has settled
+lies : (g w r : ℕ) → 0 < g → 0 < w → 0 < r → w - 1 + (g - 1) * w * r + 1 ≡ ((g - 1) * (r - 1) + g) * w
+lies (suc g) (suc w) (suc r) hg hw hr = rw (one g, one w, one r) (shape g w r)
+  where
+    one : (n : ℕ) → suc n - 1 ≡ n
+    one n = omega arith
+
+    shape : (g w r : ℕ) → w + g * suc w * suc r + 1 ≡ (g * r + suc g) * suc w
+    shape g w r = omega arith
+
+-- clocks of constant length: a margin of minus two or less loses a message of one bit
+module _ (a b g k w r : ℕ) (ha : 0 < a) (hg : 0 < g) (hk : 0 < k) (hw : 0 < w) (hr : 0 < r) where
+  abbrev lead : ℕ
+  lead = (g - 1) * (r - 1)
+
+  pub lost-1 : a * w + 2 ≤ 2 * r + g * w → (m : OneBit w) × Loses a b g k w r m
+  lost-1 h = (highBit w lead 1 (many a b g k w r ha hg hk hw hr lead 1) hw (omega arith), loses-1 a b g k w r ha hg hk hw hr lead ((g - 1) * w) (lies g w r hg hw hr) h)
+
+  pub lost-2 : k * r + 2 ≤ (a + g) * w + r → (m : OneBit w) × Loses a b g k w r m
+  lost-2 h =
+      let (n, x, y) = least w (r - 1) hw in
+      let below : n * w + 1 - r < w = omega arith in
+      (lowBit w n (n * w + 1 - r) below, loses-2 a b g k w r ha hg hk hw hr n (n * w + 1 - r) below (omega arith) (omega arith))
+
+  pub lost-3 : (a + b) * w + 2 ≤ (k + 2) * r + g * w → (m : OneBit w) × Loses a b g k w r m
+  lost-3 h = (highBit w lead 0 (many a b g k w r ha hg hk hw hr lead 0) hw (omega arith), loses-3 a b g k w r ha hg hk hw hr lead ((g - 1) * w) (lies g w r hg hw hr) h)
+
+-- a clock of constant length within the bounds
+wider : {t : ℕ → ℕ} (lo hi x : ℕ) → lo ≤ x → x ≤ hi → Clock t x x → Clock t lo hi
+wider lo hi x p q c = record { low = λ i. omega (arith, c .low i); high = λ i. omega (arith, c .high i) }
+
+module _ (a b g k w1 w2 r1 r2 : ℕ) (ha : 0 < a) (hg : 0 < g) (hk : 0 < k) (hw : 0 < w1) (hr : 0 < r1) (ww : w1 ≤ w2) (rr : r1 ≤ r2) where
+  refuted : (w r : ℕ) → w1 ≤ w → w ≤ w2 → r1 ≤ r → r ≤ r2 → (m : OneBit w) × Loses a b g k w r m → Returned a b g k w1 w2 r1 r2 → ⊥
+  refuted w r p q u v (m, loses) f =
+      loses
+      (f (cycleStart w) (readStart (m .p) r) (wider w1 w2 w p q (cycle-clock w)) (wider r1 r2 r u v (read-clock (m .p) r)) (omega arith)
+      (omega (arith, m .phase)) (m .p1) (m .p2) (m .bit ∷ []) (m .choices) (m .is-bit, tt) (m .are-choices))
+
+  pub needed : Returned a b g k w1 w2 r1 r2 → Margins a b g k w1 w2 r1 r2
+  needed f =
+      margins-or a b g k w1 w2 r1 r2 (λ ok. ok)
+      (λ h. absurd (refuted w1 r2 (omega arith) ww rr (omega arith) (lost-1 a b g k w1 r2 ha hg hk hw (omega arith) h) f))
+      (λ h. absurd (refuted w2 r1 ww (omega arith) (omega arith) rr (lost-2 a b g k w2 r1 ha hg hk (omega arith) hr h) f))
+      (λ h. absurd (refuted w1 r2 (omega arith) ww rr (omega arith) (lost-3 a b g k w1 r2 ha hg hk hw (omega arith) h) f))

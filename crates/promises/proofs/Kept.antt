@@ -1,0 +1,108 @@
+-- What a read that settles against its choices tells of the wave: every cycle that shares time with it was known, so the wave had its level there and at the g cycles before.
+use mathlib.Core.Path.{_≡_, refl, _∙_}
+use mathlib.Core.Logic.{_≢_, dite}
+use mathlib.Core.List.{List, [], _∷_}
+use Prim.Native.Nat.{ℕ, zero, suc, _+_, _-_, _≤_, _<_}
+use native.Mathlib.Decide.{ℕ-discrete, decLe}
+use native.Mathlib.Omega.{arith}
+use lib.Dec.{eqb}
+use lib.ListN.{length, getD, replicate, List·getD-eq-default}
+use borrow.Author.Tests.{eq-eqb, ne-eqb}
+use Rattle.line.specs.Warp.{warpBy}
+use Rattle.line.specs.Settle.{settle}
+use Rattle.line.specs.Sharing.{Shares}
+use Rattle.line.proofs.Clocks.{Clocks, cycles-in-order}
+use Rattle.line.proofs.ReadsThere.{read-ends}
+use Rattle.line.proofs.SharedCycles.{read-is}
+use Rattle.promises.proofs.Smoothing.{unknown, unknown-most, seen, smoothBy}
+
+-- what is known after smoothing was so before, at its cycle and at the g before that; v stands before the first
+kept : (g left v : ℕ) (l : List ℕ) (c u : ℕ) → left ≤ g → u < 2 → getD (smoothBy g left v l) c 2 ≡ u
+    → (left ≤ c) × (c < g → v ≡ u) × ((i : ℕ) → i ≤ c → c ≤ i + g → getD l i 2 ≡ u)
+kept g left v [] c u o h e = absurd (omega (arith, e))
+kept g left v (x ∷ xs) zero u o h e =
+    dite (ℕ-discrete v x)
+    (λ y. let (z, t) = first left (rw (eq-eqb v x y) at e) in (omega arith, (λ p. y ∙ t), here t))
+    (λ y. let (z, t) = first g (rw (ne-eqb v x y) at e) in (omega arith, (λ p. absurd (omega arith)), here t))
+  where
+    first : (n : ℕ) → seen n x ≡ u → (n ≡ 0) × (x ≡ u)
+    first zero e = (refl, e)
+    first (suc n) e = absurd (omega arith)
+
+    here : x ≡ u → (i : ℕ) → i ≤ 0 → 0 ≤ i + g → getD (x ∷ xs) i 2 ≡ u
+    here z zero p q = z
+    here z (suc i) p q = absurd (omega arith)
+kept g left v (x ∷ xs) (suc c) u o h e =
+    go (kept g (unknown g left (eqb v x) - 1) x xs c u (omega (arith, unknown-most g left (eqb v x) o)) h e)
+  where
+    still : v ≡ x → unknown g left (eqb v x) ≡ left
+    still y = rw (eq-eqb v x y)
+
+    anew : v ≢ x → unknown g left (eqb v x) ≡ g
+    anew y = rw (ne-eqb v x y)
+
+    go : (unknown g left (eqb v x) - 1 ≤ c) × (c < g → x ≡ u) × ((i : ℕ) → i ≤ c → c ≤ i + g → getD xs i 2 ≡ u)
+        → (left ≤ suc c) × (suc c < g → v ≡ u) × ((i : ℕ) → i ≤ suc c → suc c ≤ i + g → getD (x ∷ xs) i 2 ≡ u)
+    go (p, q, f) = (
+      dite (ℕ-discrete v x) (λ y. omega (arith, still y)) (λ y. omega (arith, anew y)),
+      (λ z. dite (ℕ-discrete v x) (λ y. y ∙ q (omega arith)) (λ y. absurd (omega (arith, anew y)))),
+      at,
+    )
+      where
+        at : (i : ℕ) → i ≤ suc c → suc c ≤ i + g → getD (x ∷ xs) i 2 ≡ u
+        at zero y z = q (omega arith)
+        at (suc i) y z = f i (omega arith) (omega arith)
+
+-- a read that is v: so is each cycle that shares more than a point of time with it
+shared : {tw tr : ℕ → ℕ} → Clocks tw tr → (levels : List ℕ) (q v : ℕ) → v < 2 → getD (warpBy tw tr levels) q 2 ≡ v → (c : ℕ) → Shares tw tr q c → getD levels c 2 ≡ v
+shared {tw} {tr} clocks levels q v known is c shares =
+    read-is clocks levels q there .known (omega arith) c within shares ∙ is
+  where
+    there : q < length (warpBy tw tr levels)
+    there =
+        dite (decLe (suc q) (length (warpBy tw tr levels))) (λ h. h)
+        (λ h. absurd (omega (arith, List·getD-eq-default (warpBy tw tr levels) 2 {n = q} (omega arith))))
+
+    within : c < length levels
+    within =
+        dite (decLe (suc c) (length levels)) (λ h. h)
+        (λ h. absurd (omega (arith, shares .before-the-end, read-ends clocks levels q there, cycles-in-order clocks (length levels) c (omega arith))))
+
+-- with no choices, a read that settles high was high
+settle-high : (rs : List ℕ) (q : ℕ) → getD (settle rs []) q 2 ≡ 1 → getD rs q 2 ≡ 1
+unfolding settle
+settle-high [] q e = e
+settle-high (x ∷ xs) zero e =
+    dite (ℕ-discrete x 2) (λ y. absurd (omega (arith, rw (eq-eqb x 2 y) at e))) (λ y. rw (ne-eqb x 2 y) at e)
+settle-high (x ∷ xs) (suc q) e =
+    dite (ℕ-discrete x 2) (λ y. settle-high xs q (rw (eq-eqb x 2 y) at e)) (λ y. settle-high xs q (rw (ne-eqb x 2 y) at e))
+
+-- with enough high choices, a read that settles low was low
+settle-low : (rs : List ℕ) (m q : ℕ) → length rs ≤ m → getD (settle rs (replicate m 1)) q 2 ≡ 0 → getD rs q 2 ≡ 0
+unfolding settle
+settle-low [] m q h e = e
+settle-low (x ∷ xs) zero q h e = absurd (omega arith)
+settle-low (x ∷ xs) (suc m) zero h e =
+    dite (ℕ-discrete x 2) (λ y. absurd (omega (arith, rw (eq-eqb x 2 y) at e))) (λ y. rw (ne-eqb x 2 y) at e)
+settle-low (x ∷ xs) (suc m) (suc q) h e =
+    dite (ℕ-discrete x 2) (λ y. settle-low xs m q (omega arith) (rw (eq-eqb x 2 y) at e))
+    (λ y. settle-low xs (suc m) q (omega arith) (rw (ne-eqb x 2 y) at e))
+
+-- cycle c of the smoothed wave can be known as u: the wave is u there and at the g cycles before, high before the first
+pub record Known (g : ℕ) (l : List ℕ) (c u : ℕ) : Type 0 where
+  pub before : c < g → 1 ≡ u
+  pub level : (i : ℕ) → i ≤ c → c ≤ i + g → getD l i 2 ≡ u
+
+-- a read that shares time with cycle c and settles against its choice
+module _ {tw tr : ℕ → ℕ} (clocks : Clocks tw tr) (g : ℕ) (l : List ℕ) (q c : ℕ) (shares : Shares tw tr q c) where
+  known : (v : ℕ) → v < 2 → getD (warpBy tw tr (smoothBy g 0 1 l)) q 2 ≡ v → Known g l c v
+  known v lv e =
+      let (o, n, f) = kept g 0 1 l c v (omega arith) lv (shared clocks (smoothBy g 0 1 l) q v lv e c shares) in
+      record { before = n; level = f }
+
+  pub stays-high : getD (settle (warpBy tw tr (smoothBy g 0 1 l)) []) q 2 ≡ 1 → Known g l c 1
+  stays-high e = known 1 (omega arith) (settle-high (warpBy tw tr (smoothBy g 0 1 l)) q e)
+
+  pub stays-low : (m : ℕ) → length (warpBy tw tr (smoothBy g 0 1 l)) ≤ m
+      → getD (settle (warpBy tw tr (smoothBy g 0 1 l)) (replicate m 1)) q 2 ≡ 0 → Known g l c 0
+  stays-low m h e = known 0 (omega arith) (settle-low (warpBy tw tr (smoothBy g 0 1 l)) m q h e)

@@ -1,0 +1,148 @@
+-- 01's limits leave room for a lost message wherever one bit fits at all: the bit at the last phase with no pads has the fewest reads, and a lead of less than a read adds none.
+use mathlib.Core.Path.{_≡_, refl, sym, _∙_}
+use mathlib.Core.Logic.{dite}
+use mathlib.Core.Bool.{true, false, false≢true}
+use mathlib.Core.List.{List, [], _∷_}
+use Prim.Native.Nat.{ℕ, suc, _+_, _*_, _-_, _≤_, _<_}
+use native.Mathlib.Nat.{mul-le-mul-right}
+use native.Mathlib.Decide.{decLe}
+use native.Mathlib.Omega.{arith}
+use lib.ListN.{length, length-replicate}
+use Rattle.measure.specs.Ranges.{padMost, entriesMost}
+use Rattle.sender.specs.Sending.{wave}
+use Rattle.line.specs.Smooth.{smooth}
+use Rattle.line.specs.Warp.{warp}
+use Rattle.line.proofs.Clocks.{even-clocks}
+use Rattle.line.proofs.ReadsThere.{read-there, read-ends}
+use Rattle.line.proofs.SmoothLaws.{length-smooth}
+use Rattle.line.proofs.WarpLaws.{warp-by}
+use Rattle.promises.specs.WhatNoMeans.{almostAccepted, OneBit, Lost, WithinLimits, LostWithinLimits}
+use Rattle.promises.proofs.Ranged.{InRange, in-range}
+use Rattle.promises.proofs.Smoothing.{smooth-is}
+use Rattle.promises.proofs.Stretches.{length-wave}
+use Rattle.promises.proofs.SignedMargins.{margins-almost}
+use Rattle.promises.proofs.Need.{unsettled}
+use Rattle.promises.proofs.Witness.{Loses, margins-or, highBit, lowBit, least, loses-1, loses-2, loses-3}
+use Rattle.promises.proofs.WhatNoMeans.{loses-lost}
+
+-- the reads are within their limit exactly if one more would end after the wave
+module _ (w r p : ℕ) (l : List ℕ) (pos : 0 < r) (below : p < w) where
+  few-reads : length l * w < p + suc entriesMost * r → length (warp w r p (smooth l)) ≤ entriesMost
+  few-reads h = dite (decLe (length (warp w r p (smooth l))) entriesMost) (λ y. y) (λ y. absurd (omega (arith, ends (omega arith))))
+    where
+      ends : entriesMost < length (warp w r p (smooth l)) → p + suc entriesMost * r ≤ length l * w
+      ends more = rw (length-smooth l) at (read-ends (even-clocks w r p pos below) (smooth l) entriesMost (rw (warp-by w r p (smooth l)) at more))
+
+  reads-few : length (warp w r p (smooth l)) ≤ entriesMost → length l * w < p + suc entriesMost * r
+  reads-few h = dite (decLe (p + suc entriesMost * r) (length l * w)) (λ y. absurd (omega (arith, there y))) (λ y. omega arith)
+    where
+      there : p + suc entriesMost * r ≤ length l * w → entriesMost < length (warp w r p (smooth l))
+      there ends = rw (warp-by w r p (smooth l)) (read-there (even-clocks w r p pos below) (smooth l) entriesMost (rw (length-smooth l) ends))
+
+module _ (a b k w r : ℕ) (range : InRange a b k w r) (fits : (a + b) * w < w - 1 + suc entriesMost * r) where
+  -- one bit with no trail, a lead and a phase that leave its reads within the limit
+  within : (m : OneBit w) → m .p2 ≡ 0 → m .p1 ≤ padMost → (m .p1 + (a + b)) * w < m .p + suc entriesMost * r
+      → length (m .choices) ≤ length (warp w r (m .p) (smooth (wave a b (m .p1) (m .p2) (m .bit ∷ [])))) → WithinLimits a b w r m
+  within m none lead short chosen = record {
+    lead = lead;
+    trail = omega arith;
+    cycles = omega (arith, size, range .mark, range .code);
+    reads = few;
+    chosen = omega (arith, few, chosen);
+  }
+    where
+      l : List ℕ
+      l = wave a b (m .p1) (m .p2) (m .bit ∷ [])
+
+      size : length l ≡ m .p1 + (a + b)
+      size = length-wave a b (m .p1) (m .p2) (m .bit ∷ []) ∙ omega arith
+
+      few : length (warp w r (m .p) (smooth l)) ≤ entriesMost
+      few = few-reads w r (m .p) l (range .read .0) (m .phase) (rw size short)
+
+  -- the witnesses are reads of 01's line
+  same-reads : (p : ℕ) (l : List ℕ) → length (unsettled w r p 1 l) ≡ length (warp w r p (smooth l))
+  same-reads p l = rw (warp-by w r p (smooth l), smooth-is l)
+
+  abbrev Within : Type 0
+  Within = (n : OneBit w) × WithinLimits a b w r n × Lost a b k w r n
+
+  -- the last phase, no pads and high choices
+  high : (x : ℕ) (is : x < 2) → Loses a b 1 k w r (highBit w 0 x (length (unsettled w r (w - 1) 1 (wave a b 0 0 (x ∷ [])))) (range .cycle .0) is) → Within
+  high x is loses = (
+    m,
+    within m refl (omega arith) (omega (arith, fits)) (rw length-replicate (omega (arith, same-reads (w - 1) (wave a b 0 0 (x ∷ []))))),
+    loses-lost a b k w r m loses,
+  )
+    where
+      m : OneBit w
+      m = highBit w 0 x (length (unsettled w r (w - 1) 1 (wave a b 0 0 (x ∷ [])))) (range .cycle .0) is
+
+  -- no choices
+  low : (lead p : ℕ) (below : p < w) → lead ≤ padMost → (lead + (a + b)) * w < p + suc entriesMost * r
+      → lead * w < p + r → p + k * r < (lead + (a + 1)) * w → Within
+  low lead p below pad short touches early = (
+    lowBit w lead p below,
+    within (lowBit w lead p below) refl pad short (omega arith),
+    loses-lost a b k w r (lowBit w lead p below)
+        (loses-2 a b 1 k w r (range .mark .0) (omega arith) (range .sample .0) (range .cycle .0) (range .read .0) lead p below touches early),
+  )
+
+  starts : w - 1 + 0 * r + 1 ≡ (0 + 1) * w
+  starts = omega (arith, range .cycle)
+
+  -- M2: with a lead of just under a read where that is within the limit, and with none where a cell is very long
+  early : k * r + 2 ≤ (a + 1) * w + r → Within
+  early h =
+      dite (decLe ((a + b) * w) (entriesMost * r))
+      (λ y.
+      let (n, u, v) = least w (r - 1) (range .cycle .0) in
+      low n (n * w + 1 - r) (omega (arith, range .read)) (few-cycles n w r (range .cycle .0) v (range .read .1)) (omega (arith, range .read))
+      (omega (arith, range .read)) (omega (arith, range .read)))
+      (λ y.
+      low 0 (w - 1) (omega (arith, range .cycle)) (omega arith) (omega (arith, fits)) (omega (arith, range .cycle, range .read))
+      (omega (
+        arith,
+        range .cycle,
+        mul-le-mul-right w (whole (range .mark .1) (range .code .1)),
+        mul-le-mul-right r (range .sample .1),
+        mul-le-mul-right w (range .mark .0),
+      )))
+    where
+      whole : a ≤ 255 → b ≤ 255 → a + b ≤ 510
+      whole p q = omega arith
+
+      few-cycles : (n w r : ℕ) → 0 < w → n * w < r - 1 + w → r ≤ 65535 → n ≤ padMost
+      few-cycles n (suc w) r hw v h =
+          dite (decLe n r) (λ z. omega arith) (λ z. absurd (omega (arith, mul-le-mul-right w (under n r z))))
+        where
+          under : (n r : ℕ) → (n ≤ r → ⊥) → 1 ≤ n
+          under n r z = omega arith
+
+  pub lose-within : almostAccepted a b k w r ≡ false → Within
+  lose-within refused =
+      margins-or a b 1 k w w r r (λ ok. absurd (false≢true (sym refused ∙ margins-almost a b k w r ok)))
+      (λ h. high 1 (omega arith) (loses-1 a b 1 k w r (range .mark .0) (omega arith) (range .sample .0) (range .cycle .0) (range .read .0) 0 0 starts h))
+      early
+      (λ h. high 0 (omega arith) (loses-3 a b 1 k w r (range .mark .0) (omega arith) (range .sample .0) (range .cycle .0) (range .read .0) 0 0 starts h))
+
+-- the message that fits says that a cell at the last phase does
+pub lost-within-limits : LostWithinLimits
+lost-within-limits a b k w r ranges m limits =
+    lose-within a b k w r range
+    (omega (
+      arith,
+      m .phase,
+      size,
+      mul-le-mul-right w (longer (m .p1) (a + b) (m .p2)),
+      rw size at (reads-few w r (m .p) (wave a b (m .p1) (m .p2) (m .bit ∷ [])) (range .read .0) (m .phase) (limits .reads)),
+    ))
+  where
+    range : InRange a b k w r
+    range = in-range a b k w r ranges
+
+    size : length (wave a b (m .p1) (m .p2) (m .bit ∷ [])) ≡ m .p1 + (1 * (a + b) + m .p2)
+    size = length-wave a b (m .p1) (m .p2) (m .bit ∷ [])
+
+    longer : (x y z : ℕ) → y ≤ x + (1 * y + z)
+    longer x y z = omega arith

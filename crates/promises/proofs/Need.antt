@@ -1,0 +1,177 @@
+-- The margins are needed: where one of them is minus two or less, a read settles against the message of one bit, since it shares time with a cycle that is not known.
+use mathlib.Core.Path.{_≡_, sym, ap, _∙_}
+use mathlib.Core.Logic.{_≢_, dite}
+use mathlib.Core.List.{List, [], _∷_}
+use Prim.Native.Nat.{ℕ, suc, _+_, _*_, _-_, _≤_, _<_}
+use native.Mathlib.Nat.{zero-add, mul-le-mul-right, lt-of-mul-lt-mul-right}
+use native.Mathlib.Decide.{ℕ-discrete, decLe}
+use native.Mathlib.Omega.{arith}
+use lib.ListN.{length, getD, replicate, List·getD-eq-default}
+use Rattle.sender.specs.Sending.{wave}
+use Rattle.line.specs.Warp.{cycleStart, readStart, warpBy}
+use Rattle.line.specs.Settle.{settle}
+use Rattle.line.proofs.Entries.{AtMost, most-none}
+use Rattle.line.proofs.Clocks.{even-clocks}
+use Rattle.counted.specs.Counted.{counted}
+use Rattle.counted.proofs.Samples.{counted-step}
+use Rattle.promises.proofs.Clock.{cycle-of}
+use Rattle.promises.proofs.LevelLists.{most-replicate}
+use Rattle.promises.proofs.Smoothing.{smoothBy, length-smooth-by, smooth-by-most}
+use Rattle.promises.proofs.Stretches.{length-wave, wave-most, wave-carries, wave-leads, wave-trails}
+use Rattle.promises.proofs.Reading.{Reads, line-reads}
+use Rattle.promises.proofs.Unsampled.{unsampled}
+use Rattle.promises.proofs.Kept.{Known, stays-high, stays-low}
+
+-- the mark of a single 1 is the only low of its wave
+low-in-mark : (a b p1 p2 c : ℕ) → getD (wave a b p1 p2 (1 ∷ [])) c 2 ≡ 0 → c < p1 + a
+low-in-mark a b p1 p2 c e =
+    dite (decLe (suc c) (p1 + a)) (λ h. h) λ h. absurd (
+    dite (decLe (suc c) (p1 + (a + b))) (λ u. omega (arith, wave-carries a b p1 p2 (1 ∷ []) .1 c (omega arith) (omega arith)))
+    λ u. dite (decLe (suc c) (p1 + 1 * (a + b) + p2)) (λ t. omega (arith, wave-trails a b p1 p2 (1 ∷ []) c (omega arith) t))
+    λ t. omega (arith, List·getD-eq-default (wave a b p1 p2 (1 ∷ [])) 2 {n = c} (omega (arith, length-wave a b p1 p2 (1 ∷ []))))
+    )
+
+-- the reads of constant clocks over a wave with the settling count g, before they are settled
+abbrev pub unsettled : ℕ → ℕ → ℕ → ℕ → List ℕ → List ℕ
+unsettled w r p g l = warpBy (cycleStart w) (readStart p r) (smoothBy g 0 1 l)
+
+-- settled by high choices alone, and by no choices
+abbrev pub settledHigh : ℕ → ℕ → ℕ → ℕ → ℕ → List ℕ → List ℕ
+settledHigh w r p g m l = settle (unsettled w r p g l) (replicate m 1)
+
+abbrev pub settledLow : ℕ → ℕ → ℕ → ℕ → List ℕ → List ℕ
+settledLow w r p g l = settle (unsettled w r p g l) []
+
+module _ (w r p g : ℕ) (l choices : List ℕ) (pos : 0 < r) (below : p < w) (levels : AtMost 1 l) (chosen : AtMost 1 choices) where
+  reads : Reads (cycleStart w) (readStart p r) (smoothBy g 0 1 l) (settle (unsettled w r p g l) choices)
+  reads = line-reads (even-clocks w r p pos below) (smoothBy g 0 1 l) choices (smooth-by-most g 0 1 l levels) chosen
+
+  ends-by : (q : ℕ) → q < length (settle (unsettled w r p g l) choices) → p + suc q * r ≤ length l * w
+  ends-by q h = rw length-smooth-by at (reads .ends q h)
+
+  is-level : (q : ℕ) → q < length (settle (unsettled w r p g l) choices) → getD (settle (unsettled w r p g l) choices) q 2 < 2
+  is-level q h = reads .settled .level q (reads .ends q h)
+
+-- All choices are high, and read j starts one time unit before the mark has settled.
+module _ (a b g k w r p p1 p2 j x m : ℕ) (pos : 0 < r) (below : p < w) (lies : p + j * r + 1 ≡ (p1 + g) * w)
+    (enough : length (unsettled w r p g (wave a b p1 p2 (x ∷ []))) ≤ m) where
+  abbrev l : List ℕ
+  l = wave a b p1 p2 (x ∷ [])
+
+  abbrev R : List ℕ
+  R = settledHigh w r p g m l
+
+  ends : (q : ℕ) → q < length R → p + suc q * r ≤ (p1 + (1 * (a + b) + p2)) * w
+  ends q h =
+      rw (length-wave a b p1 p2 (x ∷ []))
+      at (ends-by w r p g l (replicate m 1) pos below (wave-most a b p1 p2 (x ∷ [])) (most-replicate 1 m 1 (omega arith)) q h)
+
+  -- a read that is not high: each cycle that it shares time with was low
+  low : (q : ℕ) → q < length R → getD R q 2 ≢ 1 → (c : ℕ) → c * w < p + suc q * r → p + q * r < suc c * w → Known g l c 0
+  low q h d c begins ends =
+      stays-low (even-clocks w r p pos below) g l q c (record { before-the-end = begins; after-the-start = ends }) m enough
+      (omega (
+        arith,
+        d,
+        is-level w r p g l (replicate m 1) pos below (wave-most a b p1 p2 (x ∷ [])) (most-replicate 1 m 1 (omega arith)) q h,
+      ))
+
+  -- the cycle in which a read starts that is not high
+  start-low : (q : ℕ) → q < length R → getD R q 2 ≢ 1 → (c : ℕ) × (c * w ≤ p + q * r) × (p + q * r < suc c * w) × Known g l c 0
+  start-low q h d =
+      let (c, y, z, u, v) = cycle-of (cycleStart w) (p + q * r) (p1 + (1 * (a + b) + p2)) 0 (omega arith) (rw zero-add (omega (arith, ends q h))) in
+      (c, u, v, low q h d c (omega arith) v)
+
+  -- the reads up to j are high
+  high-to : (q : ℕ) → q ≤ j → q < length R → getD R q 2 ≡ 1
+  high-to q le h = dite (ℕ-discrete (getD R q 2) 1) (λ e. e) (λ d. absurd (on (start-low q h d)))
+    where
+      on : (c : ℕ) × (c * w ≤ p + q * r) × (p + q * r < suc c * w) × Known g l c 0 → ⊥
+      on (c, u, v, n) =
+          dite (decLe g c)
+          (λ y. omega (arith, n .level (c - g) (omega arith) (omega arith), wave-leads a b p1 p2 (x ∷ []) (c - g) (omega (arith, soon))))
+          (λ y. omega (arith, n .before (omega arith)))
+        where
+          soon : c < p1 + g
+          soon = lt-of-mul-lt-mul-right w (omega (arith, mul-le-mul-right r le))
+
+  -- M3 is minus two or less, and there is no trail: the sample would be read past the wave's end
+  pub late-sample : p2 ≡ 0 → (a + b) * w + 2 ≤ (k + 2) * r + g * w → counted k 1 1 R ≡ []
+  late-sample none m3 =
+      unsampled R k 1 1 (j + 1) (λ i p q. high-to i (omega arith) q)
+      (dite (decLe (length R) (j + 1 + k)) (λ h. h) (λ h. absurd (omega (arith, rw shape at (ends (j + 1 + k) (omega arith))))))
+    where
+      shape : p1 + (1 * (a + b) + p2) ≡ p1 + (a + b)
+      shape = omega arith
+
+-- M1 is minus two or less: no read lies wholly within the settled mark of a 1, so every read is high
+pub short-mark : (a b g k w r p p1 p2 j m : ℕ) → 0 < r → p < w → p + j * r + 1 ≡ (p1 + g) * w
+    → length (unsettled w r p g (wave a b p1 p2 (1 ∷ []))) ≤ m → a * w + 2 ≤ 2 * r + g * w
+    → counted k 1 1 (settledHigh w r p g m (wave a b p1 p2 (1 ∷ []))) ≡ []
+short-mark a b g k w r p p1 p2 j m pos below lies enough m1 =
+    unsampled reads k 1 1 (length reads) (λ q y h. dite (decLe q j) (λ le. high-to a b g k w r p p1 p2 j 1 m pos below lies enough q le h) (λ gt. high q h gt)) (omega arith)
+  where
+    reads : List ℕ
+    reads = settledHigh w r p g m (wave a b p1 p2 (1 ∷ []))
+
+    high : (q : ℕ) → q < length reads → (q ≤ j → ⊥) → getD reads q 2 ≡ 1
+    high q h gt = dite (ℕ-discrete (getD reads q 2) 1) (λ e. e) (λ d. absurd (on d (start-low a b g k w r p p1 p2 j 1 m pos below lies enough q h d)))
+      where
+        on : getD reads q 2 ≢ 1 → (c : ℕ) × (c * w ≤ p + q * r) × (p + q * r < suc c * w) × Known g (wave a b p1 p2 (1 ∷ [])) c 0 → ⊥
+        on d (c, u, v, n) =
+            dite (decLe (p + suc q * r) ((p1 + a) * w))
+            (λ y. omega (arith, mul-le-mul-right r (wider q j gt)))
+            (λ y.
+            omega (
+              arith,
+              low-in-mark a b p1 p2 (p1 + a)
+                  (low a b g k w r p p1 p2 j 1 m pos below lies enough q h d (p1 + a) (omega arith) (omega (arith, mul-le-mul-right w within)) .level
+                  (p1 + a) (omega arith) (omega arith)),
+            ))
+          where
+            within : c < p1 + a
+            within = low-in-mark a b p1 p2 c (n .level c (omega arith) (omega arith))
+
+            wider : (q j : ℕ) → (q ≤ j → ⊥) → suc (suc j) ≤ suc q
+            wider q j gt = omega arith
+
+-- M2 is minus two or less, and there are no choices: the first read touches the cell's start and settles low, and its sample starts before the code has settled
+pub early-sample : (a b g k w r p p1 p2 : ℕ) → 0 < a → 0 < g → 0 < k → 0 < r → p < w → p1 * w < p + r → p + k * r < (p1 + (a + g)) * w
+    → counted k 1 1 (settledLow w r p g (wave a b p1 p2 (1 ∷ []))) ≢ 1 ∷ []
+early-sample a b g k w r p p1 p2 ha hg hk pos below touches early same =
+    dite (decLe (suc k) (length reads)) sampled-low
+    (λ h. let none : [] ≡ 1 ∷ [] = sym (unsampled reads k 1 1 0 (λ i p q. absurd (omega arith)) (omega arith)) ∙ same in omega (arith, ap length none))
+  where
+    sent : List ℕ
+    sent = wave a b p1 p2 (1 ∷ [])
+
+    reads : List ℕ
+    reads = settledLow w r p g sent
+
+    -- the cycles of the mark and the first g of the code are not known high
+    unknown : (c : ℕ) → p1 ≤ c → c < p1 + (a + g) → Known g sent c 1 → ⊥
+    unknown c x y h =
+        dite (decLe (suc c) (p1 + a))
+        (λ z. omega (arith, h .level c (omega arith) (omega arith), wave-carries a b p1 p2 (1 ∷ []) .0 c x z))
+        (λ z.
+        omega (
+          arith,
+          h .level (p1 + (a - 1)) (omega arith) (omega arith),
+          wave-carries a b p1 p2 (1 ∷ []) .0 (p1 + (a - 1)) (omega arith) (omega arith),
+        ))
+
+    -- so a read that shares time with one of them settles low
+    low-read : (q c : ℕ) → q < length reads → p1 ≤ c → c < p1 + (a + g) → c * w < p + suc q * r → p + q * r < suc c * w → getD reads q 2 ≡ 0
+    low-read q c there x y u v =
+        dite (ℕ-discrete (getD reads q 2) 1)
+        (λ e. absurd (unknown c x y (stays-high (even-clocks w r p pos below) g sent q c (record { before-the-end = u; after-the-start = v }) e)))
+        (λ d. omega (arith, d, is-level w r p g sent [] pos below (wave-most a b p1 p2 (1 ∷ [])) (most-none 1) q there))
+
+    sampled-low : k < length reads → ⊥
+    sampled-low h =
+        let (c, x, y, u, v) = cycle-of (cycleStart w) (p + k * r) (a + g) p1 (omega (arith, mul-le-mul-right r hk)) (omega arith) in
+        let mark : getD reads 0 2 ≡ 0 = low-read 0 p1 (omega arith) (omega arith) (omega arith) (omega arith) (omega arith) in
+        let sample : getD reads (0 + k) 2 ≡ 0 = rw zero-add (low-read k c h x y (omega arith) v) in
+        let zero-found = counted-step k 0 1 reads 0 0 2 (omega arith) (omega arith) (λ i p q. absurd (omega arith)) (omega (arith, mark)) in
+        let wrong : _≡_ {A = ℕ} 0 1 = cc (rw (mark, sample) at zero-found) in
+        omega arith

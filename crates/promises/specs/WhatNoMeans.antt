@@ -1,0 +1,64 @@
+-- 01, "Margins": a "no" does not say that a message would be lost. What it does say: the margins are exact to one time unit.
+use Prim.Native.Nat.{ℕ, zero, suc, _≤_, _<_}
+use mathlib.Core.Path.{_≡_}
+use mathlib.Core.Logic.{_≢_}
+use mathlib.Core.Bool.{Bool, true, false, _&&_}
+use mathlib.Core.List.{List, [], _∷_}
+use lib.IntN.{ℤ, pos, negsuc}
+use lib.ListN.{length}
+use Rattle.measure.specs.Ranges.{padMost, entriesMost}
+use Rattle.settings.specs.Margins.{m1, m2, m3}
+use Rattle.settings.specs.Refusals.{ranged}
+use Rattle.sender.specs.Sending.{wave}
+use Rattle.line.specs.Smooth.{smooth}
+use Rattle.line.specs.Warp.{warp}
+use Rattle.promises.specs.Levels.{Levels}
+use Rattle.promises.specs.CountedReturns.{found, EveryMessageReturned}
+
+-- minus one or more: times are whole numbers, so a margin has one unit to spare
+abbrev pub minusOneOrMore : ℤ → Bool
+minusOneOrMore (pos n) = true
+minusOneOrMore (negsuc zero) = true
+minusOneOrMore (negsuc (suc n)) = false
+
+-- M1, M2 and M3 are all minus one or more
+unfoldable pub almostAccepted : ℕ → ℕ → ℕ → ℕ → ℕ → Bool
+almostAccepted a b k w r = minusOneOrMore (m1 a w r) && minusOneOrMore (m2 a k w r) && minusOneOrMore (m3 a b k w r)
+
+-- a message of one bit on its way: pads, a phase and choices
+pub record OneBit (w : ℕ) : Type 0 where
+  pub p : ℕ
+  pub p1 : ℕ
+  pub p2 : ℕ
+  pub bit : ℕ
+  pub choices : List ℕ
+  pub phase : p < w
+  pub is-bit : bit < 2
+  pub are-choices : Levels choices
+
+-- it is not returned
+abbrev pub Lost : (a b k w r : ℕ) → OneBit w → Type 0
+Lost a b k w r m = found a b k w r (m .p) (m .p1) (m .p2) (m .bit ∷ []) (m .choices) ≢ m .bit ∷ []
+
+-- its pads, its cycles, its reads and its choices are within the limits of refusals 1 and 3
+pub record WithinLimits (a b w r : ℕ) (m : OneBit w) : Type 0 where
+  pub lead : m .p1 ≤ padMost
+  pub trail : m .p2 ≤ padMost
+  pub cycles : length (wave a b (m .p1) (m .p2) (m .bit ∷ [])) ≤ entriesMost
+  pub reads : length (warp w r (m .p) (smooth (wave a b (m .p1) (m .p2) (m .bit ∷ [])))) ≤ entriesMost
+  pub chosen : length (m .choices) ≤ entriesMost
+
+-- Every message is returned exactly if M1, M2 and M3 are minus one or more. At all other settings a message of one bit is lost.
+pub record ExactRule (a b k w r : ℕ) : Type 0 where
+  pub enough : almostAccepted a b k w r ≡ true → EveryMessageReturned a b k w r
+  pub needed : EveryMessageReturned a b k w r → almostAccepted a b k w r ≡ true
+  pub lost : almostAccepted a b k w r ≡ false → (m : OneBit w) × Lost a b k w r m
+
+-- the rule holds of all settings of which a, k, w and r are at least 1
+abbrev pub MarginsAreExact : Type 0
+MarginsAreExact = (a b k w r : ℕ) → 1 ≤ a → 1 ≤ k → 1 ≤ w → 1 ≤ r → ExactRule a b k w r
+
+-- 01's limits change nothing: wherever settings are in range and a message of one bit is within the limits at all, one within the limits is lost.
+abbrev pub LostWithinLimits : Type 0
+LostWithinLimits = (a b k w r : ℕ) → ranged a b k w r ≡ true → (m : OneBit w) → WithinLimits a b w r m
+    → almostAccepted a b k w r ≡ false → (n : OneBit w) × WithinLimits a b w r n × Lost a b k w r n
