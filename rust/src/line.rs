@@ -1,0 +1,91 @@
+//! Document 01, "The line, three passes": smooth, warp, settle.
+
+use crate::refusal::{need_entries, need_output, need_setting, need_size, Refusal};
+use crate::settings::{cycle_fits, MAX_LIST};
+
+/// An unknown level.
+const UNKNOWN: u8 = 2;
+
+/// Pass 1: makes every cycle unknown whose level is not that of the cycle before, and
+/// returns how many cycles there are. The line is high before the first.
+///
+/// Refuses with 3 for too long a wave, 2 for an entry that is no level, 4 for too short an
+/// output.
+pub fn smooth(wave: &[u8], out: &mut [u8]) -> Result<usize, Refusal> {
+    need_size(wave.len(), MAX_LIST)?;
+    need_entries(wave, 1)?;
+    let out = need_output(out, wave.len())?;
+    let mut before = 1;
+    for (smoothed, &level) in out.iter_mut().zip(wave) {
+        *smoothed = if level == before { level } else { UNKNOWN };
+        before = level;
+    }
+    Ok(wave.len())
+}
+
+/// Pass 2: reads the writer's cycles with the receiver's clock and returns the number of
+/// reads.
+///
+/// Refuses with 1 for a setting, 3 for too many cycles or too many reads, 2 for an entry
+/// that is neither a level nor unknown, 4 for too short an output.
+pub fn warp(w: u64, r: u64, p: u64, cycles: &[u8], out: &mut [u8]) -> Result<usize, Refusal> {
+    need_setting(cycle_fits(w) && cycle_fits(r) && p < w)?;
+    need_size(cycles.len(), MAX_LIST)?;
+    // The read-count law; at most 2^20 cycles of less than 2^16 units each.
+    let reads = match cycles.len() as u64 {
+        0 => 0,
+        count => (count * w - p) / r,
+    };
+    if reads > MAX_LIST as u64 {
+        return Err(Refusal::SIZE);
+    }
+    let reads = reads as usize;
+    need_entries(cycles, UNKNOWN)?;
+    let out = need_output(out, reads)?;
+
+    let mut first = 0; // the first cycle that is left
+    let mut cycle_end = w;
+    let mut read_end = p;
+    for read in out {
+        read_end += r;
+        let level = cycles[first];
+        let mut seen = level;
+        // One more cycle is looked at for each that ends strictly inside the read.
+        while cycle_end < read_end {
+            first += 1;
+            cycle_end += w;
+            if cycles[first] != level {
+                seen = UNKNOWN;
+            }
+        }
+        // A cycle that ends together with the read is dropped as well.
+        if cycle_end == read_end {
+            first += 1;
+            cycle_end += w;
+        }
+        *read = seen;
+    }
+    Ok(reads)
+}
+
+/// Pass 3: gives each unknown read the next choice, or low once there is none, and returns
+/// the number of reads.
+///
+/// Refuses with 3 for too long a list, 2 for a bad read, then for a bad choice, whether it
+/// would be used or not, 4 for too short an output.
+pub fn settle(reads: &[u8], choices: &[u8], out: &mut [u8]) -> Result<usize, Refusal> {
+    need_size(reads.len(), MAX_LIST)?;
+    need_size(choices.len(), MAX_LIST)?;
+    need_entries(reads, UNKNOWN)?;
+    need_entries(choices, 1)?;
+    let out = need_output(out, reads.len())?;
+    let mut choices = choices.iter();
+    for (settled, &read) in out.iter_mut().zip(reads) {
+        *settled = if read == UNKNOWN {
+            choices.next().copied().unwrap_or(0)
+        } else {
+            read
+        };
+    }
+    Ok(reads.len())
+}

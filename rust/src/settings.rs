@@ -1,0 +1,130 @@
+//! Document 01, "Numbers and their ranges" and "Margins": the limits of every number, and
+//! whether settings are accepted.
+
+use crate::refusal::{need_setting, Refusal};
+
+/// Greatest mark or code subcell, in writer cycles; the least is 1.
+pub const MAX_SUBCELL: usize = 255;
+/// Greatest sampling count, in read cycles; the least is 1.
+pub const MAX_K: usize = 511;
+/// Greatest length of a writer or read cycle, in time units; the least is 1.
+pub const MAX_CYCLE: u64 = 65_535;
+/// Greatest lead or trail pad, in writer cycles.
+pub const MAX_PAD: usize = 65_535;
+/// Greatest number of bits in a message or row.
+pub const MAX_BITS: usize = 1_024;
+/// Least quiet count, in reads.
+pub const MIN_QUIET: usize = 2;
+/// Greatest quiet count, in reads.
+pub const MAX_QUIET: usize = 8_191;
+/// Most rows of a plan.
+pub const MAX_ROWS: usize = 1_024;
+/// Most entries of a wave, a stream of reads or a list of choices.
+pub const MAX_LIST: usize = 1_048_576;
+/// Most bytes of a capture.
+pub const MAX_CAPTURE: usize = 1_048_583;
+/// Most bytes the rows program takes.
+pub const MAX_INPUT: usize = 65_536;
+
+/// The margins of judged settings, and whether all of them are zero or more.
+///
+/// `Verdict<3>` holds M1 to M3, `Verdict<5>` holds M1 to M5.
+#[derive(Clone, Copy, Debug, PartialEq, Eq)]
+pub struct Verdict<const M: usize> {
+    /// The margins in order, M1 first.
+    pub margins: [i64; M],
+    /// Yes or no.
+    pub accepted: bool,
+}
+
+impl<const M: usize> Verdict<M> {
+    fn of(margins: [i64; M]) -> Self {
+        Verdict {
+            margins,
+            accepted: margins.iter().all(|&margin| margin >= 0),
+        }
+    }
+}
+
+pub(crate) fn subcell_fits(cycles: usize) -> bool {
+    (1..=MAX_SUBCELL).contains(&cycles)
+}
+
+pub(crate) fn k_fits(k: usize) -> bool {
+    (1..=MAX_K).contains(&k)
+}
+
+pub(crate) fn cycle_fits(length: u64) -> bool {
+    (1..=MAX_CYCLE).contains(&length)
+}
+
+pub(crate) fn pad_fits(pad: usize) -> bool {
+    pad <= MAX_PAD
+}
+
+/// The range of n where a row is meant: the row receiver, a plan and a capture.
+pub(crate) fn row_bits_fit(n: usize) -> bool {
+    (1..=MAX_BITS).contains(&n)
+}
+
+pub(crate) fn quiet_fits(q: usize) -> bool {
+    (MIN_QUIET..=MAX_QUIET).contains(&q)
+}
+
+/// "Margins": M1, M2 and M3, and whether the settings are accepted. A "no" comes with its
+/// margins too.
+///
+/// Refuses with 1 for a setting out of range.
+pub fn judge(a: usize, b: usize, k: usize, w: u64, r: u64) -> Result<Verdict<3>, Refusal> {
+    need_setting(
+        subcell_fits(a) && subcell_fits(b) && k_fits(k) && cycle_fits(w) && cycle_fits(r),
+    )?;
+    let (a, b, k) = (a as i64, b as i64, k as i64);
+    let (w, r) = (w as i64, r as i64);
+    Ok(Verdict::of([
+        (a - 1) * w - 2 * r,
+        (k - 1) * r - (a + 1) * w,
+        (a + b - 1) * w - (k + 2) * r,
+    ]))
+}
+
+/// "Margins": M4 and M5 alone, which do not depend on the sampling count.
+///
+/// Refuses with 1 for a setting out of range.
+pub fn quiet_margins(
+    a: usize,
+    b: usize,
+    w: u64,
+    r: u64,
+    q: usize,
+    p1: usize,
+) -> Result<[i64; 2], Refusal> {
+    need_setting(
+        subcell_fits(a)
+            && subcell_fits(b)
+            && cycle_fits(w)
+            && cycle_fits(r)
+            && quiet_fits(q)
+            && pad_fits(p1),
+    )?;
+    let (a, b, q, p1) = (a as i64, b as i64, q as i64, p1 as i64);
+    let (w, r) = (w as i64, r as i64);
+    Ok([(q - 2) * r - (a + b + 1) * w, (p1 - 1) * w - (q + 1) * r])
+}
+
+/// "Margins": all five, and whether the quiet settings are accepted.
+///
+/// Refuses with 1 for a setting out of range.
+pub fn judge_quiet(
+    a: usize,
+    b: usize,
+    k: usize,
+    w: u64,
+    r: u64,
+    q: usize,
+    p1: usize,
+) -> Result<Verdict<5>, Refusal> {
+    let [m1, m2, m3] = judge(a, b, k, w, r)?.margins;
+    let [m4, m5] = quiet_margins(a, b, w, r, q, p1)?;
+    Ok(Verdict::of([m1, m2, m3, m4, m5]))
+}
