@@ -1,4 +1,4 @@
--- Feeding: reads given to the receiver one behind another, and the reports, each with the place of its read.
+-- 01, "The row receiver": reads fed one behind another, and what is reported, each report with the place of its read.
 use Prim.Native.Nat.{ℕ, suc, _+_}
 use mathlib.Core.List.{List, [], _∷_}
 use lib.ListN.{length, take}
@@ -34,14 +34,16 @@ reportsBy step s place (read ∷ reads) =
 abbrev pub after : Settings → State → List ℕ → State
 after g s reads = afterBy (next g) s reads
 
+-- and the reports by those rules
 abbrev pub reports : Settings → State → ℕ → List ℕ → List Report
 reports g s place reads = reportsBy (next g) s place reads
 
--- the first thing reported, if any, and how many reads that takes: up to and with the read that brings it, or all
+-- the first thing reported, if any
 abbrev pub firstEvent : List Report → Happening
 firstEvent [] = nothing
 firstEvent (report ∷ more) = report .event
 
+-- how many reads that takes: up to and with the one that brings it, or all where nothing is reported
 abbrev pub usedOf : List Report → ℕ → ℕ
 usedOf [] all = all
 usedOf (report ∷ more) all = report .place + 1

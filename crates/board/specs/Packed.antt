@@ -1,4 +1,4 @@
--- How bits are kept in words, the first bit lowest in the first word, and how a receiver keeps a state: 128 bytes for up to 1,024 bits.
+-- 01, "The row receiver" and the forms: a row's bits are kept packed, the first bit lowest in the first word, 128 bytes for up to 1,024 bits; and how a receiver keeps a state.
 use Prim.Native.Nat.{ℕ, zero, suc, _+_, _*_, _/_, _%_}
 use mathlib.Core.List.{List, [], _∷_, _++_}
 use lib.ListN.{length, take, drop}
@@ -30,10 +30,11 @@ unpacked width (x ∷ words) = digits width x ++ unpacked width words
 abbrev pub kept : List ℕ → List ℕ
 kept bits = packed 8 128 bits
 
--- the settings and the state that a receiver keeps
+-- the settings that a receiver keeps
 abbrev pub settingsOf : Receiver → Settings
 settingsOf x = record { k = x .k .0; n = x .n; Q = x .q .0 }
 
+-- the state that a receiver keeps
 abbrev pub stateOf : Receiver → State
 stateOf x =
     record {

@@ -1,4 +1,4 @@
--- What the receiver's operations answer, for all input: fresh, one read, and reads up to the first event; and what each case of the code says.
+-- 01, "The row receiver" and "Refusal numbers": what starting, one read, and reads up to the first event answer, for all input; and what each case of the code says.
 use Prim.Native.Nat.{ℕ, _+_}
 use mathlib.Core.List.{List, [], _∷_}
 use mathlib.Core.Bool.{Bool, true, false, _&&_}
@@ -41,7 +41,7 @@ reached g s event = record { receiver = receiverOf g s; answer = given event; ro
 abbrev pub refusing : Receiver → ℕ → ℕ → Outcome
 refusing x number place = record { receiver = x; answer = refused number place; row = kept [] }
 
--- fresh: hunting, run 0, no bits; refusal 1 for k, n or Q out of range, and then the state is hunting with all numbers 0
+-- starting: a fresh receiver, or refusal 1 for k, n or Q out of range, with a receiver that hunts and holds nothing but zeros
 unfoldable pub begun : ℕ → ℕ → ℕ → Answer Happening × Receiver
 begun k n Q =
     choose (settingsFit k n Q) (given nothing, receiverOf (record { k = k; n = n; Q = Q }) fresh) (
@@ -100,6 +100,7 @@ told n bytes Row = given (row (take n (unpacked 8 bytes)))
 told n bytes (Broken found) = given (broken found)
 told n bytes (Refused refusal) = denied refusal
 
+-- the same of starting, of one read, and of reads up to an event
 abbrev pub startTold : Start → Answer Happening
 startTold Fresh = given nothing
 startTold (StartRefused refusal) = denied refusal

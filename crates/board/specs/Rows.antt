@@ -33,7 +33,7 @@ pub record Moved : Type 0 where
   pub state : State
   pub event : Happening
 
--- a high read adds one to the run, up to Q; a low one makes it 0
+-- 01, first rule of a read: the run grows by one with each high read until it stands at Q, and falls back to 0 with a low one
 abbrev pub runAfter : ℕ → ℕ → ℕ → ℕ
 runAfter Q run read = choose (eqb read 1) (min (run + 1) Q) 0
 
@@ -50,11 +50,11 @@ counting left mark run bits = record { mode = Counting; left = left; level = mar
 abbrev pub waiting : ℕ → ℕ → List ℕ → State
 waiting sample run bits = record { mode = Waiting; left = 0; level = sample; run = run; bits = bits }
 
--- fresh: hunting, run 0, no bits
+-- 01: where a receiver starts, with nothing heard and nothing found
 abbrev pub fresh : State
 fresh = hunting 0
 
--- a row is in progress in counting and waiting
+-- 01: only these two modes are inside a row
 abbrev pub inProgress : Mode → Bool
 inProgress Hunting = false
 inProgress Ready = false
@@ -65,43 +65,43 @@ inProgress Waiting = true
 abbrev pub stays : State → ℕ → Moved
 stays s run = record { state = record { mode = s .mode; left = s .left; level = s .level; run = run; bits = s .bits }; event = nothing }
 
--- the run is now Q: a row in progress is reported broken with its number of bits and forgotten, and the mode becomes ready
+-- 01, when the run stands at Q: whatever the mode was it is now ready, and a row that was under way is lost, which is told with how many bits it had
 abbrev pub quietened : Settings → State → Moved
 quietened g s =
     record { state = ready (g .Q); event = choose (inProgress (s .mode)) (broken (length (s .bits))) nothing }
 
--- a mark: counting begins with k left
+-- 01, a mark was read: its level is kept, and its sample is k reads away
 abbrev pub marked : Settings → State → ℕ → ℕ → Moved
 marked g s run read = record { state = counting (g .k) read run (s .bits); event = nothing }
 
--- the bit is 1 if sample and mark differ, else 0
+-- 01, a cell's bit: unequal mark and sample say 1, equal ones 0
 abbrev pub bitOf : ℕ → ℕ → ℕ
 bitOf mark sample = choose (eqb sample mark) 0 1
 
--- a bit more: after n bits the row is delivered, the bits are cleared and the mode is hunting; else the mode is waiting with the sample's level
+-- 01, a sample has given one bit more: the n-th completes the row, which is handed over and leaves nothing behind but the run; before that the receiver waits, keeping the sample's level
 abbrev pub collected : Settings → ℕ → ℕ → List ℕ → Moved
 collected g run sample bits =
     choose (eqb (length bits) (g .n)) (record { state = hunting run; event = row bits })
     (record { state = waiting sample run bits; event = nothing })
 
--- counting: one fewer left; at none left this read is the sample
+-- 01, counting: this read takes one from what is left, and when that leaves nothing it is the sample
 abbrev pub counted : Settings → State → ℕ → ℕ → Moved
 counted g s run read =
     choose (eqb (s .left - 1) 0) (collected g run read (s .bits ++ bitOf (s .level) read ∷ []))
     (record { state = counting (s .left - 1) (s .level) run (s .bits); event = nothing })
 
--- ready and waiting: a read that differs from the level kept is a mark (in ready that level is high, so a low read is)
+-- 01, ready and waiting: the first read unlike the level kept is a mark. A ready receiver keeps high, so for it that is a low read
 abbrev pub awaited : Settings → State → ℕ → ℕ → Moved
 awaited g s run read = choose (eqb read (s .level)) (stays s run) (marked g s run read)
 
--- the run is not Q: what the read does in each mode
+-- 01, the run is short of Q: what the read does in each mode, and in hunting it does nothing
 abbrev pub listening : Mode → Settings → State → ℕ → ℕ → Moved
 listening Hunting g s run read = stays s run
 listening Ready g s run read = awaited g s run read
 listening Counting g s run read = counted g s run read
 listening Waiting g s run read = awaited g s run read
 
--- one read
+-- 01, one read: the run first, and only then the mode
 unfoldable pub next : Settings → State → ℕ → Moved
 next g s read =
     choose (eqb (runAfter (g .Q) (s .run) read) (g .Q)) (quietened g s)

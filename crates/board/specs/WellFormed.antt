@@ -15,28 +15,28 @@ use Rattle.board.specs.declared.Receiver.{Receiver}
 abbrev pub settingsFit : ℕ → ℕ → ℕ → Bool
 settingsFit k n Q = sampling k && rowBits n && quiet Q
 
--- the run is at most Q, and equals Q exactly in ready
+-- a full run and the mode ready come together; in every other mode the run is short of Q
 abbrev pub runFits : Mode → ℕ → ℕ → Bool
 runFits Hunting run Q = ltb run Q
 runFits Ready run Q = eqb run Q
 runFits Counting run Q = ltb run Q
 runFits Waiting run Q = ltb run Q
 
--- left is 1 to k in counting and 0 otherwise
+-- only a counting receiver has reads left up to a sample, at least one and no more than k
 abbrev pub leftFits : Mode → ℕ → ℕ → Bool
 leftFits Hunting left k = eqb left 0
 leftFits Ready left k = eqb left 0
 leftFits Counting left k = between 1 k left
 leftFits Waiting left k = eqb left 0
 
--- the bits found are fewer than n, and none in hunting and ready
+-- a row under way lacks at least one bit, and outside a row there are none
 abbrev pub foundFits : Mode → ℕ → ℕ → Bool
 foundFits Hunting found n = eqb found 0
 foundFits Ready found n = eqb found 0
 foundFits Counting found n = ltb found n
 foundFits Waiting found n = ltb found n
 
--- the level or mark kept is 0 or 1, and is 1 in hunting and ready
+-- what is kept is a level, and high where no row is under way
 abbrev pub levelFits : Mode → ℕ → Bool
 levelFits Hunting level = eqb level 1
 levelFits Ready level = eqb level 1
@@ -52,6 +52,7 @@ allZero (x ∷ xs) = eqb x 0 && allZero xs
 unfoldable pub unusedZero : ℕ → List ℕ → Bool
 unusedZero found bytes = allZero (drop found (unpacked 8 bytes))
 
+-- 01: a state is well formed if all of these hold
 unfoldable pub wellFormed : Receiver → Bool
 wellFormed x =
     settingsFit (x .k .0) (x .n) (x .q .0)

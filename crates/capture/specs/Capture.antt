@@ -1,4 +1,4 @@
--- 01, "Capture file": k, n, Q, the first level, then the lengths of runs of equal reads, levels alternating, to the end of the file.
+-- 01, "Capture file": what the numbers of a capture stand for. Four come first, the settings and a level; all others are run lengths.
 use Prim.Native.Nat.{ℕ, zero, suc, _+_, _-_}
 use mathlib.Core.List.{List, [], _∷_, _++_}
 use mathlib.Core.Bool.{Bool, _&&_}
@@ -19,6 +19,7 @@ then (refusedAfter number place count) go = refusedAfter number place count
 abbrev pub passing : (ℕ → Bool) → ℕ → Answer Numeral → Answer Numeral
 passing fits at answer = then answer (λ n. choose (fits (n .value)) (given n) (refused 8 at))
 
+-- the same of the number at a place
 unfoldable pub fittingAt : (ℕ → Bool) → List ℕ → ℕ → Answer Numeral
 fittingAt fits bytes at = passing fits at (numberAt bytes at)
 

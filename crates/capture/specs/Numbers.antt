@@ -1,4 +1,4 @@
--- 01, "Capture file": numbers in groups of seven bits, lowest group first, top bit set on every byte but the last, shortest form, at most three bytes.
+-- 01, "Capture file": how a number is spelled. Each byte has seven bits of it, the lowest first, and its top bit tells whether another follows; there is one spelling for each number, of three bytes at most.
 use Prim.Native.Nat.{ℕ, zero, suc, _+_, _-_, _*_, _/_, _%_, _^_}
 use mathlib.Core.List.{List, [], _∷_}
 use lib.ListN.{drop}
@@ -6,10 +6,11 @@ use lib.Dec.{ltb, leb, eqb}
 use Rattle.measure.specs.Choose.{choose}
 use Rattle.measure.specs.Refusals.{Answer, given, refused}
 
--- at most so many bytes follow a number's first, and where all of them do the last is at most this
+-- at most so many bytes follow a number's first
 abbrev pub further : ℕ
 further = 2
 
+-- and where all of them do, the last is at most this
 abbrev pub lastMost : ℕ
 lastMost = 127
 
@@ -47,12 +48,13 @@ pub record Numeral : Type 0 where
   pub value : ℕ
   pub after : ℕ
 
--- A number at a place. Refusal 6 where the bytes end inside it or before it, 7 where it is not in shortest form or too long; the place is the number's first byte.
+-- What was found at a place as an answer. Refusal 6 where the bytes end inside the number or before it, 7 where it is not in shortest form or too long; the place is the number's first byte.
 abbrev pub placed : ℕ → Group → Answer Numeral
 placed at (value v size) = given (record { value = v; after = at + size })
 placed at cut = refused 6 at
 placed at long = refused 7 at
 
+-- the number at a place
 unfoldable pub numberAt : List ℕ → ℕ → Answer Numeral
 numberAt bytes at = placed at (group further (drop at bytes))
 
@@ -61,5 +63,6 @@ unfoldable pub grouped : ℕ → ℕ → List ℕ
 grouped zero v = v ∷ []
 grouped (suc more) v = choose (ltb v 128) (v ∷ []) ((v % 128 + 128) ∷ grouped more (v / 128))
 
+-- the bytes of a number in a capture
 abbrev pub spelled : ℕ → List ℕ
 spelled v = grouped further v

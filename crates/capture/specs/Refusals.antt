@@ -1,4 +1,4 @@
--- What the operations on captures answer and leave in the lent output, for all input, and what each case of the code says.
+-- 01, "Capture file" and "Refusal numbers": what the operations on captures answer and leave in the lent output, for all input, and what each case of the code says.
 use Prim.Native.Nat.{ℕ, _+_}
 use mathlib.Core.Bool.{Bool, _&&_}
 use mathlib.Core.List.{List, [], _∷_}
@@ -45,6 +45,7 @@ unrolled (given c) output =
 unrolled (refused number place) output = (refused number place, output)
 unrolled (refusedAfter number place count) output = (refusedAfter number place count, output)
 
+-- reading: the same of the capture that the bytes spell out
 unfoldable pub readBack : List ℕ → List ℕ → Answer Summary × List ℕ
 readBack bytes output = unrolled (capture bytes) output
 

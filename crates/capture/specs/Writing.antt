@@ -11,6 +11,7 @@ runsAfter level count [] = count ∷ []
 runsAfter level count (read ∷ reads) =
     choose (eqb read level) (runsAfter level (suc count) reads) (count ∷ runsAfter read 1 reads)
 
+-- the lengths of all runs of reads
 unfoldable pub runsOf : List ℕ → List ℕ
 runsOf [] = []
 runsOf (read ∷ reads) = runsAfter read 1 reads

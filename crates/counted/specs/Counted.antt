@@ -1,4 +1,4 @@
--- 01, "The counted receiver".
+-- 01, "The counted receiver": a mark, its sample, a bit, and on from there.
 use Prim.Native.Nat.{ℕ, zero, suc}
 use mathlib.Core.List.{List, [], _∷_}
 use lib.ListN.{drop}
@@ -10,12 +10,12 @@ unfoldable pub fromMark : ℕ → List ℕ → List ℕ
 fromMark level [] = []
 fromMark level (read ∷ reads) = choose (eqb read level) (fromMark level reads) (read ∷ reads)
 
--- a bit is 1 if sample and mark differ, else 0
+-- a cell's bit: unequal mark and sample say 1, equal ones 0
 abbrev pub bitOf : ℕ → ℕ → ℕ
 bitOf mark sample = choose (eqb sample mark) 0 1
 
--- A cell's bit, from the reads from its mark on and from its sample on, and what is found next, where the sample is the new level and the new current read.
--- Nothing where the mark or the sample isn't there.
+-- A cell's bit, from the reads from its mark on and from its sample on, and then what is found from the sample on, whose level is now in force.
+-- Where either is missing nothing more is found.
 abbrev pub sampled : (ℕ → List ℕ → List ℕ) → List ℕ → List ℕ → List ℕ
 sampled next [] onward = []
 sampled next (mark ∷ reads) [] = []

@@ -1,4 +1,4 @@
--- What the three passes answer and leave in the lent output, for all input, and what each case of the code says.
+-- 01, "The line, three passes" and "Refusal numbers": what each pass answers and leaves in the lent output, for all input, and what each case of the code says.
 use Prim.Native.Nat.{ℕ}
 use mathlib.Core.Bool.{Bool, _&&_}
 use mathlib.Core.List.{List}
@@ -34,7 +34,7 @@ warped w r p levels output =
     (entered 2 levels output
     (lent (warp w r p levels) output))))
 
--- settle takes reads, known or not, and choices; the stream is searched before the choices
+-- settle takes reads, known or not, and choices; a bad read is found before a bad choice
 unfoldable pub settled : List ℕ → List ℕ → List ℕ → Answer ℕ × List ℕ
 settled reads choices output =
     limited entriesMost (length reads) output
@@ -48,6 +48,7 @@ abbrev pub smoothTold : Smoothed → Answer ℕ
 smoothTold (Wave cycles) = given (cycles .0)
 smoothTold (SmoothRefused refusal) = denied refusal
 
+-- the same of warp and settle
 abbrev pub told : Read → Answer ℕ
 told (Reads reads) = given (reads .0)
 told (Refused refusal) = denied refusal

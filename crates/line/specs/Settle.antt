@@ -5,12 +5,12 @@ use lib.ListN.{drop}
 use lib.Dec.{eqb}
 use Rattle.measure.specs.Choose.{choose}
 
--- the next choice, and low once choices have run out
+-- the next choice; where none is left it is low
 abbrev pub next : List ℕ → ℕ
 next [] = 0
 next (choice ∷ choices) = choice
 
--- Each unknown read takes the next choice; known reads use up none.
+-- An unknown read becomes the next choice, which is then used up. A known read stays and leaves the choices alone.
 unfoldable pub settle : List ℕ → List ℕ → List ℕ
 settle [] choices = []
 settle (read ∷ reads) choices =

@@ -29,7 +29,7 @@ pub record ReadIs (starts reads : ℕ → ℕ) (levels : List ℕ) (j v : ℕ) :
   -- a read that is not unknown is the level that each of them has
   pub known : (v ≡ 2 → ⊥) → (i : ℕ) → i < length levels → Shares starts reads j i → getD levels i 2 ≡ v
 
--- the number of reads of so many cycles: (L·w − p) / r rounded down for one cycle or more, and none for none
+-- how many reads so many cycles have: as many whole reads as fit between the phase and their end, and none of no cycle
 abbrev pub readCount : ℕ → ℕ → ℕ → ℕ → ℕ
 readCount w r p zero = 0
 readCount w r p (suc cycles) = (suc cycles * w - p) / r
@@ -43,7 +43,7 @@ pub record WarpLaws (w r p : ℕ) (levels : List ℕ) : Type 0 where
       → getD (warp w r p levels) j 2
       ≡ look (cycleStart w) (readStart p r (suc j)) (firstLeft (cycleStart w) (readStart p r) levels j)
       (drop (firstLeft (cycleStart w) (readStart p r) levels j) levels)
-  -- read j looks at exactly the cycles that share more than a point of time with it
+  -- the cycles that read j looks at are those that share time with it, and no others
   pub looks-at-shared : (j i : ℕ) → j < length (warp w r p levels) → i < length levels
       → LooksAt (cycleStart w) (readStart p r) levels j i → Shares (cycleStart w) (readStart p r) j i
   pub shared-looked-at : (j i : ℕ) → j < length (warp w r p levels) → i < length levels

@@ -17,19 +17,19 @@ readStart p r j = p + j * r
 abbrev pub reconcile : ℕ → ℕ → ℕ
 reconcile one other = choose (eqb one other) one 2
 
--- A read that ends at time t looks at cycle i, the first that is left, and then at the rest, as long as the cycle looked at ends strictly before the read does.
+-- What a read that ends at time t is. It starts with cycle i, the first one left, and goes on to the next while the cycle just looked at is over before t.
 unfoldable pub look : (ℕ → ℕ) → ℕ → ℕ → List ℕ → ℕ
 look starts t i [] = 2
 look starts t i (level ∷ levels) =
     choose (ltb (starts (suc i)) t) (reconcile level (look starts t (suc i) levels)) level
 
--- how many of the cycles left, the first of them cycle i, end at or before time t: these are dropped for the next read
+-- how many cycles, from cycle i on, are over by time t: the next read does without them
 unfoldable pub dropped : (ℕ → ℕ) → ℕ → ℕ → List ℕ → ℕ
 dropped starts t i [] = 0
 dropped starts t i (level ∷ levels) = choose (leb (starts (suc i)) t) (suc (dropped starts t (suc i) levels)) 0
 
--- The reads from read j on, where cycle i is the first that is left. A read that would end after `end`, the end of the last writer cycle, does not exist.
--- At most so many reads are made as the first argument says.
+-- The reads from read j on, with cycle i the first one left. There is a read only if it ends by `end`, when the last writer cycle is over.
+-- The first argument bounds how many are made, so that the recursion ends.
 unfoldable pub warpFrom : ℕ → (ℕ → ℕ) → (ℕ → ℕ) → ℕ → ℕ → ℕ → List ℕ → List ℕ
 warpFrom zero starts reads end j i levels = []
 warpFrom (suc most) starts reads end j i levels =

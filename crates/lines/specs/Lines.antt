@@ -11,17 +11,17 @@ use Rattle.board.specs.Rows.{Settings, Happening, nothing, row, broken, fresh}
 use Rattle.board.specs.Feeding.{Report, reports}
 use Rattle.lines.specs.Text.{feed, headingText, rowText, brokenText, endText, rowsText, refusedText, atText, decimal, bitsText}
 
--- line one is fixed
+-- the same first line, whatever the capture
 abbrev pub headingLine : List ℕ
 headingLine = headingText
 
--- an event line: the read's place from 0, the word, and then the row's bits, or for broken the number of bits dropped
+-- the line of an event: which read brought it, counted from 0; what it was; and the bits, or how many of them were lost
 abbrev pub eventLine : ℕ → Happening → List ℕ
 eventLine place nothing = []
 eventLine place (row bits) = decimal place ++ rowText ++ bitsText bits ++ feed
 eventLine place (broken found) = decimal place ++ brokenText ++ decimal found ++ feed
 
--- the last line: the total of reads and of rows delivered
+-- the line at the end: how many reads there were and how many rows came out of them
 abbrev pub endLine : ℕ → ℕ → List ℕ
 endLine reads rows = endText ++ decimal reads ++ rowsText ++ decimal rows ++ feed
 
@@ -34,12 +34,13 @@ unfoldable pub eventLines : List Report → List ℕ
 eventLines [] = []
 eventLines (report ∷ more) = eventLine (report .place) (report .event) ++ eventLines more
 
--- how many rows were delivered
+-- how many rows were delivered, with one event more
 abbrev pub oneMore : Happening → ℕ → ℕ
 oneMore nothing rows = rows
 oneMore (row bits) rows = suc rows
 oneMore (broken found) rows = rows
 
+-- the same of a list of reports
 unfoldable pub rowsIn : List Report → ℕ
 rowsIn [] = 0
 rowsIn (report ∷ more) = oneMore (report .event) (rowsIn more)
@@ -48,6 +49,7 @@ rowsIn (report ∷ more) = oneMore (report .event) (rowsIn more)
 abbrev pub page : List ℕ → List Report → List ℕ
 page reads told = headingLine ++ eventLines told ++ endLine (length reads) (rowsIn told)
 
+-- a capture's settings
 abbrev pub settingsOf : Capture → Settings
 settingsOf c = record { k = c .k; n = c .n; Q = c .Q }
 

@@ -1,4 +1,4 @@
--- Text as bytes: the fixed words of the rows program, and numbers in decimal.
+-- 01, "Rows program": text as bytes, the fixed words and numbers in decimal.
 use Prim.Native.Nat.{ℕ, zero, suc, _+_, _/_, _%_}
 use mathlib.Core.List.{List, [], _∷_, _++_}
 use lib.Dec.{ltb}

@@ -31,15 +31,15 @@ rowBits n = between 1 bitsMost n
 abbrev pub quiet : ℕ → Bool
 quiet Q = between 2 8191 Q
 
--- a wave, a stream of reads and a list of choices have at most 1,048,576 entries
+-- the most entries of a list of cycles, reads or choices
 abbrev pub entriesMost : ℕ
 entriesMost = 1048576
 
--- a plan has 1 to 1,024 rows
+-- the most rows of a plan
 abbrev pub rowsMost : ℕ
 rowsMost = 1024
 
--- a capture has at most 1,048,583 bytes
+-- the most bytes of a capture
 abbrev pub captureMost : ℕ
 captureMost = 1048583
 

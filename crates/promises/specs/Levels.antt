@@ -1,4 +1,4 @@
--- What the theorems ask of a message, of choices and of a replaced stretch.
+-- What the theorems ask of a message and of choices (01, "What the link software covers": bits and levels are 0 or 1).
 use Prim.Native.Nat.{ℕ, _<_}
 use mathlib.Core.List.{List, [], _∷_}
 

@@ -1,4 +1,4 @@
--- 01, "Margins": a "no" does not say that a message would be lost. What it does say: the margins are exact to one time unit.
+-- 01, "Margins", on what a refusal of settings leaves open. What it does say: the margins are exact to one time unit.
 use Prim.Native.Nat.{ℕ, zero, suc, _≤_, _<_}
 use mathlib.Core.Path.{_≡_}
 use mathlib.Core.Logic.{_≢_}

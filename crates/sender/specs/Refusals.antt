@@ -1,4 +1,4 @@
--- What sending a message and sending a plan answer and leave in the lent output, for all input, and what each case of the code says.
+-- 01, "Sending" and "Refusal numbers": what sending a message and sending a plan answer and leave in the lent output, for all input, and what each case of the code says.
 use Prim.Native.Nat.{ℕ, _*_}
 use mathlib.Core.Bool.{Bool, _&&_, not}
 use mathlib.Core.List.{List}

@@ -13,7 +13,7 @@ opposite level = 1 - level
 abbrev pub codeLevel : ℕ → ℕ → ℕ
 codeLevel before bit = choose (eqb bit 1) before (opposite before)
 
--- A cell holds the opposite of the level before it for a cycles, and its code level for b more. The next cell starts from the level now on the line.
+-- The cells of bits, from the level before the first of them: each turns the line over for its mark, a cycles long, and then has its code level for b. What is on the line then is before the next.
 unfoldable pub cells : ℕ → ℕ → ℕ → List ℕ → List ℕ
 cells a b before [] = []
 cells a b before (bit ∷ bits) =
@@ -33,7 +33,7 @@ pub record Row : Type 0 where
   pub trail : ℕ
   pub bits : List ℕ
 
--- a plan's wave: the rows' waves one behind another, each row's cells starting from high
+-- a plan's wave: those of its rows in order, with nothing carried over from one to the next
 unfoldable pub planWave : ℕ → ℕ → List Row → List ℕ
 planWave a b [] = []
 planWave a b (row ∷ rows) = wave a b (row .lead) (row .trail) (row .bits) ++ planWave a b rows

@@ -32,10 +32,10 @@ abbrev pub zeroOrMore : ℤ → Bool
 zeroOrMore (pos n) = true
 zeroOrMore (negsuc n) = false
 
--- settings are accepted exactly if M1, M2 and M3 are all zero or more
+-- the test that settings have to pass: none of the three margins of a cell is negative
 unfoldable pub accepted : ℕ → ℕ → ℕ → ℕ → ℕ → Bool
 accepted a b k w r = zeroOrMore (m1 a w r) && zeroOrMore (m2 a k w r) && zeroOrMore (m3 a b k w r)
 
--- the quiet settings exactly if M4 and M5 are too
+-- the test that quiet settings have to pass: that one, and neither margin of the quiet is negative
 unfoldable pub quietAccepted : ℕ → ℕ → ℕ → ℕ → ℕ → ℕ → ℕ → Bool
 quietAccepted a b k w r Q p1 = accepted a b k w r && zeroOrMore (m4 a b Q w r) && zeroOrMore (m5 p1 Q w r)

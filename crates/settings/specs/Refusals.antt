@@ -19,6 +19,7 @@ pub record Judgement : Type 0 where
   pub margins : Margins
   pub accepts : Bool
 
+-- the same with all five
 pub record QuietJudgement : Type 0 where
   pub margins : QuietMargins
   pub accepts : Bool
@@ -51,6 +52,7 @@ told (Yes m) = given (record { margins = m; accepts = true })
 told (No m) = given (record { margins = m; accepts = false })
 told (Refused refusal) = denied refusal
 
+-- and of the quiet judge's
 abbrev pub quietTold : QuietJudged → Answer QuietJudgement
 quietTold (QuietYes m) = given (record { margins = m; accepts = true })
 quietTold (QuietNo m) = given (record { margins = m; accepts = false })
