@@ -1,1 +1,6 @@
 pub mod CasesHold
+pub mod Both
+pub mod Ranged
+pub mod Size
+pub mod Signs
+pub mod Inequalities

@@ -1,5 +1,26 @@
 // Judging settings: the margins of document 01 as signed numbers, and yes or no.
+ghost use mathlib.Core.Path.{_≡_};
+ghost use mathlib.Core.Bool.{_&&_};
+ghost use Prim.Native.Nat.{_≤_};
+ghost use lib.Dec.{leb};
+ghost use Rattle.measure.specs.Ranges.{quiet, padMost};
+ghost use lib.IntN.{_-ℤ_, _*ℤ_};
+ghost use Rattle.measure.specs.Refusals.{given};
+ghost use Rattle.settings.specs.Margins.{signed, m1, m2, m3, m4, m5, zeroOrMore};
+ghost use Rattle.settings.specs.Refusals.{ranged, judgement, quietJudgement, told, quietTold};
+use measure::CYCLE_LEAST;
+use measure::CYCLE_MOST;
+use measure::PAD_MOST;
+use measure::QUIET_LEAST;
+use measure::QUIET_MOST;
+use measure::ReadCycles;
 use measure::Refusal;
+use measure::SAMPLING_LEAST;
+use measure::SAMPLING_MOST;
+use measure::SUBCELL_LEAST;
+use measure::SUBCELL_MOST;
+use measure::TimeUnits;
+use measure::WriterCycles;
 
 // M1, M2 and M3, in time units.
 pub struct Margins {
@@ -32,4 +53,177 @@ pub enum QuietJudged {
     Yes(QuietMargins),
     No(QuietMargins),
     Refused(Refusal),
+}
+
+// Tells whether a, b, k, w and r are in range.
+fn in_range(a: usize, b: usize, k: usize, w: usize, r: usize) -> bool
+    ensures { λ fits. ⌜ fits ≡ ranged a b k w r ⌝ }
+{
+    if !measure::between(SUBCELL_LEAST, SUBCELL_MOST, a) {
+        return false;
+    }
+    if !measure::between(SUBCELL_LEAST, SUBCELL_MOST, b) {
+        return false;
+    }
+    if !measure::between(SAMPLING_LEAST, SAMPLING_MOST, k) {
+        return false;
+    }
+    if !measure::between(CYCLE_LEAST, CYCLE_MOST, w) {
+        return false;
+    }
+    measure::between(CYCLE_LEAST, CYCLE_MOST, r)
+}
+
+// Tells whether Q and p1 are in range as well.
+fn quiet_in_range(a: usize, b: usize, k: usize, w: usize, r: usize, q: usize, p1: usize) -> bool
+    ensures { λ fits. ⌜ fits ≡ (ranged a b k w r && quiet q && leb p1 padMost) ⌝ }
+{
+    if !in_range(a, b, k, w, r) {
+        return false;
+    }
+    if !measure::between(QUIET_LEAST, QUIET_MOST, q) {
+        return false;
+    }
+    p1 <= PAD_MOST
+}
+
+// Gives a margin. Each of the five has this form: so many cycles of one clock less the spare ones, against so many of the other.
+fn margin(count: usize, spare: usize, cycle: usize, others: usize, other: usize) -> i64
+    requires { ⌜ (count ≤ 65536) × (spare ≤ 65536) × (cycle ≤ 65536) × (others ≤ 65536) × (other ≤ 65536) ⌝ }
+    ensures { λ m. ⌜ m ≡ (signed count -ℤ signed spare) *ℤ signed cycle -ℤ signed others *ℤ signed other ⌝ }
+{
+    let kept = (count as i64) - (spare as i64);
+    let time = kept * (cycle as i64);
+    let other_time = (others as i64) * (other as i64);
+    time - other_time
+}
+
+// Gives M1: the mark subcell against two reads.
+fn margin1(a: usize, w: usize, r: usize) -> i64
+    requires { ⌜ (a ≤ 255) × (w ≤ 65535) × (r ≤ 65535) ⌝ }
+    ensures { λ m. ⌜ m ≡ m1 a w r ⌝ }
+{
+    margin(a, 1, w, 2, r)
+}
+
+// Gives M2: the sampling count against the mark subcell.
+fn margin2(a: usize, k: usize, w: usize, r: usize) -> i64
+    requires { ⌜ (a ≤ 255) × (k ≤ 511) × (w ≤ 65535) × (r ≤ 65535) ⌝ }
+    ensures { λ m. ⌜ m ≡ m2 a k w r ⌝ }
+{
+    margin(k, 1, r, a + 1, w)
+}
+
+// Gives M3: the whole cell against the sampling count.
+fn margin3(a: usize, b: usize, k: usize, w: usize, r: usize) -> i64
+    requires { ⌜ (a ≤ 255) × (b ≤ 255) × (k ≤ 511) × (w ≤ 65535) × (r ≤ 65535) ⌝ }
+    ensures { λ m. ⌜ m ≡ m3 a b k w r ⌝ }
+{
+    margin(a + b, 1, w, k + 2, r)
+}
+
+// Gives M4: the quiet count against a cell.
+fn margin4(a: usize, b: usize, q: usize, w: usize, r: usize) -> i64
+    requires { ⌜ (a ≤ 255) × (b ≤ 255) × (q ≤ 8191) × (w ≤ 65535) × (r ≤ 65535) ⌝ }
+    ensures { λ m. ⌜ m ≡ m4 a b q w r ⌝ }
+{
+    margin(q, 2, r, a + b + 1, w)
+}
+
+// Gives M5: the lead pad against the quiet count.
+fn margin5(p1: usize, q: usize, w: usize, r: usize) -> i64
+    requires { ⌜ (p1 ≤ 65535) × (q ≤ 8191) × (w ≤ 65535) × (r ≤ 65535) ⌝ }
+    ensures { λ m. ⌜ m ≡ m5 p1 q w r ⌝ }
+{
+    margin(p1, 1, w, q + 1, r)
+}
+
+// Answers yes or no by the signs of three margins.
+fn by_signs(m1: i64, m2: i64, m3: i64) -> Judged
+    ensures { λ x. ⌜ given (record { margins = record { m1 = m1; m2 = m2; m3 = m3 }; accepts = zeroOrMore m1 && zeroOrMore m2 && zeroOrMore m3 }) ≡ told x ⌝ }
+{
+    let margins = Margins { m1, m2, m3 };
+    if m1 < 0 {
+        return Judged::No(margins);
+    }
+    if m2 < 0 {
+        return Judged::No(margins);
+    }
+    if m3 < 0 {
+        return Judged::No(margins);
+    }
+    Judged::Yes(margins)
+}
+
+// Answers yes or no by the signs of all five margins.
+fn quiet_by_signs(m1: i64, m2: i64, m3: i64, m4: i64, m5: i64) -> QuietJudged
+    ensures { λ x. ⌜ given (record { margins = record { m1 = m1; m2 = m2; m3 = m3; m4 = m4; m5 = m5 }; accepts = zeroOrMore m1 && zeroOrMore m2 && zeroOrMore m3 && zeroOrMore m4 && zeroOrMore m5 }) ≡ quietTold x ⌝ }
+{
+    let margins = QuietMargins { m1, m2, m3, m4, m5 };
+    if m1 < 0 {
+        return QuietJudged::No(margins);
+    }
+    if m2 < 0 {
+        return QuietJudged::No(margins);
+    }
+    if m3 < 0 {
+        return QuietJudged::No(margins);
+    }
+    if m4 < 0 {
+        return QuietJudged::No(margins);
+    }
+    if m5 < 0 {
+        return QuietJudged::No(margins);
+    }
+    QuietJudged::Yes(margins)
+}
+
+// The judge. Gives M1, M2 and M3, and yes exactly if all three are zero or more. Refuses by 1 a setting out of range.
+pub fn judge(a: WriterCycles, b: WriterCycles, k: ReadCycles, w: TimeUnits, r: TimeUnits) -> Judged
+    ensures { λ x. ⌜ judgement (a .0) (b .0) (k .0) (w .0) (r .0) ≡ told x ⌝ }
+{
+    let mark = a.0;
+    let code = b.0;
+    let places = k.0;
+    let writer = w.0;
+    let reader = r.0;
+    if !in_range(mark, code, places, writer, reader) {
+        return Judged::Refused(Refusal::Setting);
+    }
+    by_signs(
+        margin1(mark, writer, reader),
+        margin2(mark, places, writer, reader),
+        margin3(mark, code, places, writer, reader),
+    )
+}
+
+// The quiet judge. Gives all five margins, and yes exactly if all five are zero or more. Refuses by 1 a setting out of range.
+pub fn judge_quiet(
+    a: WriterCycles,
+    b: WriterCycles,
+    k: ReadCycles,
+    w: TimeUnits,
+    r: TimeUnits,
+    q: ReadCycles,
+    p1: WriterCycles,
+) -> QuietJudged
+    ensures { λ x. ⌜ quietJudgement (a .0) (b .0) (k .0) (w .0) (r .0) (q .0) (p1 .0) ≡ quietTold x ⌝ }
+{
+    let mark = a.0;
+    let code = b.0;
+    let places = k.0;
+    let writer = w.0;
+    let reader = r.0;
+    let quiet = q.0;
+    let lead = p1.0;
+    if !quiet_in_range(mark, code, places, writer, reader, quiet, lead) {
+        return QuietJudged::Refused(Refusal::Setting);
+    }
+    quiet_by_signs(
+        margin1(mark, writer, reader),
+        margin2(mark, places, writer, reader),
+        margin3(mark, code, places, writer, reader),
+        margin4(mark, code, quiet, writer, reader),
+        margin5(lead, quiet, writer, reader),
+    )
 }

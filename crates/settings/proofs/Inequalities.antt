@@ -1,0 +1,120 @@
+-- When margins are zero or more, said without a difference: what a margin takes away is at most what it has.
+use mathlib.Core.Path.{_≡_, sym, ap, _∙_}
+use mathlib.Core.Bool.{true}
+use Prim.Native.Nat.{ℕ, zero, suc, _+_, _*_, _≤_}
+use native.Mathlib.Nat.{zero-mul, add-zero}
+use native.Mathlib.Decide.{decLe}
+use native.Mathlib.Omega.{arith}
+use lib.Dec.{leb}
+use lib.IntN.{ℤ, pos, negℤ, _+ℤ_, _-ℤ_, _*ℤ_, +ℤ-predℤ, +ℤ-assoc, +ℤ-comm, negℤ-+ℤ, negℤ-sucℤ, predℤ-*ℤ}
+use borrow.Author.Tests.{lt-ltb, le-ltb, le-leb, lt-leb, leb-true}
+use Rattle.settings.proofs.Both.{both-3}
+use Rattle.settings.specs.Margins.{m1, m2, m3, m4, m5, zeroOrMore, accepted, quietAccepted}
+
+-- a difference of two lengths is zero or more exactly if the second is at most the first
+pub difference-met : (p q : ℕ) → zeroOrMore (pos p -ℤ pos q) ≡ leb q p
+difference-met p zero = sym (le-leb 0 p (omega arith))
+difference-met p (suc q) = go (decLe (suc q) p)
+  where
+    go : Dec (suc q ≤ p) → zeroOrMore (pos p -ℤ pos (suc q)) ≡ leb (suc q) p
+    go (yes h) = rw (le-ltb p (suc q) h, le-leb (suc q) p h)
+    go (no h) = rw (lt-ltb p (suc q) (omega arith), lt-leb (suc q) p (omega arith))
+
+less-less : (z : ℤ) (a b : ℕ) → z -ℤ pos a -ℤ pos b ≡ z -ℤ pos (a + b)
+less-less z a b = +ℤ-assoc z (negℤ (pos a)) (negℤ (pos b)) ∙ ap (λ (y : ℤ). z +ℤ y) (sym (negℤ-+ℤ (pos a) (pos b)))
+
+times-less : (x c u : ℕ) → (pos x -ℤ pos c) *ℤ pos u ≡ pos (x * u) -ℤ pos (c * u)
+times-less x zero u = rw (zero-mul u, add-zero x, add-zero (x * u))
+times-less x (suc c) u =
+    ap (λ (y : ℤ). (pos x +ℤ y) *ℤ pos u) (negℤ-sucℤ (pos c))
+    ∙ ap (λ (y : ℤ). y *ℤ pos u) (+ℤ-predℤ (pos x) (negℤ (pos c)))
+    ∙ predℤ-*ℤ (pos x -ℤ pos c) (pos u)
+    ∙ ap (λ (y : ℤ). y -ℤ pos u) (times-less x c u)
+    ∙ less-less (pos (x * u)) (c * u) u
+    ∙ ap (λ (n : ℕ). pos (x * u) -ℤ pos n) (more c u)
+  where
+    more : (c u : ℕ) → c * u + u ≡ suc c * u
+    more c u = omega arith
+
+-- The one form of all five margins, with x, c and y counts and u and v lengths, as a difference of two lengths.
+pub margin-is : (x c u y v : ℕ) → (pos x -ℤ pos c) *ℤ pos u -ℤ pos y *ℤ pos v ≡ pos (x * u) -ℤ pos (c * u + y * v)
+margin-is x c u y v = ap (λ (z : ℤ). z -ℤ pos (y * v)) (times-less x c u) ∙ less-less (pos (x * u)) (c * u) (y * v)
+
+pub margin-met : (x c u y v : ℕ) → zeroOrMore ((pos x -ℤ pos c) *ℤ pos u -ℤ pos y *ℤ pos v) ≡ leb (c * u + y * v) (x * u)
+margin-met x c u y v = ap zeroOrMore (margin-is x c u y v) ∙ difference-met (x * u) (c * u + y * v)
+
+-- The same of a margin that is -d or more.
+pub margin-least : (d x c u y v : ℕ) → zeroOrMore ((pos x -ℤ pos c) *ℤ pos u -ℤ pos y *ℤ pos v +ℤ pos d) ≡ leb (c * u + y * v) (x * u + d)
+margin-least d x c u y v =
+    ap (λ (z : ℤ). zeroOrMore (z +ℤ pos d)) (margin-is x c u y v)
+    ∙ ap zeroOrMore (later (x * u) (c * u + y * v))
+    ∙ difference-met (x * u + d) (c * u + y * v)
+  where
+    later : (p q : ℕ) → pos p -ℤ pos q +ℤ pos d ≡ pos (p + d) -ℤ pos q
+    later p q =
+        +ℤ-assoc (pos p) (negℤ (pos q)) (pos d)
+        ∙ ap (λ (z : ℤ). pos p +ℤ z) (+ℤ-comm (negℤ (pos q)) (pos d))
+        ∙ sym (+ℤ-assoc (pos p) (pos d) (negℤ (pos q)))
+
+-- Each margin is zero or more exactly if what it takes away is at most what it has.
+pub m1-met : (a w r : ℕ) → zeroOrMore (m1 a w r) ≡ leb (2 * r + w) (a * w)
+unfolding m1
+m1-met a w r = margin-met a 1 w 2 r ∙ ap (λ (n : ℕ). leb n (a * w)) (omega arith)
+
+pub m2-met : (a k w r : ℕ) → zeroOrMore (m2 a k w r) ≡ leb ((a + 1) * w + r) (k * r)
+unfolding m2
+m2-met a k w r = margin-met k 1 r (a + 1) w ∙ ap (λ (n : ℕ). leb n (k * r)) (omega arith)
+
+pub m3-met : (a b k w r : ℕ) → zeroOrMore (m3 a b k w r) ≡ leb ((k + 2) * r + w) ((a + b) * w)
+unfolding m3
+m3-met a b k w r = margin-met (a + b) 1 w (k + 2) r ∙ ap (λ (n : ℕ). leb n ((a + b) * w)) (omega arith)
+
+pub m4-met : (a b Q w r : ℕ) → zeroOrMore (m4 a b Q w r) ≡ leb ((a + b + 1) * w + 2 * r) (Q * r)
+unfolding m4
+m4-met a b Q w r = margin-met Q 2 r (a + b + 1) w ∙ ap (λ (n : ℕ). leb n (Q * r)) (omega arith)
+
+pub m5-met : (p1 Q w r : ℕ) → zeroOrMore (m5 p1 Q w r) ≡ leb ((Q + 1) * r + w) (p1 * w)
+unfolding m5
+m5-met p1 Q w r = margin-met p1 1 w (Q + 1) r ∙ ap (λ (n : ℕ). leb n (p1 * w)) (omega arith)
+
+-- what accepted settings keep to: M1, M2 and M3
+pub record Accepted (a b k w r : ℕ) : Type 0 where
+  pub M1 : 2 * r + w ≤ a * w
+  pub M2 : (a + 1) * w + r ≤ k * r
+  pub M3 : (k + 2) * r + w ≤ (a + b) * w
+
+-- what accepted quiet settings keep to besides: M4 and M5
+pub record QuietAccepted (a b w r Q p1 : ℕ) : Type 0 where
+  pub M4 : (a + b + 1) * w + 2 * r ≤ Q * r
+  pub M5 : (Q + 1) * r + w ≤ p1 * w
+
+pub accepted-keeps : (a b k w r : ℕ) → accepted a b k w r ≡ true → Accepted a b k w r
+unfolding accepted
+accepted-keeps a b k w r e =
+    let parts = both-3 (zeroOrMore (m1 a w r)) (zeroOrMore (m2 a k w r)) (zeroOrMore (m3 a b k w r)) e in
+    record {
+      M1 = leb-true _ _ (sym (m1-met a w r) ∙ parts .0);
+      M2 = leb-true _ _ (sym (m2-met a k w r) ∙ parts .1);
+      M3 = leb-true _ _ (sym (m3-met a b k w r) ∙ parts .2);
+    }
+
+pub keeps-accepted : (a b k w r : ℕ) → Accepted a b k w r → accepted a b k w r ≡ true
+unfolding accepted
+keeps-accepted a b k w r h =
+    rw (m1-met a w r ∙ le-leb _ _ (h .M1), m2-met a k w r ∙ le-leb _ _ (h .M2), m3-met a b k w r ∙ le-leb _ _ (h .M3))
+
+pub quiet-keeps : (a b k w r Q p1 : ℕ) → quietAccepted a b k w r Q p1 ≡ true → Accepted a b k w r × QuietAccepted a b w r Q p1
+unfolding quietAccepted
+quiet-keeps a b k w r Q p1 e =
+    let parts = both-3 (accepted a b k w r) (zeroOrMore (m4 a b Q w r)) (zeroOrMore (m5 p1 Q w r)) e in (
+      accepted-keeps a b k w r (parts .0),
+      record {
+        M4 = leb-true _ _ (sym (m4-met a b Q w r) ∙ parts .1);
+        M5 = leb-true _ _ (sym (m5-met p1 Q w r) ∙ parts .2);
+      },
+    )
+
+pub keeps-quiet : (a b k w r Q p1 : ℕ) → Accepted a b k w r → QuietAccepted a b w r Q p1 → quietAccepted a b k w r Q p1 ≡ true
+unfolding quietAccepted
+keeps-quiet a b k w r Q p1 h q =
+    rw (keeps-accepted a b k w r h, m4-met a b Q w r ∙ le-leb _ _ (q .M4), m5-met p1 Q w r ∙ le-leb _ _ (q .M5))
