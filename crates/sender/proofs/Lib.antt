@@ -1,1 +1,6 @@
 pub mod CasesHold
+pub mod Both
+pub mod Ranged
+pub mod Placed
+pub mod Cells
+pub mod Plans

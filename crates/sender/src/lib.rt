@@ -1,5 +1,23 @@
 // Sending: the wave of a message, and the wave of a plan of rows.
+ghost use mathlib.Core.Path.{_≡_};
+ghost use mathlib.Core.Bool.{true, _&&_};
+ghost use mathlib.Core.List.{List, _++_};
+ghost use Prim.Native.Nat.{ℕ, _+_, _*_, _≤_, _<_};
+ghost use lib.Dec.{leb};
+ghost use lib.ListN.{length, replicate};
+ghost use lib.Seq.{sets};
+ghost use Rattle.measure.specs.Ranges.{subcell, padMost, bitsMost, rowBits, rowsMost};
+ghost use Rattle.sender.specs.Sending.{opposite, codeLevel, cells, wave, planWave, rowsOf};
+ghost use Rattle.sender.specs.Refusals.{fitting, padded, sentMessage, sentPlan, told};
+use measure::BITS_LEAST;
+use measure::BITS_MOST;
+use measure::ENTRIES_MOST;
+use measure::HIGH;
+use measure::PAD_MOST;
+use measure::ROWS_MOST;
 use measure::Refusal;
+use measure::SUBCELL_LEAST;
+use measure::SUBCELL_MOST;
 use measure::WriterCycles;
 
 // What sending answers.
@@ -7,4 +25,262 @@ pub enum Sent {
     // The wave stands at the front of the lent output and has so many cycles.
     Wave(WriterCycles),
     Refused(Refusal),
+}
+
+// Writes so many cycles of one level, from a place on.
+fn fill(out: &mut [u8], from: usize, count: usize, level: u8)
+    requires { ⌜ from + count ≤ length (now out) ⌝ }
+    ensures { λ _. ⌜ sets (now (out .entry)) from (replicate count level) ≡ now (out .exit) ⌝ }
+{
+    let end = from + count;
+    let mut i = from;
+    while i < end {
+        out[i] = level;
+        i += 1;
+    }
+}
+
+// Gives the level of a cell's code subcell.
+fn code_level(before: u8, bit: u8) -> u8
+    requires { ⌜ before ≤ 1 ⌝ }
+    ensures { λ level. ⌜ level ≡ codeLevel before bit ⌝ }
+{
+    if bit == 1 { before } else { 1 - before }
+}
+
+// Writes a cell at a place and gives the level that it leaves on the line.
+fn cell_into(a: usize, b: usize, before: u8, bit: u8, out: &mut [u8], at: usize) -> u8
+    requires { ⌜ (before ≤ 1) × (at + a + b ≤ length (now out)) ⌝ }
+    ensures { λ level. ⌜ (level ≡ codeLevel before bit) × (sets (now (out .entry)) at (replicate a (opposite before) ++ replicate b (codeLevel before bit)) ≡ now (out .exit)) ⌝ }
+{
+    let level = code_level(before, bit);
+    fill(out, at, a, 1 - before);
+    fill(out, at + a, b, level);
+    level
+}
+
+// Writes the cells of a message at a place, from high, and gives the place after them.
+fn cells_into(a: usize, b: usize, bits: &[u8], out: &mut [u8], at: usize) -> usize
+    requires { ⌜ at + length (now bits) * (a + b) ≤ length (now out) ⌝ }
+    ensures { λ after. ⌜ (after ≡ at + length (now (bits .entry)) * (a + b)) × (sets (now (out .entry)) at (cells a b 1 (now (bits .entry))) ≡ now (out .exit)) ⌝ }
+{
+    let mut before = HIGH;
+    let mut place = at;
+    let mut i = 0;
+    while i < bits.len() {
+        before = cell_into(a, b, before, bits[i], out, place);
+        place = place + a + b;
+        i += 1;
+    }
+    place
+}
+
+// Writes a message's wave at a place and gives the place after it.
+fn wave_into(
+    a: usize,
+    b: usize,
+    p1: usize,
+    p2: usize,
+    bits: &[u8],
+    out: &mut [u8],
+    at: usize,
+) -> usize
+    requires { ⌜ at + p1 + length (now bits) * (a + b) + p2 ≤ length (now out) ⌝ }
+    ensures { λ after. ⌜ (after ≡ at + p1 + length (now (bits .entry)) * (a + b) + p2) × (sets (now (out .entry)) at (wave a b p1 p2 (now (bits .entry))) ≡ now (out .exit)) ⌝ }
+{
+    fill(out, at, p1, HIGH);
+    let trail = cells_into(a, b, bits, out, at + p1);
+    fill(out, trail, p2, HIGH);
+    trail + p2
+}
+
+// Tells whether a, b and both pads of a message are in range.
+fn in_range(a: usize, b: usize, p1: usize, p2: usize) -> bool
+    ensures { λ fits. ⌜ fits ≡ (subcell a && subcell b && leb p1 padMost && leb p2 padMost) ⌝ }
+{
+    if !measure::between(SUBCELL_LEAST, SUBCELL_MOST, a) {
+        return false;
+    }
+    if !measure::between(SUBCELL_LEAST, SUBCELL_MOST, b) {
+        return false;
+    }
+    if p1 > PAD_MOST {
+        return false;
+    }
+    p2 <= PAD_MOST
+}
+
+// Sends a message. Gives the number of cycles of its wave.
+// Refuses by 1 (a, b or a pad), 3 (more than 1,024 bits; the wave then keeps to its limit), 2 (the place of the first entry that is no bit), 4.
+// The output holds the wave at its front and is otherwise untouched; every refusal leaves all of it.
+pub fn send(
+    a: WriterCycles,
+    b: WriterCycles,
+    p1: WriterCycles,
+    p2: WriterCycles,
+    bits: &[u8],
+    out: &mut [u8],
+) -> Sent
+    ensures { λ x. ⌜ sentMessage (a .0) (b .0) (p1 .0) (p2 .0) (now (bits .entry)) (now (out .entry)) ≡ (told x, now (out .exit)) ⌝ }
+{
+    let mark = a.0;
+    let code = b.0;
+    let lead = p1.0;
+    let trail = p2.0;
+    if !in_range(mark, code, lead, trail) {
+        return Sent::Refused(Refusal::Setting);
+    }
+    if bits.len() > BITS_MOST {
+        return Sent::Refused(Refusal::Limit);
+    }
+    let bad = measure::first_above(bits, HIGH);
+    if bad < bits.len() {
+        return Sent::Refused(Refusal::Entry(bad));
+    }
+    let cell = mark + code;
+    let cycles = lead + bits.len() * cell + trail;
+    if out.len() < cycles {
+        return Sent::Refused(Refusal::Room);
+    }
+    let end = wave_into(mark, code, lead, trail, bits, out, 0);
+    Sent::Wave(WriterCycles(end))
+}
+
+// Tells whether each pad of a list is in range.
+fn pads_in_range(pads: &[usize]) -> bool
+    ensures { λ fits. ⌜ fits ≡ padded (now (pads .entry)) ⌝ }
+{
+    let mut i = 0;
+    while i < pads.len() {
+        if pads[i] > PAD_MOST {
+            return false;
+        }
+        i += 1;
+    }
+    true
+}
+
+// Tells whether the lists of a plan fit one another. It divides, since rows times n may be more than a usize holds.
+fn lists_fit(n: usize, leads: &[usize], trails: &[usize], bits: &[u8]) -> bool
+    requires { ⌜ 0 < n ⌝ }
+    ensures { λ fits. ⌜ fits ≡ fitting n (now (leads .entry)) (now (trails .entry)) (now (bits .entry)) ⌝ }
+{
+    if leads.len() == 0 {
+        return false;
+    }
+    if trails.len() != leads.len() {
+        return false;
+    }
+    let rows = bits.len() / n;
+    if rows != leads.len() {
+        return false;
+    }
+    bits.len() == rows * n
+}
+
+// Tells whether a, b, n and all pads of a plan are in range and its lists fit one another.
+fn plan_in_range(
+    a: usize,
+    b: usize,
+    n: usize,
+    leads: &[usize],
+    trails: &[usize],
+    bits: &[u8],
+) -> bool
+    ensures { λ fits. ⌜ fits ≡ (subcell a && subcell b && rowBits n && fitting n (now (leads .entry)) (now (trails .entry)) (now (bits .entry)) && padded (now (leads .entry)) && padded (now (trails .entry))) ⌝ }
+{
+    if !measure::between(SUBCELL_LEAST, SUBCELL_MOST, a) {
+        return false;
+    }
+    if !measure::between(SUBCELL_LEAST, SUBCELL_MOST, b) {
+        return false;
+    }
+    if !measure::between(BITS_LEAST, BITS_MOST, n) {
+        return false;
+    }
+    if !lists_fit(n, leads, trails, bits) {
+        return false;
+    }
+    if !pads_in_range(leads) {
+        return false;
+    }
+    pads_in_range(trails)
+}
+
+// Gives the number of cycles of a plan's wave, whatever its bits.
+fn plan_cycles(a: usize, b: usize, n: usize, leads: &[usize], trails: &[usize]) -> usize
+    requires { ⌜ (a ≤ 255) × (b ≤ 255) × (n ≤ 1024) × (length (now leads) ≤ 1024) × (length (now trails) ≡ length (now leads)) × (padded (now leads) ≡ true) × (padded (now trails) ≡ true) ⌝ }
+    ensures { λ cycles. ⌜ ((bits : List ℕ) → length bits ≡ length (now (leads .entry)) * n → length (planWave a b (rowsOf n (now (leads .entry)) (now (trails .entry)) bits)) ≡ cycles) ⌝ }
+{
+    let cell = a + b;
+    let row = n * cell;
+    let mut cycles = 0;
+    let mut i = 0;
+    while i < leads.len() {
+        cycles = cycles + leads[i] + row + trails[i];
+        i += 1;
+    }
+    cycles
+}
+
+// Writes the waves of a plan's rows one behind another.
+fn plan_into(
+    a: usize,
+    b: usize,
+    n: usize,
+    leads: &[usize],
+    trails: &[usize],
+    bits: &[u8],
+    out: &mut [u8],
+)
+    requires { ⌜ (length (now trails) ≡ length (now leads)) × (length (now bits) ≡ length (now leads) * n) × (length (planWave a b (rowsOf n (now leads) (now trails) (now bits))) ≤ length (now out)) ⌝ }
+    ensures { λ _. ⌜ sets (now (out .entry)) 0 (planWave a b (rowsOf n (now (leads .entry)) (now (trails .entry)) (now (bits .entry)))) ≡ now (out .exit) ⌝ }
+{
+    let mut at = 0;
+    let mut start = 0;
+    let mut i = 0;
+    while i < leads.len() {
+        let end = start + n;
+        let row = &bits[start..end];
+        at = wave_into(a, b, leads[i], trails[i], row, out, at);
+        start = end;
+        i += 1;
+    }
+}
+
+// Sends a plan: for each row a lead pad, a trail pad, and n bits of the one list of bits. Gives the number of cycles of the plan's wave.
+// Refuses by 1 (a, b, n or a pad; no row; lists that do not fit one another), 3 (more than 1,024 rows, or 1,048,576 cycles), 2 (the place of the first entry that is no bit), 4.
+// The output holds the wave at its front and is otherwise untouched; every refusal leaves all of it.
+pub fn send_plan(
+    a: WriterCycles,
+    b: WriterCycles,
+    n: usize,
+    leads: &[usize],
+    trails: &[usize],
+    bits: &[u8],
+    out: &mut [u8],
+) -> Sent
+    ensures { λ x. ⌜ sentPlan (a .0) (b .0) n (now (leads .entry)) (now (trails .entry)) (now (bits .entry)) (now (out .entry)) ≡ (told x, now (out .exit)) ⌝ }
+{
+    let mark = a.0;
+    let code = b.0;
+    if !plan_in_range(mark, code, n, leads, trails, bits) {
+        return Sent::Refused(Refusal::Setting);
+    }
+    if leads.len() > ROWS_MOST {
+        return Sent::Refused(Refusal::Limit);
+    }
+    let cycles = plan_cycles(mark, code, n, leads, trails);
+    if cycles > ENTRIES_MOST {
+        return Sent::Refused(Refusal::Limit);
+    }
+    let bad = measure::first_above(bits, HIGH);
+    if bad < bits.len() {
+        return Sent::Refused(Refusal::Entry(bad));
+    }
+    if out.len() < cycles {
+        return Sent::Refused(Refusal::Room);
+    }
+    plan_into(mark, code, n, leads, trails, bits, out);
+    Sent::Wave(WriterCycles(cycles))
 }
