@@ -3,3 +3,4 @@ pub mod Feeding
 pub mod Packed
 pub mod WellFormed
 pub mod Refusals
+pub mod Listening

@@ -1,6 +1,26 @@
 // The row receiver of a board: rows of n bits out of reads that come one by one.
+ghost use mathlib.Core.Path.{_≡_};
+ghost use mathlib.Core.Bool.{true};
+ghost use mathlib.Core.List.{List, [], _∷_, _++_};
+ghost use Prim.Native.Nat.{ℕ, _+_, _*_, _/_, _%_, _^_, _≤_, _<_};
+ghost use lib.ListN.{length, getD, set, drop};
+ghost use Rattle.board.specs.declared.Mode.the-variants.{Counting as CountingMode, Waiting as WaitingMode};
+ghost use Rattle.board.specs.declared.Receiver.{Receiver as AnyReceiver};
+ghost use Rattle.board.specs.Rows.{hunting, ready, counting, waiting, bitOf, collected, marked};
+ghost use Rattle.board.specs.Packed.{kept, stateOf};
+ghost use Rattle.board.specs.WellFormed.{settingsFit, runFits, leftFits, foundFits, levelFits, unusedZero, wellFormed};
+ghost use Rattle.board.specs.Refusals.{begun, startTold, stepped, stepTold, listened, listenTold};
+ghost use Rattle.board.specs.Listening.{settings, keeping, Keeps, longer as longerRun, heardFrom, heardTold, soughtTold, Lands};
+use measure::BITS_LEAST;
+use measure::BITS_MOST;
+use measure::ENTRIES_MOST;
+use measure::HIGH;
+use measure::QUIET_LEAST;
+use measure::QUIET_MOST;
 use measure::ReadCycles;
 use measure::Refusal;
+use measure::SAMPLING_LEAST;
+use measure::SAMPLING_MOST;
 
 // What the receiver is doing. A row is in progress in counting and in waiting.
 pub enum Mode {
@@ -67,4 +87,270 @@ pub struct Listened {
     pub event: Event,
     pub row: [u8; 128],
     pub used: ReadCycles,
+}
+
+// What a read can change beside the bits. Kept apart from the 128 bytes, so that a read moves none of them.
+struct Numbers {
+    mode: Mode,
+    run: usize,
+    left: usize,
+    level: u8,
+    found: usize,
+}
+
+// How listening ends. The bits are in the lent bytes.
+enum Heard {
+    // With the reads: nothing was reported.
+    Ended(Numbers),
+    // At a read that is no level, at this place.
+    Bad(usize),
+    // With a row's last bit: the run then, and the reads used.
+    Full(usize, usize),
+    // With a row in progress broken: its number of bits, and the reads used.
+    Broken(usize, usize),
+}
+
+// How a search for a sample or a mark ends: with the reads used up to it, the run after it and its level, or before it.
+enum Sought {
+    Found(usize, usize, u8),
+    Stopped(Heard),
+}
+
+// No bits.
+fn none() -> [u8; 128]
+    ensures { λ x. ⌜ kept [] ≡ x ⌝ }
+{
+    [0u8; 128]
+}
+
+fn settings_fit(k: usize, n: usize, q: usize) -> bool
+    ensures { λ x. ⌜ settingsFit k n q ≡ x ⌝ }
+{
+    if !measure::between(SAMPLING_LEAST, SAMPLING_MOST, k) {
+        return false;
+    }
+    if !measure::between(BITS_LEAST, BITS_MOST, n) {
+        return false;
+    }
+    measure::between(QUIET_LEAST, QUIET_MOST, q)
+}
+
+fn run_fits(mode: Mode, run: usize, q: usize) -> bool
+    ensures { λ x. ⌜ runFits mode run q ≡ x ⌝ }
+{
+    match mode {
+        Mode::Hunting => run < q,
+        Mode::Ready => run == q,
+        Mode::Counting => run < q,
+        Mode::Waiting => run < q,
+    }
+}
+
+fn left_fits(mode: Mode, left: usize, k: usize) -> bool
+    ensures { λ x. ⌜ leftFits mode left k ≡ x ⌝ }
+{
+    match mode {
+        Mode::Hunting => left == 0,
+        Mode::Ready => left == 0,
+        Mode::Counting => measure::between(1, k, left),
+        Mode::Waiting => left == 0,
+    }
+}
+
+fn found_fits(mode: Mode, found: usize, n: usize) -> bool
+    ensures { λ x. ⌜ foundFits mode found n ≡ x ⌝ }
+{
+    match mode {
+        Mode::Hunting => found == 0,
+        Mode::Ready => found == 0,
+        Mode::Counting => found < n,
+        Mode::Waiting => found < n,
+    }
+}
+
+fn level_fits(mode: Mode, level: u8) -> bool
+    ensures { λ x. ⌜ levelFits mode level ≡ x ⌝ }
+{
+    match mode {
+        Mode::Hunting => level == HIGH,
+        Mode::Ready => level == HIGH,
+        Mode::Counting => level <= HIGH,
+        Mode::Waiting => level <= HIGH,
+    }
+}
+
+// The weight of a bit's place in its byte.
+fn weight(place: usize) -> u8
+    requires { ⌜ place < 8 ⌝ }
+    ensures { λ x. ⌜ 2 ^ place ≡ x ⌝ }
+{
+    1u8 << place
+}
+
+// Whether the places from the number found on hold 0: those of the byte that the next bit falls in, and whole bytes by their
+// greatest, which has no early way out and so is done many at a time.
+fn unused_zero(bits: &[u8], found: usize) -> bool
+    requires { ⌜ (found < 1024) × (length (now bits) ≡ 128) ⌝ }
+    ensures { λ x. ⌜ unusedZero found (now (bits .entry)) ≡ x ⌝ }
+{
+    let at = found / 8;
+    let byte = bits[at];
+    if weight(found % 8) <= byte {
+        return false;
+    }
+    let used = (found + 7) / 8;
+    let rest = &bits[used..];
+    measure::first_above(rest, 0) == rest.len()
+}
+
+// The run after a read, where it was below q before.
+fn longer(run: usize, read: u8) -> usize
+    requires { ⌜ run < 8191 ⌝ }
+    ensures { λ x. ⌜ longerRun run read ≡ x ⌝ }
+{
+    if read == HIGH { run + 1 } else { 0 }
+}
+
+// Puts the bit of a cell, by its mark and its sample, in a place that holds 0, as do all later ones.
+fn put(bits: &mut [u8; 128], at: usize, mark: u8, sample: u8)
+    requires { ⌜ (at < 1024) × (getD (now bits) (at / 8) 0 < 2 ^ (at % 8)) ⌝ }
+    ensures { λ x. ⌜ set (now (bits .entry)) (at / 8) (getD (now (bits .entry)) (at / 8) 0 + bitOf mark sample * 2 ^ (at % 8)) ≡ now (bits .exit) ⌝ }
+{
+    if sample != mark {
+        let j = at / 8;
+        let old = bits[j];
+        bits[j] = old + weight(at % 8);
+    }
+}
+
+// Counting: searches for the sample.
+fn to_sample(reads: &[u8], from: usize, start: Numbers, q: usize) -> Sought
+    requires { ⌜ (from ≤ length (now reads)) × (start .run < q) × (q ≤ 8191) × (1 ≤ start .left) ⌝ }
+    ensures { λ x. ⌜ Lands from (length (now (reads .entry))) q x ⌝ }
+    ensures { λ x. ⌜ ((any : AnyReceiver) (k n : ℕ) (l : List ℕ) → length l ≡ start .found →
+        heardFrom any (settings k n q) (counting (start .left) (start .level) (start .run) l) from (drop from (now (reads .entry)))
+        ≡ soughtTold any (settings k n q) (λ run read. collected (settings k n q) run read (l ++ bitOf (start .level) read ∷ [])) l (now (reads .entry)) x) ⌝ }
+{
+    let level = start.level;
+    let found = start.found;
+    let mut run = start.run;
+    let mut left = start.left;
+    let mut i = from;
+    while i < reads.len() {
+        let read = reads[i];
+        if HIGH < read {
+            return Sought::Stopped(Heard::Bad(i));
+        }
+        i += 1;
+        run = longer(run, read);
+        if run == q {
+            return Sought::Stopped(Heard::Broken(found, i));
+        }
+        left -= 1;
+        if left == 0 {
+            return Sought::Found(i, run, read);
+        }
+    }
+    Sought::Stopped(Heard::Ended(Numbers {
+        mode: Mode::Counting,
+        run: run,
+        left: left,
+        level: level,
+        found: found,
+    }))
+}
+
+// Waiting: searches for the mark.
+fn to_mark(reads: &[u8], from: usize, start: Numbers, q: usize) -> Sought
+    requires { ⌜ (from ≤ length (now reads)) × (start .run < q) × (q ≤ 8191) ⌝ }
+    ensures { λ x. ⌜ Lands from (length (now (reads .entry))) q x ⌝ }
+    ensures { λ x. ⌜ ((any : AnyReceiver) (k n : ℕ) (l : List ℕ) → length l ≡ start .found →
+        heardFrom any (settings k n q) (waiting (start .level) (start .run) l) from (drop from (now (reads .entry)))
+        ≡ soughtTold any (settings k n q) (λ run read. marked (settings k n q) (waiting (start .level) (start .run) l) run read) l (now (reads .entry)) x) ⌝ }
+{
+    let level = start.level;
+    let found = start.found;
+    let mut run = start.run;
+    let mut i = from;
+    while i < reads.len() {
+        let read = reads[i];
+        if HIGH < read {
+            return Sought::Stopped(Heard::Bad(i));
+        }
+        i += 1;
+        run = longer(run, read);
+        if run == q {
+            return Sought::Stopped(Heard::Broken(found, i));
+        }
+        if read != level {
+            return Sought::Found(i, run, read);
+        }
+    }
+    Sought::Stopped(Heard::Ended(Numbers {
+        mode: Mode::Waiting,
+        run: run,
+        left: 0,
+        level: level,
+        found: found,
+    }))
+}
+
+// Listens from a place on in counting, cell by cell: to the sample, whose bit is put, and on to the next mark.
+fn from_counting(
+    reads: &[u8],
+    from: usize,
+    bits: &mut [u8; 128],
+    start: Numbers,
+    k: usize,
+    n: usize,
+    q: usize,
+) -> Heard
+    requires { ⌜ Keeps (settings k n q) start (now bits) ⌝ }
+    requires { ⌜ (start .mode ≡ CountingMode) × (from ≤ length (now reads)) ⌝ }
+    ensures { λ x. ⌜ ((any : AnyReceiver) →
+        heardFrom any (settings k n q) (stateOf (keeping (settings k n q) start (now (bits .entry)))) from (drop from (now (reads .entry)))
+        ≡ heardTold any (settings k n q) (length (now (reads .entry))) (now (bits .exit)) x) ⌝ }
+{
+    let mut i = from;
+    let mut numbers = start;
+    loop {
+        let sample = to_sample(reads, i, numbers, q);
+        match sample {
+            Sought::Stopped(heard) => {
+                return heard;
+            }
+            Sought::Found(used, run, read) => {
+                put(bits, numbers.found, numbers.level, read);
+                let found = numbers.found + 1;
+                if found == n {
+                    return Heard::Full(run, used);
+                }
+                i = used;
+                numbers = Numbers {
+                    mode: Mode::Waiting,
+                    run: run,
+                    left: 0,
+                    level: read,
+                    found: found,
+                };
+            }
+        }
+        let mark = to_mark(reads, i, numbers, q);
+        match mark {
+            Sought::Stopped(heard) => {
+                return heard;
+            }
+            Sought::Found(used, run, read) => {
+                let found = numbers.found;
+                i = used;
+                numbers = Numbers {
+                    mode: Mode::Counting,
+                    run: run,
+                    left: k,
+                    level: read,
+                    found: found,
+                };
+            }
+        }
+    }
 }

@@ -1,0 +1,45 @@
+-- A cell: its sample brings a bit, with which the row is full or goes on waiting, and the next mark begins the next cell.
+use Prim.Native.Nat.{ℕ, suc, _+_, _-_, _*_, _≤_, _<_}
+use mathlib.Core.Path.{_≡_, refl, sym, _∙_, ap}
+use mathlib.Core.List.{List, [], _∷_, _++_}
+use native.Mathlib.Omega.{arith}
+use borrow.Author.Tests.{eq-eqb, ne-eqb}
+use lib.ListN.{length, take, replicate}
+use lib.Seq.{take-at}
+use Rattle.board.specs.declared.Mode.the-variants.{Counting}
+use Rattle.board.specs.declared.Receiver.{Receiver}
+use Rattle.board.specs.declared.Numbers.{Numbers}
+use Rattle.board.specs.declared.Heard.the-variants.{Full}
+use Rattle.board.specs.Rows.{Settings, waiting, counting, collected}
+use Rattle.board.specs.Packed.{unpacked, kept, stateOf, receiverOf}
+use Rattle.board.specs.Listening.{keeping, Keeps, heardFrom, movedFrom, heardTold}
+use Rattle.board.proofs.PackedBits.{Binary, unpacked-packed}
+use Rattle.board.proofs.RowRules.{Ranged, valid-counting}
+use Rattle.board.proofs.KeepingLaws.{keeps-of, state-kept}
+
+-- a row's bits are had back from its bytes
+pub row-read : (l : List ℕ) (n : ℕ) → Binary l → length l ≡ n → n ≤ 1024 → take n (unpacked 8 (kept l)) ≡ l
+row-read l n b e h = rw (unpacked-packed 8 128 l b (omega arith)) (take-at l (replicate (128 * 8 - length l) 0) n e)
+
+pub row-full : (x : Receiver) (g : Settings) (run read used all : ℕ) (l bytes reads : List ℕ) → Binary l → length l ≡ g .n → g .n ≤ 1024 → kept l ≡ bytes
+    → movedFrom x g (collected g run read l) used reads ≡ heardTold x g all bytes (Full run used)
+row-full x g run read used all l bytes reads b e h k = rw (eq-eqb (length l) (g .n) e, ← k, row-read l (g .n) b e h)
+
+pub row-on : (x : Receiver) (g : Settings) (run read used : ℕ) (l reads : List ℕ) → (length l ≡ g .n → ⊥)
+    → movedFrom x g (collected g run read l) used reads ≡ heardFrom x g (waiting read run l) used reads
+row-on x g run read used l reads n = rw (ne-eqb (length l) (g .n) n)
+
+-- at a mark the numbers are those of counting with k left
+
+abbrev pub markedNumbers : ℕ → ℕ → ℕ → ℕ → Numbers
+markedNumbers k run read found = record { mode = Counting; run = run; left = k; level = read; found = found }
+
+module _ (g : Settings) (r : Ranged g) (run read found : ℕ) (l bytes : List ℕ) (below : run < g .Q) (level : read ≤ 1) (fewer : found < g .n) (b : Binary l) (e : length l ≡ found) (k : kept l ≡ bytes) where
+  marked-receiver : keeping g (markedNumbers (g .k) run read found) bytes ≡ receiverOf g (counting (g .k) read run l)
+  marked-receiver = rw (← e, ← k)
+
+  pub mark-keeps : Keeps g (markedNumbers (g .k) run read found) bytes
+  mark-keeps = keeps-of g (counting (g .k) read run l) _ bytes (valid-counting g r run read l below level (omega arith) b) marked-receiver
+
+  pub mark-state : stateOf (keeping g (markedNumbers (g .k) run read found) bytes) ≡ counting (g .k) read run l
+  mark-state = state-kept g (counting (g .k) read run l) _ bytes (valid-counting g r run read l below level (omega arith) b) marked-receiver

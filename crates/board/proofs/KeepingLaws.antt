@@ -1,0 +1,63 @@
+-- Numbers and bytes that make a well formed receiver: the bits that they keep, and how one bit more is kept.
+use Prim.Native.Nat.{ℕ, suc, _+_, _*_, _/_, _%_, _^_, _≤_, _<_}
+use mathlib.Core.Path.{_≡_, refl, sym, _∙_, ap}
+use mathlib.Core.List.{List, [], _∷_, _++_}
+use mathlib.Core.Bool.{true}
+use native.Mathlib.Omega.{arith}
+use lib.ListN.{length, getD, take, drop, set, length-append}
+use Rattle.board.specs.declared.Mode.{Mode}
+use Rattle.board.specs.declared.Mode.the-variants.{Counting, Waiting}
+use Rattle.board.specs.declared.Receiver.{Receiver}
+use Rattle.board.specs.declared.Numbers.{Numbers}
+use Rattle.board.specs.Rows.{Settings, State, counting, waiting}
+use Rattle.board.specs.Packed.{unpacked, kept, stateOf, receiverOf}
+use Rattle.board.specs.WellFormed.{wellFormed}
+use Rattle.board.specs.Listening.{keeping, Keeps}
+use Rattle.board.proofs.PackedBits.{Binary, binary-snoc}
+use Rattle.board.proofs.RowRules.{Fitting, Valid}
+use Rattle.board.proofs.Standing.{Facts, facts, valid-of, state-of-receiver, well-formed-of, one-more, room-for-one}
+
+-- the bits that numbers and bytes keep
+abbrev pub bitsIn : Numbers → List ℕ → List ℕ
+bitsIn now bytes = take (now .found) (unpacked 8 bytes)
+
+-- numbers and bytes that make the receiver of a well formed state keep it
+pub keeps-of : (g : Settings) (s : State) (now : Numbers) (bytes : List ℕ) → Valid g s → keeping g now bytes ≡ receiverOf g s → Keeps g now bytes
+keeps-of g s now bytes v e =
+    record {
+      well = ap wellFormed e ∙ well-formed-of g s v;
+      whole = ap (λ (x : Receiver). receiverOf g (stateOf x)) e ∙ ap (receiverOf g) (state-of-receiver g s v) ∙ sym e;
+    }
+
+pub state-kept : (g : Settings) (s : State) (now : Numbers) (bytes : List ℕ) → Valid g s → keeping g now bytes ≡ receiverOf g s → stateOf (keeping g now bytes) ≡ s
+state-kept g s now bytes v e = ap stateOf e ∙ state-of-receiver g s v
+
+module _ (g : Settings) (now : Numbers) (bytes : List ℕ) (keeps : Keeps g now bytes) where
+  pub kept-valid : Valid g (stateOf (keeping g now bytes))
+  kept-valid = valid-of (keeping g now bytes) (keeps .well)
+
+  pub kept-length : length (bitsIn now bytes) ≡ now .found
+  kept-length = ap (λ (x : Receiver). x .found) (keeps .whole)
+
+  pub kept-bytes : kept (bitsIn now bytes) ≡ bytes
+  kept-bytes = ap (λ (x : Receiver). x .bits) (keeps .whole)
+
+  pub counting-kept : now .mode ≡ Counting → stateOf (keeping g now bytes) ≡ counting (now .left) (now .level) (now .run) (bitsIn now bytes)
+  counting-kept m = ap (λ (mode : Mode). record { mode = mode; left = now .left; level = now .level; run = now .run; bits = bitsIn now bytes }) m
+
+  pub counting-fits : now .mode ≡ Counting → Fitting Counting g (now .run) (now .left) (now .found) (now .level)
+  counting-fits m = rw m at (facts (keeping g now bytes) (keeps .well) .fitting)
+
+  -- where there is room for a bit, its place holds 0
+  pub kept-room : now .found < 1024 → getD bytes (now .found / 8) 0 < 2 ^ (now .found % 8)
+  kept-room h = rw (kept-bytes, kept-length) at (room-for-one (bitsIn now bytes) (kept-valid .binary) (omega (arith, kept-length)))
+
+  pub kept-more : (v : ℕ) → now .found < 1024
+      → kept (bitsIn now bytes ++ v ∷ []) ≡ set bytes (now .found / 8) (getD bytes (now .found / 8) 0 + v * 2 ^ (now .found % 8))
+  kept-more v h = rw (kept-bytes, kept-length) at (one-more (bitsIn now bytes) v (omega (arith, kept-length)))
+
+  pub more-length : (v : ℕ) → length (bitsIn now bytes ++ v ∷ []) ≡ now .found + 1
+  more-length v = length-append (bitsIn now bytes) (v ∷ []) ∙ rw kept-length
+
+  pub more-binary : (v : ℕ) → v ≤ 1 → Binary (bitsIn now bytes ++ v ∷ [])
+  more-binary v h = binary-snoc (bitsIn now bytes) v (kept-valid .binary) h

@@ -1,0 +1,173 @@
+-- A receiver stands for a state: well formed, each is had back from the other, since packing and unpacking undo each other.
+use Prim.Native.Nat.{ℕ, suc, _+_, _-_, _*_, _/_, _%_, _^_, _≤_, _<_}
+use mathlib.Core.Path.{_≡_, refl, sym, _∙_, ap}
+use mathlib.Core.List.{List, [], _∷_, _++_}
+use mathlib.Core.Bool.{Bool, true, false, _&&_}
+use native.Mathlib.Omega.{arith}
+use native.Mathlib.Decide.{decLt}
+use borrow.Author.Tests.{lt-ltb, le-leb, eq-eqb, ltb-true, leb-true, eqb-true}
+use lib.Dec.{eqb, ltb, leb}
+use lib.ListN.{length, getD, take, drop, set, replicate, length-take, length-append, List·getD-eq-default}
+use lib.Seq.{getD-take, getD-drop, take-at}
+use Rattle.measure.specs.Choose.{between}
+use Rattle.measure.specs.Ranges.{sampling, rowBits, quiet}
+use Rattle.board.specs.declared.Mode.{Mode}
+use Rattle.board.specs.declared.Mode.the-variants.{Hunting, Ready, Counting, Waiting}
+use Rattle.board.specs.declared.Receiver.{Receiver}
+use Rattle.board.specs.Rows.{Settings, State, next}
+use Rattle.board.specs.Packed.{packed, unpacked, kept, settingsOf, stateOf, receiverOf}
+use Rattle.board.specs.WellFormed.{settingsFit, runFits, leftFits, foundFits, levelFits, allZero, unusedZero, wellFormed}
+use Rattle.board.proofs.PackedBits.{Binary, Words, binary-take, unpacked-binary, length-unpacked, length-packed, packed-words, packed-snoc, packed-low, packed-cong, packed-unpacked, unpacked-packed}
+use Rattle.board.proofs.UnusedBits.{and-left, and-right, zero-at, unused-packed}
+use Rattle.board.proofs.RowRules.{Ranged, Fitting, Valid, valid-next}
+
+-- the tests and what they say
+
+between-both : (least most x : ℕ) → between least most x ≡ true → (least ≤ x) × (x ≤ most)
+between-both least most x h =
+    (leb-true least x (and-left (leb least x) (leb x most) h), leb-true x most (and-right (leb least x) (leb x most) h))
+
+pub both-between : (least most x : ℕ) → least ≤ x → x ≤ most → between least most x ≡ true
+both-between least most x l m = simp (le-leb least x l, le-leb x most m)
+
+pub ranged-of : (g : Settings) → settingsFit (g .k) (g .n) (g .Q) ≡ true → Ranged g
+ranged-of g h =
+    let two = and-left (sampling (g .k) && rowBits (g .n)) (quiet (g .Q)) h in
+    let k = between-both 1 511 (g .k) (and-left (sampling (g .k)) (rowBits (g .n)) two) in
+    let n = between-both 1 1024 (g .n) (and-right (sampling (g .k)) (rowBits (g .n)) two) in
+    let q = between-both 2 8191 (g .Q) (and-right (sampling (g .k) && rowBits (g .n)) (quiet (g .Q)) h) in
+    record { k-least = k .0; k-most = k .1; n-least = n .0; n-most = n .1; Q-least = q .0; Q-most = q .1 }
+
+pub of-ranged : (g : Settings) → Ranged g → settingsFit (g .k) (g .n) (g .Q) ≡ true
+of-ranged g r =
+    simp (
+      both-between 1 511 (g .k) (r .k-least) (r .k-most),
+      both-between 1 1024 (g .n) (r .n-least) (r .n-most),
+      both-between 2 8191 (g .Q) (r .Q-least) (r .Q-most),
+    )
+
+-- the four tests of the numbers, in the order of the definition
+abbrev Numbered : Mode → Settings → ℕ → ℕ → ℕ → ℕ → Type 0
+Numbered m g run left found level =
+    (runFits m run (g .Q) ≡ true) × (leftFits m left (g .k) ≡ true) × (foundFits m found (g .n) ≡ true) × (levelFits m level ≡ true)
+
+fitting-of : (m : Mode) (g : Settings) (run left found level : ℕ) → Numbered m g run left found level → Fitting m g run left found level
+fitting-of Hunting g run left found level h = (ltb-true run (g .Q) (h .0), eqb-true left 0 (h .1), eqb-true found 0 (h .2), eqb-true level 1 (h .3))
+fitting-of Ready g run left found level h = (eqb-true run (g .Q) (h .0), eqb-true left 0 (h .1), eqb-true found 0 (h .2), eqb-true level 1 (h .3))
+fitting-of Counting g run left found level h =
+    let b = between-both 1 (g .k) left (h .1) in
+    (ltb-true run (g .Q) (h .0), b .0, b .1, ltb-true found (g .n) (h .2), leb-true level 1 (h .3))
+fitting-of Waiting g run left found level h = (ltb-true run (g .Q) (h .0), eqb-true left 0 (h .1), ltb-true found (g .n) (h .2), leb-true level 1 (h .3))
+
+of-fitting : (m : Mode) (g : Settings) (run left found level : ℕ) → Fitting m g run left found level → Numbered m g run left found level
+of-fitting Hunting g run left found level h = (lt-ltb run (g .Q) (h .0), eq-eqb left 0 (h .1), eq-eqb found 0 (h .2), eq-eqb level 1 (h .3))
+of-fitting Ready g run left found level h = (eq-eqb run (g .Q) (h .0), eq-eqb left 0 (h .1), eq-eqb found 0 (h .2), eq-eqb level 1 (h .3))
+of-fitting Counting g run left found level h =
+    (lt-ltb run (g .Q) (h .0), both-between 1 (g .k) left (h .1) (h .2), lt-ltb found (g .n) (h .3), le-leb level 1 (h .4))
+of-fitting Waiting g run left found level h = (lt-ltb run (g .Q) (h .0), eq-eqb left 0 (h .1), lt-ltb found (g .n) (h .2), le-leb level 1 (h .3))
+
+-- fewer bits fit as well
+fitting-fewer : (m : Mode) (g : Settings) (run left found fewer level : ℕ) → fewer ≤ found → Fitting m g run left found level → Fitting m g run left fewer level
+fitting-fewer Hunting g run left found fewer level p h = (h .0, h .1, omega arith, h .3)
+fitting-fewer Ready g run left found fewer level p h = (h .0, h .1, omega arith, h .3)
+fitting-fewer Counting g run left found fewer level p h = (h .0, h .1, h .2, omega arith, h .4)
+fitting-fewer Waiting g run left found fewer level p h = (h .0, h .1, omega arith, h .3)
+
+-- the bits found are fewer than a row's most
+found-most : (m : Mode) (g : Settings) (run left found level : ℕ) → Ranged g → Fitting m g run left found level → found < 1024
+found-most Hunting g run left found level r h = omega arith
+found-most Ready g run left found level r h = omega arith
+found-most Counting g run left found level r h = omega (arith, r .n-most)
+found-most Waiting g run left found level r h = omega (arith, r .n-most)
+
+-- what a well formed receiver is known by
+pub record Facts (x : Receiver) : Type 0 where
+  pub range : Ranged (settingsOf x)
+  pub fitting : Fitting (x .mode) (settingsOf x) (x .run .0) (x .left .0) (x .found) (x .level)
+  pub unused : unusedZero (x .found) (x .bits) ≡ true
+
+pub facts : (x : Receiver) → wellFormed x ≡ true → Facts x
+unfolding wellFormed
+facts x h =
+    let s = settingsFit (x .k .0) (x .n) (x .q .0) in
+    let r = runFits (x .mode) (x .run .0) (x .q .0) in
+    let l = leftFits (x .mode) (x .left .0) (x .k .0) in
+    let f = foundFits (x .mode) (x .found) (x .n) in
+    let v = levelFits (x .mode) (x .level) in
+    let five = and-left (s && r && l && f && v) (unusedZero (x .found) (x .bits)) h in
+    let four = and-left (s && r && l && f) v five in
+    let three = and-left (s && r && l) f four in
+    let two = and-left (s && r) l three in
+    record {
+      range = ranged-of (settingsOf x) (and-left s r two);
+      fitting =
+          fitting-of (x .mode) (settingsOf x) (x .run .0) (x .left .0) (x .found) (x .level)
+          (and-right s r two, and-right (s && r) l three, and-right (s && r && l) f four, and-right (s && r && l && f) v five);
+      unused = and-right (s && r && l && f && v) (unusedZero (x .found) (x .bits)) h;
+    }
+
+pub found-below : (x : Receiver) → Facts x → x .found < 1024
+found-below x h = found-most (x .mode) (settingsOf x) (x .run .0) (x .left .0) (x .found) (x .level) (h .range) (h .fitting)
+
+-- the state of a well formed receiver is well formed
+pub valid-of : (x : Receiver) → wellFormed x ≡ true → Valid (settingsOf x) (stateOf x)
+valid-of x h =
+    let f = facts x h in
+    record {
+      range = f .range;
+      fitting =
+          fitting-fewer (x .mode) (settingsOf x) (x .run .0) (x .left .0) (x .found) (length (take (x .found) (unpacked 8 (x .bits)))) (x .level)
+          (omega (arith, length-take (x .found) (unpacked 8 (x .bits)))) (f .fitting);
+      binary = binary-take (x .found) (unpacked 8 (x .bits)) (unpacked-binary 8 (x .bits));
+    }
+
+-- a well formed receiver of 128 bytes is the one that keeps its state
+
+module _ (x : Receiver) (long : length (x .bits) ≡ 128) (bytes : Words 8 (x .bits)) (h : wellFormed x ≡ true) where
+  pub found-is : length (take (x .found) (unpacked 8 (x .bits))) ≡ x .found
+  found-is = omega (arith, length-take (x .found) (unpacked 8 (x .bits)), length-unpacked 8 (x .bits), found-below x (facts x h))
+
+  unused-at : (i : ℕ) → x .found ≤ i → getD (unpacked 8 (x .bits)) i 0 ≡ 0
+  unfolding unusedZero
+  unused-at i p =
+      let e : x .found + (i - x .found) ≡ i = omega arith in
+      rw e at (sym (getD-drop (x .found) (unpacked 8 (x .bits)) (i - x .found) 0) ∙ zero-at (drop (x .found) (unpacked 8 (x .bits))) (i - x .found) (facts x h .unused))
+
+  taken-at : (i : ℕ) → getD (take (x .found) (unpacked 8 (x .bits))) i 0 ≡ getD (unpacked 8 (x .bits)) i 0
+  taken-at i = go (decLt i (x .found))
+    where
+      go : Dec (i < x .found) → getD (take (x .found) (unpacked 8 (x .bits))) i 0 ≡ getD (unpacked 8 (x .bits)) i 0
+      go (yes p) = getD-take (x .found) (unpacked 8 (x .bits)) i 0 p
+      go (no p) =
+          List·getD-eq-default (take (x .found) (unpacked 8 (x .bits))) 0 {n = i} (omega (arith, found-is)) ∙ sym (unused-at i (omega arith))
+
+  pub bits-are : kept (take (x .found) (unpacked 8 (x .bits))) ≡ x .bits
+  bits-are = packed-cong 8 128 (take (x .found) (unpacked 8 (x .bits))) (unpacked 8 (x .bits)) taken-at ∙ packed-unpacked 8 128 (x .bits) long bytes
+
+  pub receiver-of-state : receiverOf (settingsOf x) (stateOf x) ≡ x
+  receiver-of-state = rw (found-is, bits-are)
+
+-- a well formed state is that of the receiver which keeps it, and that receiver is well formed
+
+module _ (g : Settings) (s : State) (v : Valid g s) where
+  bits-below : length (s .bits) < 1024
+  bits-below = found-most (s .mode) g (s .run) (s .left) (length (s .bits)) (s .level) (v .range) (v .fitting)
+
+  pub state-of-receiver : stateOf (receiverOf g s) ≡ s
+  state-of-receiver =
+      rw (unpacked-packed 8 128 (s .bits) (v .binary) (omega (arith, bits-below)), take-at (s .bits) (replicate (128 * 8 - length (s .bits)) 0) (length (s .bits)) refl)
+
+  pub well-formed-of : wellFormed (receiverOf g s) ≡ true
+  unfolding wellFormed unusedZero
+  well-formed-of =
+      let n = of-fitting (s .mode) g (s .run) (s .left) (length (s .bits)) (s .level) (v .fitting) in
+      simp (of-ranged g (v .range), n .0, n .1, n .2, n .3, unused-packed 8 128 (s .bits) (v .binary) (omega (arith, bits-below)))
+
+-- one bit more
+
+pub one-more : (bits : List ℕ) (v : ℕ) → length bits < 1024
+    → kept (bits ++ v ∷ []) ≡ set (kept bits) (length bits / 8) (getD (kept bits) (length bits / 8) 0 + v * 2 ^ (length bits % 8))
+one-more bits v h = packed-snoc 8 128 bits v (length bits / 8) (length bits % 8) (omega arith) (omega arith) (omega arith)
+
+pub room-for-one : (bits : List ℕ) → Binary bits → length bits < 1024 → getD (kept bits) (length bits / 8) 0 < 2 ^ (length bits % 8)
+room-for-one bits b h = packed-low 8 128 bits (length bits / 8) (length bits % 8) b (omega arith) (omega arith) (omega arith)

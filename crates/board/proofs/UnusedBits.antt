@@ -1,0 +1,138 @@
+-- The bit places from a place on hold 0 exactly where the word that the place falls in stays below the place's weight and every later word is 0.
+use Prim.Native.Nat.{ℕ, zero, suc, _+_, _-_, _*_, _/_, _%_, _^_, _≤_, _<_}
+use mathlib.Core.Path.{_≡_, refl, sym, _∙_, ap}
+use mathlib.Core.List.{List, [], _∷_, _++_}
+use mathlib.Core.Bool.{Bool, true, false, _&&_, and-assoc}
+use native.Mathlib.Nat.{pow-succ', zero-mul, suc-mul}
+use native.Mathlib.Numerals.{add-one}
+use native.Mathlib.Omega.{arith}
+use native.Mathlib.Decide.{decLt, decLe}
+use borrow.Author.Tests.{lt-ltb, le-ltb, le-leb, lt-leb, eq-eqb, ne-eqb, eqb-true}
+use lib.Dec.{eqb, ltb, eqb·suc-suc, eqb·zero-suc}
+use lib.ListN.{length, getD, take, drop, replicate}
+use lib.Seq.{drop-append-le, drop-append-add, drop-at, getD-drop, drop-cons}
+use Rattle.measure.specs.Lists.{firstAbove}
+use Rattle.board.specs.Packed.{digits, packed, unpacked}
+use Rattle.board.specs.WellFormed.{allZero, unusedZero}
+use Rattle.board.proofs.PackedBits.{Binary, Words, length-digits, unpacked-packed}
+
+pub and-left : (a b : Bool) → (a && b) ≡ true → a ≡ true
+and-left true b h = refl
+and-left false b h = h
+
+pub and-right : (a b : Bool) → (a && b) ≡ true → b ≡ true
+and-right true b h = h
+and-right false b h = absurd (let z : _≡_ {A = ℕ} 0 1 = cc in omega arith)
+
+-- all entries are 0
+
+pub zero-at : (l : List ℕ) (i : ℕ) → allZero l ≡ true → getD l i 0 ≡ 0
+zero-at [] i h = refl
+zero-at (x ∷ l) zero h = eqb-true x 0 (and-left (eqb x 0) (allZero l) h)
+zero-at (x ∷ l) (suc i) h = zero-at l i (and-right (eqb x 0) (allZero l) h)
+
+zero-replicate : (n : ℕ) → allZero (replicate n 0) ≡ true
+zero-replicate zero = refl
+zero-replicate (suc n) = zero-replicate n
+
+zero-append : (l t : List ℕ) → allZero (l ++ t) ≡ (allZero l && allZero t)
+zero-append [] t = refl
+zero-append (x ∷ l) t = rw (zero-append l t) (sym (and-assoc (eqb x 0) (allZero l) (allZero t)))
+
+-- no entry is above 0
+pub zero-above : (l : List ℕ) → allZero l ≡ eqb (firstAbove 0 l) (length l)
+unfolding firstAbove
+zero-above [] = refl
+zero-above (x ∷ l) = go (decLe x 0) (zero-above l)
+  where
+    go : Dec (x ≤ 0) → allZero l ≡ eqb (firstAbove 0 l) (length l) → allZero (x ∷ l) ≡ eqb (firstAbove 0 (x ∷ l)) (suc (length l))
+    go (yes p) e = rw (le-leb x 0 p, eq-eqb x 0 (omega arith)) (e ∙ sym (eqb·suc-suc (firstAbove 0 l) (length l)))
+    go (no p) e = rw (lt-leb x 0 (omega arith), ne-eqb x 0 (λ z. omega arith)) (sym (eqb·zero-suc (length l)))
+
+-- two tests that hold of the same numbers are one test
+same-test : (a b c d : ℕ) → (a < b → c < d) → (b ≤ a → d ≤ c) → ltb a b ≡ ltb c d
+same-test a b c d f g = go (decLt a b)
+  where
+    go : Dec (a < b) → ltb a b ≡ ltb c d
+    go (yes p) = lt-ltb a b p ∙ sym (lt-ltb c d (f p))
+    go (no p) = le-ltb a b (omega arith) ∙ sym (le-ltb c d (g (omega arith)))
+
+zero-test : (x : ℕ) → eqb x 0 ≡ ltb x 1
+zero-test x = go (decLt x 1)
+  where
+    go : Dec (x < 1) → eqb x 0 ≡ ltb x 1
+    go (yes p) = eq-eqb x 0 (omega arith) ∙ sym (lt-ltb x 1 p)
+    go (no p) = ne-eqb x 0 (λ e. omega arith) ∙ sym (le-ltb x 1 (omega arith))
+
+zero-halved : (x : ℕ) → (eqb (x % 2) 0 && ltb (x / 2) 1) ≡ ltb x 1
+zero-halved x = go (decLt (x % 2) 1)
+  where
+    go : Dec (x % 2 < 1) → (eqb (x % 2) 0 && ltb (x / 2) 1) ≡ ltb x 1
+    go (yes p) = rw (eq-eqb (x % 2) 0 (omega arith)) (same-test (x / 2) 1 x 1 (λ h. omega arith) (λ h. omega arith))
+    go (no p) = rw (ne-eqb (x % 2) 0 (λ e. omega arith)) (sym (le-ltb x 1 (omega arith)))
+
+-- the digits of a word from a place on are 0 where the word is below the place's weight
+zero-digits : (w x r : ℕ) → r ≤ w → x < 2 ^ w → allZero (drop r (digits w x)) ≡ ltb x (2 ^ r)
+unfolding digits
+zero-digits zero x zero hr h = sym (lt-ltb x 1 h)
+zero-digits zero x (suc r) hr h = absurd (omega arith)
+zero-digits (suc w) x zero hr h = rw (zero-digits w (x / 2) zero (omega arith) (omega (arith, pow-succ' 2 w))) (zero-halved x)
+zero-digits (suc w) x (suc r) hr h =
+    zero-digits w (x / 2) r (omega arith) (omega (arith, pow-succ' 2 w))
+    ∙ same-test (x / 2) (2 ^ r) x (2 ^ suc r) (λ p. omega (arith, pow-succ' 2 r)) (λ p. omega (arith, pow-succ' 2 r))
+
+zero-unpacked : (w : ℕ) (words : List ℕ) → Words w words → allZero (unpacked w words) ≡ allZero words
+unfolding unpacked
+zero-unpacked w [] h = refl
+zero-unpacked w (x ∷ words) h =
+    zero-append (digits w x) (unpacked w words)
+    ∙ rw (zero-digits w x 0 (omega arith) (h 0), zero-unpacked w words (λ i. h (suc i)), zero-test x) refl
+
+-- by words
+pub unused-words : (w : ℕ) (words : List ℕ) (q r : ℕ) → r < w → q < length words → Words w words
+    → allZero (drop (q * w + r) (unpacked w words)) ≡ (ltb (getD words q 0) (2 ^ r) && allZero (drop (suc q) words))
+unfolding unpacked
+unused-words w [] q r hr hq h = absurd (omega arith)
+unused-words w (x ∷ words) zero r hr hq h =
+    let e : 0 * w + r ≡ r = omega (arith, zero-mul w) in
+    rw (
+      e,
+      drop-append-le r (digits w x) (unpacked w words) (omega (arith, length-digits w x)),
+      zero-append (drop r (digits w x)) (unpacked w words),
+      zero-digits w x r (omega arith) (h 0),
+      zero-unpacked w words (λ i. h (suc i)),
+    )
+unused-words w (x ∷ words) (suc q) r hr hq h =
+    let e : suc q * w + r ≡ length (digits w x) + (q * w + r) = omega (arith, suc-mul q w, length-digits w x) in
+    rw (e, drop-append-add (digits w x) (unpacked w words) (q * w + r)) (unused-words w words q r hr (omega arith) (λ i. h (suc i)))
+
+-- after bits that were packed, every place holds 0
+pub unused-packed : (w m : ℕ) (l : List ℕ) → Binary l → length l ≤ m * w → allZero (drop (length l) (unpacked w (packed w m l))) ≡ true
+unused-packed w m l b h =
+    rw (unpacked-packed w m l b h, drop-at l (replicate (m * w - length l) 0) (length l) refl) (zero-replicate (m * w - length l))
+
+-- bytes: a bit too many in the byte in which the next one falls
+
+split-bytes : (bytes : List ℕ) (found : ℕ) → found / 8 < length bytes → Words 8 bytes
+    → unusedZero found bytes ≡ (ltb (getD bytes (found / 8) 0) (2 ^ (found % 8)) && allZero (drop (suc (found / 8)) bytes))
+unfolding unusedZero
+split-bytes bytes found h words =
+    let e : found ≡ found / 8 * 8 + found % 8 = omega arith in
+    ap (λ (n : ℕ). allZero (drop n (unpacked 8 bytes))) e ∙ unused-words 8 bytes (found / 8) (found % 8) (omega arith) h words
+
+pub unused-over : (bytes : List ℕ) (found : ℕ) → found / 8 < length bytes → Words 8 bytes → 2 ^ (found % 8) ≤ getD bytes (found / 8) 0 → unusedZero found bytes ≡ false
+unused-over bytes found h words p = split-bytes bytes found h words ∙ rw (le-ltb (getD bytes (found / 8) 0) (2 ^ (found % 8)) p)
+
+-- otherwise all turns on the bytes that hold no bit found, of which that byte may be the first
+pub unused-rest : (bytes : List ℕ) (found : ℕ) → found / 8 < length bytes → Words 8 bytes → getD bytes (found / 8) 0 < 2 ^ (found % 8)
+    → unusedZero found bytes ≡ allZero (drop ((found + 7) / 8) bytes)
+unused-rest bytes found h words p =
+    split-bytes bytes found h words ∙ rw (lt-ltb (getD bytes (found / 8) 0) (2 ^ (found % 8)) p) (go (decLe (found % 8) 0))
+  where
+    go : Dec (found % 8 ≤ 0) → allZero (drop (suc (found / 8)) bytes) ≡ allZero (drop ((found + 7) / 8) bytes)
+    go (yes z) =
+        let r : found % 8 ≡ 0 = omega arith in
+        let e : (found + 7) / 8 ≡ found / 8 = omega arith in
+        let low : getD bytes (found / 8) 0 < 1 = rw r at p in
+        rw (e, drop-cons bytes (found / 8) 0 h, eq-eqb (getD bytes (found / 8) 0) 0 (omega arith)) refl
+    go (no z) = let e : (found + 7) / 8 ≡ suc (found / 8) = omega arith in rw e

@@ -1,0 +1,82 @@
+-- Listening, read by read. The private functions promise each other what stands here; no public promise cites it.
+use Prim.Native.Nat.{ℕ, suc, _+_, _≤_, _<_}
+use mathlib.Core.Path.{_≡_}
+use mathlib.Core.Bool.{true}
+use mathlib.Core.List.{List, [], _∷_}
+use lib.ListN.{length, take, drop}
+use lib.Dec.{leb, eqb}
+use Rattle.measure.specs.Choose.{choose}
+use Rattle.measure.specs.Refusals.{given}
+use Rattle.board.specs.Rows.{Settings, State, Happening, nothing, row, broken, Moved, hunting, ready, next}
+use Rattle.board.specs.Packed.{unpacked, kept, stateOf, receiverOf}
+use Rattle.board.specs.WellFormed.{wellFormed}
+use Rattle.board.specs.Refusals.{Outcome, reached, refusing}
+use Rattle.board.specs.declared.Receiver.{Receiver}
+use Rattle.board.specs.declared.Numbers.{Numbers}
+use Rattle.board.specs.declared.Heard.{Heard}
+use Rattle.board.specs.declared.Heard.the-variants.{Ended, Bad, Full, Broken}
+use Rattle.board.specs.declared.Sought.{Sought}
+use Rattle.board.specs.declared.Sought.the-variants.{Found, Stopped}
+
+abbrev pub settings : ℕ → ℕ → ℕ → Settings
+settings k n Q = record { k = k; n = n; Q = Q }
+
+-- the receiver that keeps settings, numbers and bytes
+abbrev pub keeping : Settings → Numbers → List ℕ → Receiver
+keeping g now bytes =
+    record {
+      k = record { 0 = g .k };
+      n = g .n;
+      q = record { 0 = g .Q };
+      mode = now .mode;
+      run = record { 0 = now .run };
+      left = record { 0 = now .left };
+      level = now .level;
+      found = now .found;
+      bits = bytes;
+    }
+
+-- they make a well formed receiver, and one that is had back from its state: no bit is lost in the bytes
+pub record Keeps (g : Settings) (now : Numbers) (bytes : List ℕ) : Type 0 where
+  pub well : wellFormed (keeping g now bytes) ≡ true
+  pub whole : receiverOf g (stateOf (keeping g now bytes)) ≡ keeping g now bytes
+
+-- a run below Q after a read: a high read adds one, a low one makes it 0
+abbrev pub longer : ℕ → ℕ → ℕ
+longer run read = choose (eqb read 1) (run + 1) 0
+
+-- a move that brings an event is the outcome, with the reads used by then; one that brings nothing leaves it to what follows
+abbrev pub onward : Settings → State → Happening → ℕ → Outcome × ℕ → Outcome × ℕ
+onward g s nothing used rest = rest
+onward g s (row bits) used rest = (reached g s (row bits), used)
+onward g s (broken found) used rest = (reached g s (broken found), used)
+
+-- the outcome of reads from a state on, the first of them at this place: up to the first event, the first read that is no level, or the end
+unfoldable pub heardFrom : Receiver → Settings → State → ℕ → List ℕ → Outcome × ℕ
+heardFrom x g s place [] = (reached g s nothing, place)
+heardFrom x g s place (read ∷ reads) =
+    choose (leb read 1)
+    (onward g (next g s read .state) (next g s read .event) (suc place) (heardFrom x g (next g s read .state) (suc place) reads))
+    (refusing x 2 place, 0)
+
+-- the same from a move on
+abbrev pub movedFrom : Receiver → Settings → Moved → ℕ → List ℕ → Outcome × ℕ
+movedFrom x g m place reads = onward g (m .state) (m .event) place (heardFrom x g (m .state) place reads)
+
+-- what each case of the code says, beside the bytes that it leaves and the number of all reads
+abbrev pub heardTold : Receiver → Settings → ℕ → List ℕ → Heard → Outcome × ℕ
+heardTold x g all bytes (Ended now) = (record { receiver = keeping g now bytes; answer = given nothing; row = kept [] }, all)
+heardTold x g all bytes (Bad place) = (refusing x 2 place, 0)
+heardTold x g all bytes (Full run used) =
+    (record { receiver = receiverOf g (hunting run); answer = given (row (take (g .n) (unpacked 8 bytes))); row = bytes }, used)
+heardTold x g all bytes (Broken found used) = (reached g (ready (g .Q)) (broken found), used)
+
+-- the same for a search among the reads: where it finds its read, what is done with that read follows
+abbrev pub soughtTold : Receiver → Settings → (ℕ → ℕ → Moved) → List ℕ → List ℕ → Sought → Outcome × ℕ
+soughtTold x g done bits reads (Found used run read) = movedFrom x g (done run read) used (drop used reads)
+soughtTold x g done bits reads (Stopped heard) = heardTold x g (length reads) (kept bits) heard
+
+-- a read that is found stands after the place of departure, is a level, and leaves the run below Q
+abbrev pub Lands : ℕ → ℕ → ℕ → Sought → Type 0
+Lands from all Q (Found used run read) = (from < used) × (used ≤ all) × (run < Q) × (read ≤ 1)
+Lands from all Q (Stopped heard) = Unit {0}
