@@ -10,11 +10,11 @@ use Rattle.board.specs.declared.Mode.the-variants.{Counting}
 use Rattle.board.specs.declared.Receiver.{Receiver}
 use Rattle.board.specs.declared.Numbers.{Numbers}
 use Rattle.board.specs.declared.Heard.the-variants.{Full}
-use Rattle.board.specs.Rows.{Settings, waiting, counting, collected}
+use Rattle.board.specs.Rows.{Settings, State, waiting, counting, collected}
 use Rattle.board.specs.Packed.{unpacked, kept, stateOf, receiverOf}
 use Rattle.board.specs.Listening.{keeping, Keeps, heardFrom, movedFrom, heardTold}
 use Rattle.board.proofs.PackedBits.{Binary, unpacked-packed}
-use Rattle.board.proofs.RowRules.{Ranged, valid-counting}
+use Rattle.board.proofs.RowRules.{Ranged, Valid, valid-counting}
 use Rattle.board.proofs.KeepingLaws.{keeps-of, state-kept}
 
 -- a row's bits are had back from its bytes
@@ -34,12 +34,27 @@ row-on x g run read used l reads n = rw (ne-eqb (length l) (g .n) n)
 abbrev pub markedNumbers : ℕ → ℕ → ℕ → ℕ → Numbers
 markedNumbers k run read found = record { mode = Counting; run = run; left = k; level = read; found = found }
 
-module _ (g : Settings) (r : Ranged g) (run read found : ℕ) (l bytes : List ℕ) (below : run < g .Q) (level : read ≤ 1) (fewer : found < g .n) (b : Binary l) (e : length l ≡ found) (k : kept l ≡ bytes) where
+-- what is known there: the run and the level of the mark, and the bits so far with the bytes that keep them
+pub record Marked (g : Settings) (run read found : ℕ) (l bytes : List ℕ) : Type 0 where
+  pub range : Ranged g
+  pub below : run < g .Q
+  pub level : read ≤ 1
+  pub fewer : found < g .n
+  pub binary : Binary l
+  pub size : length l ≡ found
+  pub same : kept l ≡ bytes
+
+module _ {g : Settings} {run read found : ℕ} {l bytes : List ℕ} (m : Marked g run read found l bytes) where
+  marked-valid : Valid g (counting (g .k) read run l)
+  marked-valid = valid-counting g (m .range) run read l (m .below) (m .level) (omega (arith, m .size, m .fewer)) (m .binary)
+
   marked-receiver : keeping g (markedNumbers (g .k) run read found) bytes ≡ receiverOf g (counting (g .k) read run l)
-  marked-receiver = rw (← e, ← k)
+  marked-receiver = rw (← m .size, ← m .same)
 
   pub mark-keeps : Keeps g (markedNumbers (g .k) run read found) bytes
-  mark-keeps = keeps-of g (counting (g .k) read run l) _ bytes (valid-counting g r run read l below level (omega arith) b) marked-receiver
+  mark-keeps = keeps-of g (counting (g .k) read run l) (markedNumbers (g .k) run read found) bytes marked-valid marked-receiver
 
-  pub mark-state : stateOf (keeping g (markedNumbers (g .k) run read found) bytes) ≡ counting (g .k) read run l
-  mark-state = state-kept g (counting (g .k) read run l) _ bytes (valid-counting g r run read l below level (omega arith) b) marked-receiver
+  pub mark-heard : (x : Receiver) (i : ℕ) (reads : List ℕ)
+      → heardFrom x g (counting (g .k) read run l) i reads ≡ heardFrom x g (stateOf (keeping g (markedNumbers (g .k) run read found) bytes)) i reads
+  mark-heard x i reads =
+      ap (λ (s : State). heardFrom x g s i reads) (sym (state-kept g (counting (g .k) read run l) (markedNumbers (g .k) run read found) bytes marked-valid marked-receiver))

@@ -6,10 +6,10 @@ use mathlib.Core.Bool.{true}
 use native.Mathlib.Omega.{arith}
 use lib.ListN.{length, getD, take, drop, set, length-append}
 use Rattle.board.specs.declared.Mode.{Mode}
-use Rattle.board.specs.declared.Mode.the-variants.{Counting, Waiting}
+use Rattle.board.specs.declared.Mode.the-variants.{Hunting, Ready, Counting, Waiting}
 use Rattle.board.specs.declared.Receiver.{Receiver}
 use Rattle.board.specs.declared.Numbers.{Numbers}
-use Rattle.board.specs.Rows.{Settings, State, counting, waiting}
+use Rattle.board.specs.Rows.{Settings, State, hunting, ready, counting, waiting}
 use Rattle.board.specs.Packed.{unpacked, kept, stateOf, receiverOf}
 use Rattle.board.specs.WellFormed.{wellFormed}
 use Rattle.board.specs.Listening.{keeping, Keeps}
@@ -42,11 +42,42 @@ module _ (g : Settings) (now : Numbers) (bytes : List ℕ) (keeps : Keeps g now 
   pub kept-bytes : kept (bitsIn now bytes) ≡ bytes
   kept-bytes = ap (λ (x : Receiver). x .bits) (keeps .whole)
 
-  pub counting-kept : now .mode ≡ Counting → stateOf (keeping g now bytes) ≡ counting (now .left) (now .level) (now .run) (bitsIn now bytes)
-  counting-kept m = ap (λ (mode : Mode). record { mode = mode; left = now .left; level = now .level; run = now .run; bits = bitsIn now bytes }) m
+  -- the state that is kept, by its mode
+
+  fits : (m : Mode) → now .mode ≡ m → Fitting m g (now .run) (now .left) (now .found) (now .level)
+  fits m e = rw e at (facts (keeping g now bytes) (keeps .well) .fitting)
+
+  kept-as : (s : State) → now .mode ≡ s .mode → now .left ≡ s .left → now .level ≡ s .level → now .run ≡ s .run → bitsIn now bytes ≡ s .bits
+      → stateOf (keeping g now bytes) ≡ s
+  kept-as s m f l r b = rw (m, f, l, r, b)
 
   pub counting-fits : now .mode ≡ Counting → Fitting Counting g (now .run) (now .left) (now .found) (now .level)
-  counting-fits m = rw m at (facts (keeping g now bytes) (keeps .well) .fitting)
+  counting-fits m = fits Counting m
+
+  pub counting-kept : now .mode ≡ Counting → stateOf (keeping g now bytes) ≡ counting (now .left) (now .level) (now .run) (bitsIn now bytes)
+  counting-kept m = kept-as (counting (now .left) (now .level) (now .run) (bitsIn now bytes)) m refl refl refl refl
+
+  pub waiting-fits : now .mode ≡ Waiting → Fitting Waiting g (now .run) (now .left) (now .found) (now .level)
+  waiting-fits m = fits Waiting m
+
+  pub waiting-kept : now .mode ≡ Waiting → stateOf (keeping g now bytes) ≡ waiting (now .level) (now .run) (bitsIn now bytes)
+  waiting-kept m = kept-as (waiting (now .level) (now .run) (bitsIn now bytes)) m (fits Waiting m .1) refl refl refl
+
+  none-in : now .found ≡ 0 → bitsIn now bytes ≡ []
+  none-in e = rw e
+
+  none-kept : now .found ≡ 0 → kept [] ≡ bytes
+  none-kept e = rw (none-in e) at kept-bytes
+
+  pub hunting-kept : now .mode ≡ Hunting → (stateOf (keeping g now bytes) ≡ hunting (now .run)) × (kept [] ≡ bytes) × (now .run < g .Q)
+  hunting-kept m =
+      let f = fits Hunting m in
+      (kept-as (hunting (now .run)) m (f .1) (f .3) refl (none-in (f .2)), none-kept (f .2), f .0)
+
+  pub ready-kept : now .mode ≡ Ready → (stateOf (keeping g now bytes) ≡ ready (g .Q)) × (kept [] ≡ bytes)
+  ready-kept m =
+      let f = fits Ready m in
+      (kept-as (ready (g .Q)) m (f .1) (f .3) (f .0) (none-in (f .2)), none-kept (f .2))
 
   -- where there is room for a bit, its place holds 0
   pub kept-room : now .found < 1024 → getD bytes (now .found / 8) 0 < 2 ^ (now .found % 8)

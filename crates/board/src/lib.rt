@@ -354,3 +354,129 @@ fn from_counting(
         }
     }
 }
+
+// Listens in waiting: on to the mark, and from there in counting.
+fn from_waiting(
+    reads: &[u8],
+    bits: &mut [u8; 128],
+    start: Numbers,
+    k: usize,
+    n: usize,
+    q: usize,
+) -> Heard
+    requires { ⌜ Keeps (settings k n q) start (now bits) ⌝ }
+    requires { ⌜ start .mode ≡ WaitingMode ⌝ }
+    ensures { λ x. ⌜ ((any : AnyReceiver) →
+        heardFrom any (settings k n q) (stateOf (keeping (settings k n q) start (now (bits .entry)))) 0 (now (reads .entry))
+        ≡ heardTold any (settings k n q) (length (now (reads .entry))) (now (bits .exit)) x) ⌝ }
+{
+    let mark = to_mark(reads, 0, start, q);
+    match mark {
+        Sought::Stopped(heard) => heard,
+        Sought::Found(used, run, read) => {
+            let found = start.found;
+            let numbers = Numbers {
+                mode: Mode::Counting,
+                run: run,
+                left: k,
+                level: read,
+                found: found,
+            };
+            from_counting(reads, used, bits, numbers, k, n, q)
+        }
+    }
+}
+
+// Listens from a place on in ready: past the high reads, and from a low one in counting.
+fn from_ready(
+    reads: &[u8],
+    from: usize,
+    bits: &mut [u8; 128],
+    k: usize,
+    n: usize,
+    q: usize,
+) -> Heard
+    requires { ⌜ (settingsFit k n q ≡ true) × (kept [] ≡ now bits) × (from ≤ length (now reads)) ⌝ }
+    ensures { λ x. ⌜ ((any : AnyReceiver) →
+        heardFrom any (settings k n q) (ready q) from (drop from (now (reads .entry)))
+        ≡ heardTold any (settings k n q) (length (now (reads .entry))) (now (bits .exit)) x) ⌝ }
+{
+    let mut i = from;
+    while i < reads.len() {
+        let read = reads[i];
+        if HIGH < read {
+            return Heard::Bad(i);
+        }
+        i += 1;
+        if read == 0 {
+            let numbers = Numbers {
+                mode: Mode::Counting,
+                run: 0,
+                left: k,
+                level: 0,
+                found: 0,
+            };
+            return from_counting(reads, i, bits, numbers, k, n, q);
+        }
+    }
+    Heard::Ended(Numbers {
+        mode: Mode::Ready,
+        run: q,
+        left: 0,
+        level: HIGH,
+        found: 0,
+    })
+}
+
+// Listens in hunting: until the run is q, and from there in ready.
+fn from_hunting(
+    reads: &[u8],
+    bits: &mut [u8; 128],
+    start: usize,
+    k: usize,
+    n: usize,
+    q: usize,
+) -> Heard
+    requires { ⌜ (settingsFit k n q ≡ true) × (kept [] ≡ now bits) × (start < q) ⌝ }
+    ensures { λ x. ⌜ ((any : AnyReceiver) →
+        heardFrom any (settings k n q) (hunting start) 0 (now (reads .entry))
+        ≡ heardTold any (settings k n q) (length (now (reads .entry))) (now (bits .exit)) x) ⌝ }
+{
+    let mut i = 0;
+    let mut run = start;
+    while i < reads.len() {
+        let read = reads[i];
+        if HIGH < read {
+            return Heard::Bad(i);
+        }
+        i += 1;
+        run = longer(run, read);
+        if run == q {
+            return from_ready(reads, i, bits, k, n, q);
+        }
+    }
+    Heard::Ended(Numbers {
+        mode: Mode::Hunting,
+        run: run,
+        left: 0,
+        level: HIGH,
+        found: 0,
+    })
+}
+
+// Listens to reads until the first event, the first read that is no level, or the end.
+fn hear(reads: &[u8], bits: &mut [u8; 128], start: Numbers, k: usize, n: usize, q: usize) -> Heard
+    requires { ⌜ Keeps (settings k n q) start (now bits) ⌝ }
+    ensures { λ x. ⌜ ((any : AnyReceiver) →
+        heardFrom any (settings k n q) (stateOf (keeping (settings k n q) start (now (bits .entry)))) 0 (now (reads .entry))
+        ≡ heardTold any (settings k n q) (length (now (reads .entry))) (now (bits .exit)) x) ⌝ }
+{
+    let mode = start.mode;
+    let run = start.run;
+    match mode {
+        Mode::Hunting => from_hunting(reads, bits, run, k, n, q),
+        Mode::Ready => from_ready(reads, 0, bits, k, n, q),
+        Mode::Counting => from_counting(reads, 0, bits, start, k, n, q),
+        Mode::Waiting => from_waiting(reads, bits, start, k, n, q),
+    }
+}

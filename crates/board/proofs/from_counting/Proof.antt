@@ -12,7 +12,7 @@ use Rattle.board.specs.Packed.{kept, stateOf}
 use Rattle.board.specs.Listening.{settings, keeping, Keeps, heardFrom, soughtTold, Lands}
 use Rattle.board.specs.declared.Sought.the-variants.{Found}
 use Rattle.board.proofs.PackedBits.{Binary}
-use Rattle.board.proofs.CellLaws.{row-full, row-on, mark-keeps, mark-state}
+use Rattle.board.proofs.CellLaws.{row-full, row-on, Marked, mark-keeps, mark-heard}
 use Rattle.board.proofs.RowRules.{Ranged, Fitting, bit-most}
 use Rattle.board.proofs.Standing.{Facts, facts}
 use Rattle.board.proofs.KeepingLaws.{bitsIn, keeps-of, state-kept, kept-valid, kept-length, kept-bytes, counting-kept, counting-fits, kept-room, kept-more, more-length, more-binary}
@@ -165,19 +165,28 @@ loop-less c =
     let p = c .before .before .before .before .before .before in
     omega (arith, mark-landed (c .before) .0, mark-landed (c .before) .1, landed p .0)
 
+marked-here : (c : tie.After-mark2 Inv-loop μ-loop)
+    → Marked (g (start-of (c .before .before .before .before .before))) (c .mark2 .given .0 .1 .0) (c .mark2 .given .0 .1 .1 .0)
+    (loop-of (c .before .before .before .before .before) .loop .numbers .found + 1) (more (c .before .before .before .before .before)) (c .before .before .before .before .before .put .last .0)
+marked-here c =
+    let p = c .before .before .before .before .before in
+    record {
+      range = range (loop-of p);
+      below = mark-landed c .2;
+      level = mark-landed c .3;
+      fewer = omega (arith, fits (loop-of p) .3, c .before .before .before .if1 .left);
+      binary = more-bits p;
+      size = more-found p;
+      same = more-kept p;
+    }
+
 loop-again : tie.Need-loop-again Inv-loop μ-loop
-loop-again c =
-    let p = c .before .before .before .before .before .before in
-    let m = c .before .mark2 .given in
-    let f = mark-landed (c .before) in
-    let fewer : loop-of p .loop .numbers .found + 1 < start-of p .args .n = omega (arith, fits (loop-of p) .3, c .before .before .before .before .if1 .left) in (
-      f .1,
-      refl,
-      mark-keeps (g (start-of p)) (range (loop-of p)) (m .0 .1 .0) (m .0 .1 .1 .0) _ (more p) _ (f .2) (f .3) fewer (more-bits p) (more-found p) (more-kept p),
-      λ x. rw (m .1) at (waited (c .before .before .before) x)
-          ∙ ap (λ (t : State). heardFrom x (g (start-of p)) t (m .0 .0) (drop (m .0 .0) (now (start-of p .args .reads))))
-          (sym (mark-state (g (start-of p)) (range (loop-of p)) (m .0 .1 .0) (m .0 .1 .1 .0) _ (more p) _ (f .2) (f .3) fewer (more-bits p) (more-found p) (more-kept p))),
-    )
+loop-again c = (
+  mark-landed (c .before) .1,
+  refl,
+  mark-keeps (marked-here (c .before)),
+  λ x. rw (c .before .mark2 .given .1) at (waited (c .before .before .before) x) ∙ mark-heard (marked-here (c .before)) x _ _,
+)
 
 pub from-counting-spec : {M : Type 1} → statement M
 from-counting-spec =
