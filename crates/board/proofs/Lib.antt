@@ -6,3 +6,4 @@ pub mod FeedingLaws
 pub mod ListeningLaws
 pub mod KeepingLaws
 pub mod CellLaws
+pub mod ListenedLaws

@@ -80,6 +80,19 @@ found-most Ready g run left found level r h = omega arith
 found-most Counting g run left found level r h = omega (arith, r .n-most)
 found-most Waiting g run left found level r h = omega (arith, r .n-most)
 
+-- by the tests alone
+pub found-fits-most : (m : Mode) (k n Q found : ℕ) → settingsFit k n Q ≡ true → foundFits m found n ≡ true → found < 1024
+found-fits-most m k n Q found s f = go m f
+  where
+    r : Ranged (record { k = k; n = n; Q = Q })
+    r = ranged-of (record { k = k; n = n; Q = Q }) s
+
+    go : (m : Mode) → foundFits m found n ≡ true → found < 1024
+    go Hunting f = omega (arith, eqb-true found 0 f)
+    go Ready f = omega (arith, eqb-true found 0 f)
+    go Counting f = omega (arith, ltb-true found n f, r .n-most)
+    go Waiting f = omega (arith, ltb-true found n f, r .n-most)
+
 -- what a well formed receiver is known by
 pub record Facts (x : Receiver) : Type 0 where
   pub range : Ranged (settingsOf x)

@@ -480,3 +480,71 @@ fn hear(reads: &[u8], bits: &mut [u8; 128], start: Numbers, k: usize, n: usize, 
         Mode::Waiting => from_waiting(reads, bits, start, k, n, q),
     }
 }
+
+impl Receiver {
+    // Gives a receiver with which to start: hunting, run 0, no bits. Refused with 1 where k, n or Q is out of range: the
+    // receiver that comes back is then hunting with all numbers 0.
+    pub fn fresh(k: ReadCycles, n: usize, q: ReadCycles) -> Started
+        ensures { λ x. ⌜ begun (k .0) n (q .0) ≡ (startTold (x .start), x .receiver) ⌝ }
+    {
+        let zeros = none();
+        if !settings_fit(k.0, n, q.0) {
+            let receiver = Receiver {
+                k: ReadCycles(0),
+                n: 0,
+                q: ReadCycles(0),
+                mode: Mode::Hunting,
+                run: ReadCycles(0),
+                left: ReadCycles(0),
+                level: 0,
+                found: 0,
+                bits: zeros,
+            };
+            return Started {
+                receiver: receiver,
+                start: Start::Refused(Refusal::Setting),
+            };
+        }
+        let receiver = Receiver {
+            k: k,
+            n: n,
+            q: q,
+            mode: Mode::Hunting,
+            run: ReadCycles(0),
+            left: ReadCycles(0),
+            level: HIGH,
+            found: 0,
+            bits: zeros,
+        };
+        Started {
+            receiver: receiver,
+            start: Start::Fresh,
+        }
+    }
+
+    // Tells whether the state is well formed: every receiver that was handed back, and every one that was not changed since,
+    // is. Refuses nothing.
+    pub fn well_formed(self) -> bool
+        ensures { λ x. ⌜ x ≡ wellFormed self ⌝ }
+    {
+        let mode = self.mode;
+        let found = self.found;
+        let bits = self.bits;
+        if !settings_fit(self.k.0, self.n, self.q.0) {
+            return false;
+        }
+        if !run_fits(mode, self.run.0, self.q.0) {
+            return false;
+        }
+        if !left_fits(mode, self.left.0, self.k.0) {
+            return false;
+        }
+        if !found_fits(mode, found, self.n) {
+            return false;
+        }
+        if !level_fits(mode, self.level) {
+            return false;
+        }
+        unused_zero(&bits, found)
+    }
+}
