@@ -9,7 +9,8 @@ ghost use Rattle.board.specs.declared.Receiver.{Receiver as AnyReceiver}
 ghost use Rattle.board.specs.Rows.{hunting, ready, counting, waiting, bitOf, collected, marked};
 ghost use Rattle.board.specs.Packed.{kept, stateOf};
 ghost use Rattle.board.specs.WellFormed.{settingsFit, runFits, leftFits, foundFits, levelFits, unusedZero, wellFormed};
-ghost use Rattle.board.specs.Refusals.{begun, startTold, stepped, stepTold, listened, listenTold};
+ghost use Rattle.measure.specs.Refusals.{numberOf, placeOf};
+ghost use Rattle.board.specs.Refusals.{begun, startTold, stepped, stepTold, listened, listenTold, refusing};
 ghost use Rattle.board.specs.Listening.{settings, keeping, Keeps, longer as longerRun, heardFrom, heardTold, soughtTold, Lands};
 use measure::BITS_LEAST;
 use measure::BITS_MOST;
@@ -546,5 +547,120 @@ impl Receiver {
             return false;
         }
         unused_zero(&bits, found)
+    }
+
+    // The receiver as it came, nothing done.
+    fn refused(self, refusal: Refusal) -> Listened
+        ensures { λ x. ⌜ (refusing self (numberOf refusal) (placeOf refusal), 0) ≡ listenTold x ⌝ }
+    {
+        let zeros = none();
+        Listened {
+            receiver: self,
+            event: Event::Refused(refusal),
+            row: zeros,
+            used: ReadCycles(0),
+        }
+    }
+
+    // Gives the receiver after reads up to and with the first that brings an event, or after all, with that event and the number
+    // of reads used; a delivered row's bits stand beside the event, and otherwise 0 in every place there. Refused with 1
+    // where the state is not well formed, with 3 where there are more reads than a list may have, and with 2 and its place at a
+    // read that is no level where no event comes before it. After a refusal the receiver is as it came, and no read is used.
+    // Reads after the event are not looked at, so whoever goes on from there pays for each read once.
+    pub fn listen(self, reads: &[u8]) -> Listened
+        ensures { λ x. ⌜ listened self (now (reads .entry)) ≡ listenTold x ⌝ }
+    {
+        if !self.well_formed() {
+            return self.refused(Refusal::Setting);
+        }
+        if ENTRIES_MOST < reads.len() {
+            return self.refused(Refusal::Limit);
+        }
+        let k = self.k.0;
+        let n = self.n;
+        let q = self.q.0;
+        let mode = self.mode;
+        let mut bits = self.bits;
+        let start = Numbers {
+            mode: mode,
+            run: self.run.0,
+            left: self.left.0,
+            level: self.level,
+            found: self.found,
+        };
+        let zeros = none();
+        let heard = hear(reads, &mut bits, start, k, n, q);
+        match heard {
+            Heard::Bad(place) => self.refused(Refusal::Entry(place)),
+            Heard::Full(run, used) => Listened {
+                receiver: Receiver {
+                    k: ReadCycles(k),
+                    n: n,
+                    q: ReadCycles(q),
+                    mode: Mode::Hunting,
+                    run: ReadCycles(run),
+                    left: ReadCycles(0),
+                    level: HIGH,
+                    found: 0,
+                    bits: zeros,
+                },
+                event: Event::Row,
+                row: bits,
+                used: ReadCycles(used),
+            },
+            Heard::Broken(found, used) => Listened {
+                receiver: Receiver {
+                    k: ReadCycles(k),
+                    n: n,
+                    q: ReadCycles(q),
+                    mode: Mode::Ready,
+                    run: ReadCycles(q),
+                    left: ReadCycles(0),
+                    level: HIGH,
+                    found: 0,
+                    bits: zeros,
+                },
+                event: Event::Broken(found),
+                row: zeros,
+                used: ReadCycles(used),
+            },
+            Heard::Ended(numbers) => {
+                let mode = numbers.mode;
+                Listened {
+                    receiver: Receiver {
+                        k: ReadCycles(k),
+                        n: n,
+                        q: ReadCycles(q),
+                        mode: mode,
+                        run: ReadCycles(numbers.run),
+                        left: ReadCycles(numbers.left),
+                        level: numbers.level,
+                        found: numbers.found,
+                        bits: bits,
+                    },
+                    event: Event::Nothing,
+                    row: zeros,
+                    used: ReadCycles(reads.len()),
+                }
+            }
+        }
+    }
+
+    // Gives the receiver after one read, with its event; a delivered row's bits stand beside the event, and otherwise 0 in every
+    // place there. Refused with 1 where the state is not well formed and with 2 where the read is no level; the receiver is
+    // then as it came.
+    pub fn step(self, read: u8) -> Stepped
+        ensures { λ x. ⌜ stepped self read ≡ stepTold x ⌝ }
+    {
+        let reads = [read];
+        let out = self.listen(&reads);
+        let receiver = out.receiver;
+        let event = out.event;
+        let row = out.row;
+        Stepped {
+            receiver: receiver,
+            event: event,
+            row: row,
+        }
     }
 }

@@ -1,0 +1,124 @@
+-- `listen` meets its contract: the state and the length are judged in the definition's order, and the rest is what was heard read by read.
+use mathlib.Core.Path.{_≡_, sym, _∙_}
+use mathlib.Core.Bool.{true, false}
+use borrow.Author.Needs.{needs}
+use borrow.Author.Tests.{not-true, not-false, lt-ltb, le-ltb}
+use denote.Ref.{now}
+use lib.ListN.{length, getD}
+use mir.Syntax.{w8}
+use mir.Val.{Fits}
+use Rattle.board.specs.Packed.{settingsOf, stateOf}
+use Rattle.board.specs.WellFormed.{wellFormed}
+use Rattle.board.specs.Refusals.{listened}
+use Rattle.board.specs.Listening.{heardFrom}
+use Rattle.board.proofs.PackedBits.{Words}
+use Rattle.board.proofs.Standing.{receiver-of-state}
+use Rattle.board.proofs.ListenedLaws.{listened-is}
+use Rattle.board.proofs.Receiver.listen.Statement.{statement}
+use Rattle.board.proofs.Receiver.listen.Tie as tie
+
+long : (c : tie.Start) → length (c .args .self .bits) ≡ 128
+long c = search needs
+
+bytes : (c : tie.Start) → Words 8 (c .args .self .bits)
+bytes c i = let f : Fits w8 (getD (c .args .self .bits) i 0) = search needs in f .fits
+
+well : (c : tie.Else1) → wellFormed (c .before .before .before .args .self) ≡ true
+well c = sym (c .before .well-formed .ensures) ∙ not-false _ (c .if1 .left)
+
+-- the state and the length are good
+judged : (c : tie.Else2)
+    → listened (c .before .before .before .before .args .self) (now (c .before .before .before .before .args .reads))
+    ≡ heardFrom (c .before .before .before .before .args .self) (settingsOf (c .before .before .before .before .args .self)) (stateOf (c .before .before .before .before .args .self)) 0 (now (c .before .before .before .before .args .reads))
+judged c =
+    let a = c .before .before .before .before .args in
+    listened-is (a .self) (now (a .reads)) ∙ rw (well (c .before), le-ltb 1048576 (length (now (a .reads))) (c .if2 .left))
+
+well-formed-requires : tie.Need-well-formed-requires
+well-formed-requires c κs = search needs
+
+refused-requires : tie.Need-refused-requires
+refused-requires c κs = search needs
+
+returns : tie.Need-returns
+returns c =
+    let a = c .before .before .before .before .args in
+    let e : wellFormed (a .self) ≡ false = sym (c .before .before .well-formed .ensures) ∙ not-true _ (c .before .if1 .taken) in
+    listened-is (a .self) (now (a .reads)) ∙ rw e (c .refused .ensures)
+
+refused-requires-2 : tie.Need-refused-requires-2
+refused-requires-2 c κs = search needs
+
+returns-2 : tie.Need-returns-2
+returns-2 c =
+    let a = c .before .before .before .before .before .args in
+    listened-is (a .self) (now (a .reads)) ∙ rw (well (c .before .before), lt-ltb 1048576 (length (now (a .reads))) (c .before .if2 .taken)) (c .refused2 .ensures)
+
+none-requires : tie.Need-none-requires
+none-requires c κs = search needs
+
+hear-requires : tie.Need-hear-requires
+hear-requires c κs =
+    let e = c .before .before .before in
+    let s = e .before .before .before .before in
+    record { well = well (e .before); whole = receiver-of-state (s .args .self) (long s) (bytes s) (well (e .before)) }
+
+enum-known-heard : tie.Need-enum-known-heard
+enum-known-heard c = search needs
+
+refused-requires-3 : tie.Need-refused-requires-3
+refused-requires-3 c κs = search needs
+
+enum-known-heard-2 : tie.Need-enum-known-heard-2
+enum-known-heard-2 c = search needs
+
+enum-known-heard-3 : tie.Need-enum-known-heard-3
+enum-known-heard-3 c = search needs
+
+enum-known-heard-4 : tie.Need-enum-known-heard-4
+enum-known-heard-4 c = search needs
+
+returns-3 : tie.Need-returns-3
+returns-3 c =
+    let h = c .before .before .before .before in
+    let x = h .before .before .before .before .before .before .before .before .args .self in
+    judged (h .before .before .before .before) ∙ rw (c .before .before .heard .given .1) at (h .hear .ensures x) ∙ c .refused3 .ensures
+
+returns-4 : tie.Need-returns-4
+returns-4 c =
+    let h = c .before .before .before in
+    let x = h .before .before .before .before .before .before .before .before .args .self in
+    judged (h .before .before .before .before) ∙ rw (c .before .heard2 .given .1) at (h .hear .ensures x) ∙ rw (h .before .before .none .ensures)
+
+returns-5 : tie.Need-returns-5
+returns-5 c =
+    let h = c .before .before .before in
+    let x = h .before .before .before .before .before .before .before .before .args .self in
+    judged (h .before .before .before .before) ∙ rw (c .before .heard3 .given .1) at (h .hear .ensures x) ∙ rw (h .before .before .none .ensures)
+
+returns-6 : tie.Need-returns-6
+returns-6 c =
+    let h = c .before .before .before in
+    let x = h .before .before .before .before .before .before .before .before .args .self in
+    judged (h .before .before .before .before) ∙ rw (c .before .heard4 .given .1) at (h .hear .ensures x) ∙ rw (h .before .before .none .ensures)
+
+pub listen-spec : {M : Type 1} → statement M
+listen-spec =
+    tie.close
+    (tie.spec
+    well-formed-requires
+    refused-requires
+    returns
+    refused-requires-2
+    returns-2
+    none-requires
+    hear-requires
+    enum-known-heard
+    refused-requires-3
+    enum-known-heard-2
+    enum-known-heard-3
+    enum-known-heard-4
+    returns-3
+    returns-4
+    returns-5
+    returns-6)
