@@ -1,1 +1,4 @@
 pub mod CasesHold
+pub mod Groups
+pub mod Places
+pub mod Headings

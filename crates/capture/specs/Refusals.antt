@@ -8,9 +8,11 @@ use Rattle.measure.specs.Choose.{choose}
 use Rattle.measure.specs.Ranges.{sampling, rowBits, quiet, entriesMost}
 use Rattle.measure.specs.Lists.{onto}
 use Rattle.measure.specs.Refusals.{Answer, given, refused, refusedAfter, denied, ranged, limited, entered, lent}
-use Rattle.capture.specs.Numbers.{Numeral}
+use Rattle.capture.specs.Numbers.{Group, value, cut, long, Numeral}
 use Rattle.capture.specs.Capture.{Heading, Capture, then, capture, readsOf}
 use Rattle.capture.specs.Writing.{captureOf}
+use Rattle.capture.specs.declared.Front.{Front}
+use Rattle.capture.specs.declared.Front.the-variants.{Value, Cut, Long}
 use Rattle.capture.specs.declared.Number.{Number}
 use Rattle.capture.specs.declared.Number.the-variants.{Is, Refused as NumberRefused}
 use Rattle.capture.specs.declared.Header.{Header}
@@ -58,13 +60,20 @@ written k n Q reads output =
     (lent (captureOf k n Q reads) output)))
 
 -- what each case of the code's answers says
+abbrev pub frontTold : Front → Group
+frontTold (Value v size) = value v size
+frontTold Cut = cut
+frontTold Long = long
+
 abbrev pub numberTold : Number → Answer Numeral
 numberTold (Is v after) = given (record { value = v; after = after })
 numberTold (NumberRefused refusal) = denied refusal
 
+abbrev pub headed : Header → Heading
+headed h = record { k = h .k .0; n = h .n; Q = h .q .0; level = h .level; level-at = h .«level_at»; after = h .after }
+
 abbrev pub headTold : Head → Answer Heading
-headTold (Found h) =
-    given (record { k = h .k .0; n = h .n; Q = h .q .0; level = h .level; level-at = h .«level_at»; after = h .after })
+headTold (Found h) = given (headed h)
 headTold (HeadRefused refusal) = denied refusal
 
 abbrev pub told : Checked → Answer Summary

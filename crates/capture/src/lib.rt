@@ -1,6 +1,32 @@
 // The capture file: numbers in groups of seven bits, a header of four numbers, and the runs of equal reads.
+use measure::BITS_LEAST;
+use measure::BITS_MOST;
+use measure::HIGH;
+use measure::QUIET_LEAST;
+use measure::QUIET_MOST;
 use measure::ReadCycles;
 use measure::Refusal;
+use measure::SAMPLING_LEAST;
+use measure::SAMPLING_MOST;
+use measure::between;
+ghost use mathlib.Core.Path.{_≡_};
+ghost use Prim.Native.Nat.{ℕ, _≤_, _<_};
+ghost use lib.ListN.{drop};
+ghost use Rattle.measure.specs.Choose.{between as isBetween};
+ghost use Rattle.capture.specs.Numbers.{before, bound, following, further, group, numberAt};
+ghost use Rattle.capture.specs.Capture.{fittingAt, heading};
+ghost use Rattle.capture.specs.Refusals.{frontTold, headTold, numberTold};
+
+// The weight of a byte's top bit: the seven bits below it are a group.
+const TOP_BIT: usize = 128;
+
+// At most so many bytes follow a number's first, and where all of them do the last is at most this.
+const FURTHER: usize = 2;
+
+const LAST_MOST: usize = 127;
+
+// The greatest first level.
+const LEVEL_MOST: usize = HIGH as usize;
 
 // What stands at a place of a capture.
 pub enum Number {
@@ -45,4 +71,147 @@ pub enum Written {
     // The capture stands at the front of the lent output and has so many bytes.
     Bytes(usize),
     Refused(Refusal),
+}
+
+// What stands at the front of bytes: a number and how many bytes it has; a number that is cut off by the end; or no
+// number, for a long form or too many bytes.
+enum Front {
+    Value(usize, usize),
+    Cut,
+    Long,
+}
+
+fn wide(byte: u8) -> usize
+    ensures { λ x. ⌜ x ≡ byte ⌝ }
+{
+    byte as usize
+}
+
+// A byte with its top bit set, before the groups that follow it.
+fn prefixed(byte: usize, rest: Front) -> Front
+    requires { ⌜ (128 ≤ byte) × (byte < 256) ⌝ }
+    requires { ⌜ ((v size : ℕ) → rest ≡ Front.Value v size → (v < bound further) × (size ≤ further)) ⌝ }
+    ensures { λ x. ⌜ before byte (frontTold rest) ≡ frontTold x ⌝ }
+{
+    let Front::Value(v, size) = rest else {
+        return rest;
+    };
+    let low = byte - TOP_BIT;
+    let high = TOP_BIT * v;
+    let whole = low + high;
+    let bytes = size + 1;
+    Front::Value(whole, bytes)
+}
+
+// A byte that follows another of its number, and at most `more` after it. A last byte of 0 is not the shortest form.
+fn following_at(bytes: &[u8], at: usize, more: usize) -> Front
+    requires { ⌜ more < further ⌝ }
+    ensures { λ x. ⌜ following more (drop at (now (bytes .entry))) ≡ frontTold x ⌝ }
+{
+    if bytes.len() <= at {
+        return Front::Cut;
+    }
+    let byte = wide(bytes[at]);
+    if byte == 0 {
+        return Front::Long;
+    }
+    if more == 0 {
+        if byte <= LAST_MOST {
+            return Front::Value(byte, 1);
+        }
+        return Front::Long;
+    }
+    if byte < TOP_BIT {
+        return Front::Value(byte, 1);
+    }
+    let next = at + 1;
+    let fewer = more - 1;
+    prefixed(byte, following_at(bytes, next, fewer))
+}
+
+// The number whose first byte stands at a place.
+fn front_at(bytes: &[u8], at: usize) -> Front
+    ensures { λ x. ⌜ group further (drop at (now (bytes .entry))) ≡ frontTold x ⌝ }
+{
+    if bytes.len() <= at {
+        return Front::Cut;
+    }
+    let byte = wide(bytes[at]);
+    if byte < TOP_BIT {
+        return Front::Value(byte, 1);
+    }
+    let next = at + 1;
+    let fewer = FURTHER - 1;
+    prefixed(byte, following_at(bytes, next, fewer))
+}
+
+// Gives the number at a place and the place after it. Refuses with 6 where the bytes end inside it or before it, and
+// with 7 where it is too long or not in shortest form; the refusal's place is the number's first byte.
+pub fn number_at(bytes: &[u8], at: usize) -> Number
+    ensures { λ x. ⌜ numberAt (now (bytes .entry)) at ≡ numberTold x ⌝ }
+{
+    let front = front_at(bytes, at);
+    match front {
+        Front::Value(v, size) => {
+            let after = at + size;
+            Number::Is(v, after)
+        }
+        Front::Cut => Number::Refused(Refusal::Cut(at)),
+        Front::Long => Number::Refused(Refusal::Form(at)),
+    }
+}
+
+// A number that has to lie from `least` to `most`: refusal 8 where it does not, and 6 or 7 before that.
+fn fitting_at(bytes: &[u8], at: usize, least: usize, most: usize) -> Number
+    ensures { λ x. ⌜ fittingAt (isBetween least most) (now (bytes .entry)) at ≡ numberTold x ⌝ }
+{
+    let number = number_at(bytes, at);
+    let Number::Is(v, _) = number else {
+        return number;
+    };
+    if between(least, most, v) {
+        return number;
+    }
+    Number::Refused(Refusal::Range(at))
+}
+
+// The refusal of a number that cannot be had, handed on as it came.
+fn refusal_of(number: Number) -> Refusal
+    ensures { λ x. ⌜ ((refusal : Refusal) → number ≡ Number.Refused refusal → x ≡ refusal) ⌝ }
+{
+    match number {
+        Number::Refused(refusal) => refusal,
+        Number::Is(_, _) => Refusal::Setting,
+    }
+}
+
+// Gives the first four numbers of a capture, with the level's place and the place after it. Refuses with 6 or 7 where
+// one cannot be had and with 8 where one is out of range, from the left; the refusal's place is the number's first byte.
+pub fn read_heading(bytes: &[u8]) -> Head
+    ensures { λ x. ⌜ heading (now (bytes .entry)) ≡ headTold x ⌝ }
+{
+    let first = fitting_at(bytes, 0, SAMPLING_LEAST, SAMPLING_MOST);
+    let Number::Is(k, n_at) = first else {
+        return Head::Refused(refusal_of(first));
+    };
+    let second = fitting_at(bytes, n_at, BITS_LEAST, BITS_MOST);
+    let Number::Is(n, q_at) = second else {
+        return Head::Refused(refusal_of(second));
+    };
+    let third = fitting_at(bytes, q_at, QUIET_LEAST, QUIET_MOST);
+    let Number::Is(q, level_at) = third else {
+        return Head::Refused(refusal_of(third));
+    };
+    let fourth = fitting_at(bytes, level_at, 0, LEVEL_MOST);
+    let Number::Is(level, after) = fourth else {
+        return Head::Refused(refusal_of(fourth));
+    };
+    Head::Found(Header {
+        k: ReadCycles(k),
+        n: n,
+        q: ReadCycles(q),
+        level: level,
+        level_at: level_at,
+        after: after,
+    })
 }
