@@ -36,8 +36,11 @@ summary c =
     }
 
 -- checking: the summary, or the capture's refusal
+abbrev pub summed : Answer Capture → Answer Summary
+summed answer = then answer (λ c. given (summary c))
+
 unfoldable pub checked : List ℕ → Answer Summary
-checked bytes = then (capture bytes) (λ c. given (summary c))
+checked bytes = summed (capture bytes)
 
 -- a capture's reads into a lent output: refusal 4 comes after all the rest
 abbrev pub unrolled : Answer Capture → List ℕ → Answer Summary × List ℕ

@@ -1,6 +1,8 @@
 // The capture file: numbers in groups of seven bits, a header of four numbers, and the runs of equal reads.
 use measure::BITS_LEAST;
 use measure::BITS_MOST;
+use measure::CAPTURE_MOST;
+use measure::ENTRIES_MOST;
 use measure::HIGH;
 use measure::QUIET_LEAST;
 use measure::QUIET_MOST;
@@ -14,8 +16,8 @@ ghost use Prim.Native.Nat.{ℕ, _≤_, _<_};
 ghost use lib.ListN.{drop};
 ghost use Rattle.measure.specs.Choose.{between as isBetween};
 ghost use Rattle.capture.specs.Numbers.{before, bound, following, further, group, numberAt};
-ghost use Rattle.capture.specs.Capture.{fittingAt, heading};
-ghost use Rattle.capture.specs.Refusals.{frontTold, headTold, numberTold};
+ghost use Rattle.capture.specs.Capture.{fittingAt, heading, runsFrom, then, withRuns};
+ghost use Rattle.capture.specs.Refusals.{checked, frontTold, headTold, headed, numberTold, summed, told};
 
 // The weight of a byte's top bit: the seven bits below it are a group.
 const TOP_BIT: usize = 128;
@@ -24,6 +26,9 @@ const TOP_BIT: usize = 128;
 const FURTHER: usize = 2;
 
 const LAST_MOST: usize = 127;
+
+// The greatest total of the runs.
+const TOTAL_MOST: usize = ENTRIES_MOST;
 
 // The greatest first level.
 const LEVEL_MOST: usize = HIGH as usize;
@@ -176,7 +181,7 @@ fn fitting_at(bytes: &[u8], at: usize, least: usize, most: usize) -> Number
 }
 
 // The refusal of a number that cannot be had, handed on as it came.
-fn refusal_of(number: Number) -> Refusal
+fn number_refusal(number: Number) -> Refusal
     ensures { λ x. ⌜ ((refusal : Refusal) → number ≡ Number.Refused refusal → x ≡ refusal) ⌝ }
 {
     match number {
@@ -192,19 +197,19 @@ pub fn read_heading(bytes: &[u8]) -> Head
 {
     let first = fitting_at(bytes, 0, SAMPLING_LEAST, SAMPLING_MOST);
     let Number::Is(k, n_at) = first else {
-        return Head::Refused(refusal_of(first));
+        return Head::Refused(number_refusal(first));
     };
     let second = fitting_at(bytes, n_at, BITS_LEAST, BITS_MOST);
     let Number::Is(n, q_at) = second else {
-        return Head::Refused(refusal_of(second));
+        return Head::Refused(number_refusal(second));
     };
     let third = fitting_at(bytes, q_at, QUIET_LEAST, QUIET_MOST);
     let Number::Is(q, level_at) = third else {
-        return Head::Refused(refusal_of(third));
+        return Head::Refused(number_refusal(third));
     };
     let fourth = fitting_at(bytes, level_at, 0, LEVEL_MOST);
     let Number::Is(level, after) = fourth else {
-        return Head::Refused(refusal_of(fourth));
+        return Head::Refused(number_refusal(fourth));
     };
     Head::Found(Header {
         k: ReadCycles(k),
@@ -214,4 +219,71 @@ pub fn read_heading(bytes: &[u8]) -> Head
         level_at: level_at,
         after: after,
     })
+}
+
+// The refusal of a heading that cannot be had, handed on as it came.
+fn head_refusal(head: Head) -> Refusal
+    ensures { λ x. ⌜ ((refusal : Refusal) → head ≡ Head.Refused refusal → x ≡ refusal) ⌝ }
+{
+    match head {
+        Head::Refused(refusal) => refusal,
+        Head::Found(_) => Refusal::Setting,
+    }
+}
+
+// Walks the runs behind a heading to the end of the file and sums the capture up. Refuses with 6 or 7 where a run cannot
+// be had, with 8 for a run of 0 and for the first with which the total is too large, and with 8 at the level's byte where
+// the first level is 0 and there is no run.
+fn check_runs(bytes: &[u8], head: Header) -> Checked
+    ensures { λ x. ⌜ summed (then (runsFrom 0 0 (head .after) (drop (head .after) (now (bytes .entry)))) (withRuns (headed head))) ≡ told x ⌝ }
+{
+    let k = head.k;
+    let q = head.q;
+    let level_at = head.level_at;
+    let mut at = head.after;
+    let mut reads = 0;
+    let mut runs = 0;
+    while at < bytes.len() {
+        let number = number_at(bytes, at);
+        let Number::Is(run, next) = number else {
+            return Checked::Refused(number_refusal(number));
+        };
+        if run < 1 {
+            return Checked::Refused(Refusal::Range(at));
+        }
+        let total = reads + run;
+        if TOTAL_MOST < total {
+            return Checked::Refused(Refusal::Range(at));
+        }
+        reads = total;
+        runs += 1;
+        at = next;
+    }
+    if head.level == 0 {
+        if runs == 0 {
+            return Checked::Refused(Refusal::Range(level_at));
+        }
+    }
+    Checked::Capture(Summary {
+        k: k,
+        n: head.n,
+        q: q,
+        reads: reads,
+        runs: runs,
+    })
+}
+
+// Tells whether bytes are a capture, and sums it up: its settings, and how many reads and runs it has. Refuses with 3 for
+// too many bytes, and then with the first of 6, 7 and 8 from the left.
+pub fn check(bytes: &[u8]) -> Checked
+    ensures { λ x. ⌜ checked (now (bytes .entry)) ≡ told x ⌝ }
+{
+    if CAPTURE_MOST < bytes.len() {
+        return Checked::Refused(Refusal::Limit);
+    }
+    let head = read_heading(bytes);
+    let Head::Found(h) = head else {
+        return Checked::Refused(head_refusal(head));
+    };
+    check_runs(bytes, h)
 }

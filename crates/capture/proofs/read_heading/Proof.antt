@@ -16,13 +16,13 @@ enum-known-first c = search needs
 enum-told : tie.Need-enum-told
 enum-told c = search needs
 
-refusal-of-requires : tie.Need-refusal-of-requires
-refusal-of-requires c κs = search needs
+number-refusal-requires : tie.Need-number-refusal-requires
+number-refusal-requires c κs = search needs
 
 returns : tie.Need-returns
 returns c =
     heading-no-k (c .before .before .before .before .before .args .bytes .now) _ _ (c .before .before .before .fitting-at .ensures ∙ ap numberTold (c .before .enum-told .given .1))
-    ∙ ap denied (sym (c .refusal-of .ensures _ (c .before .enum-told .given .1)))
+    ∙ ap denied (sym (c .number-refusal .ensures _ (c .before .enum-told .given .1)))
 
 fitting-at-requires-2 : tie.Need-fitting-at-requires-2
 fitting-at-requires-2 c κs = search needs
@@ -33,15 +33,15 @@ enum-known-second c = search needs
 enum-told-2 : tie.Need-enum-told-2
 enum-told-2 c = search needs
 
-refusal-of-requires-2 : tie.Need-refusal-of-requires-2
-refusal-of-requires-2 c κs = search needs
+number-refusal-requires-2 : tie.Need-number-refusal-requires-2
+number-refusal-requires-2 c κs = search needs
 
 returns-2 : tie.Need-returns-2
 returns-2 c =
     let first = c .before .before .before .before .before in
     heading-no-n (c .before .before .before .before .before .before .before .before .before .args .bytes .now) _ _ (first .before .before .fitting-at .ensures ∙ ap numberTold (first .first .given .1))
     (c .before .before .before .fitting-at2 .ensures ∙ ap numberTold (c .before .enum-told2 .given .1))
-    ∙ ap denied (sym (c .refusal-of2 .ensures _ (c .before .enum-told2 .given .1)))
+    ∙ ap denied (sym (c .number-refusal2 .ensures _ (c .before .enum-told2 .given .1)))
 
 fitting-at-requires-3 : tie.Need-fitting-at-requires-3
 fitting-at-requires-3 c κs = search needs
@@ -52,8 +52,8 @@ enum-known-third c = search needs
 enum-told-3 : tie.Need-enum-told-3
 enum-told-3 c = search needs
 
-refusal-of-requires-3 : tie.Need-refusal-of-requires-3
-refusal-of-requires-3 c κs = search needs
+number-refusal-requires-3 : tie.Need-number-refusal-requires-3
+number-refusal-requires-3 c κs = search needs
 
 returns-3 : tie.Need-returns-3
 returns-3 c =
@@ -62,7 +62,7 @@ returns-3 c =
     heading-no-Q (c .before .before .before .before .before .before .before .before .before .before .before .before .before .args .bytes .now) _ _ (first .before .before .fitting-at .ensures ∙ ap numberTold (first .first .given .1))
     (second .before .before .fitting-at2 .ensures ∙ ap numberTold (second .second .given .1))
     (c .before .before .before .fitting-at3 .ensures ∙ ap numberTold (c .before .enum-told3 .given .1))
-    ∙ ap denied (sym (c .refusal-of3 .ensures _ (c .before .enum-told3 .given .1)))
+    ∙ ap denied (sym (c .number-refusal3 .ensures _ (c .before .enum-told3 .given .1)))
 
 fitting-at-requires-4 : tie.Need-fitting-at-requires-4
 fitting-at-requires-4 c κs = search needs
@@ -73,8 +73,8 @@ enum-known-fourth c = search needs
 enum-told-4 : tie.Need-enum-told-4
 enum-told-4 c = search needs
 
-refusal-of-requires-4 : tie.Need-refusal-of-requires-4
-refusal-of-requires-4 c κs = search needs
+number-refusal-requires-4 : tie.Need-number-refusal-requires-4
+number-refusal-requires-4 c κs = search needs
 
 returns-4 : tie.Need-returns-4
 returns-4 c =
@@ -85,7 +85,7 @@ returns-4 c =
     (second .before .before .fitting-at2 .ensures ∙ ap numberTold (second .second .given .1))
     (third .before .before .fitting-at3 .ensures ∙ ap numberTold (third .third .given .1))
     (c .before .before .before .fitting-at4 .ensures ∙ ap numberTold (c .before .enum-told4 .given .1))
-    ∙ ap denied (sym (c .refusal-of4 .ensures _ (c .before .enum-told4 .given .1)))
+    ∙ ap denied (sym (c .number-refusal4 .ensures _ (c .before .enum-told4 .given .1)))
 
 returns-5 : tie.Need-returns-5
 returns-5 c =
@@ -105,21 +105,21 @@ read-heading-spec =
     fitting-at-requires
     enum-known-first
     enum-told
-    refusal-of-requires
+    number-refusal-requires
     returns
     fitting-at-requires-2
     enum-known-second
     enum-told-2
-    refusal-of-requires-2
+    number-refusal-requires-2
     returns-2
     fitting-at-requires-3
     enum-known-third
     enum-told-3
-    refusal-of-requires-3
+    number-refusal-requires-3
     returns-3
     fitting-at-requires-4
     enum-known-fourth
     enum-told-4
-    refusal-of-requires-4
+    number-refusal-requires-4
     returns-4
     returns-5)

@@ -1,0 +1,22 @@
+-- A capture is judged by its length, then by its heading, then by its runs.
+use Prim.Native.Nat.{ℕ, _≤_, _<_}
+use mathlib.Core.Path.{_≡_}
+use mathlib.Core.List.{List}
+use lib.ListN.{length, drop}
+use borrow.Author.Tests.{lt-ltb, le-ltb}
+use Rattle.measure.specs.Ranges.{captureMost}
+use Rattle.measure.specs.Refusals.{Answer, given, refused}
+use Rattle.capture.specs.Capture.{Heading, heading, then, runsFrom, withRuns, capture}
+
+module _ (s : List ℕ) where
+  pub capture-long : captureMost < length s → capture s ≡ refused 3 0
+  unfolding capture
+  capture-long h = rw (lt-ltb captureMost (length s) h)
+
+  pub capture-refused : length s ≤ captureMost → (number place : ℕ) → heading s ≡ refused number place → capture s ≡ refused number place
+  unfolding capture
+  capture-refused h number place e = rw (le-ltb captureMost (length s) h, e)
+
+  pub capture-found : length s ≤ captureMost → (h : Heading) → heading s ≡ given h → capture s ≡ then (runsFrom 0 0 (h .after) (drop (h .after) s)) (withRuns h)
+  unfolding capture
+  capture-found l h e = rw (le-ltb captureMost (length s) l, e)

@@ -1,0 +1,106 @@
+-- `check_runs` meets its contract: what is counted and what is still to come give the summary, and a run that is refused is the refusal.
+use Prim.Native.Nat.{_-_, _<_}
+use mathlib.Core.Path.{sym, ap, _∙_}
+use native.Mathlib.Omega.{arith}
+use borrow.Author.Needs.{needs}
+use lib.ListN.{length}
+use Rattle.measure.specs.Refusals.{denied}
+use Rattle.capture.specs.Refusals.{headed, numberTold}
+use Rattle.capture.proofs.Groups.{Bytes}
+use Rattle.capture.proofs.Places.{Placed, number-placed}
+use Rattle.capture.proofs.Runs.{runs-refused, runs-none, runs-over}
+use Rattle.capture.proofs.Tally.{Tally, tally-none, tally-one, tally-refused, tally-low, tally-some, tally-high}
+use Rattle.capture.proofs.check_runs.Statement.{statement}
+use Rattle.capture.proofs.check_runs.Tie as tie
+
+abbrev Inv-loop : tie.InvT-loop
+Inv-loop bytes head k q level-at at₀ reads₀ runs₀ at reads runs = Tally bytes (headed head) at reads runs
+
+abbrev μ-loop : tie.MeasureT-loop
+μ-loop bytes head k q level-at at₀ reads₀ runs₀ at reads runs = length bytes - at
+
+-- the bytes are bytes
+all-bytes : (c : tie.At-loop Inv-loop μ-loop) → Bytes (c .before .before .before .before .args .bytes .now)
+all-bytes c i = omega (arith, c .before .before .before .shared-slice-known .given i)
+
+-- the number that was read
+here : (c : tie.After-number Inv-loop μ-loop) → Placed (c .before .before .before .before .before .before .before .before .args .bytes .now) (c .before .before .before .before .loop .at) (record { value = c .number .given .0 .0; after = c .number .given .0 .1 .0 })
+here c =
+    number-placed (c .before .before .before .before .before .before .before .before .args .bytes .now) (c .before .before .before .before .loop .at) _
+    (all-bytes (c .before .before .before .before)) (c .before .before .number-at .ensures ∙ ap numberTold (c .number .given .1))
+
+loop-holds : tie.Need-loop-holds Inv-loop μ-loop
+loop-holds c = tally-none _ _
+
+number-at-requires : tie.Need-number-at-requires Inv-loop μ-loop
+number-at-requires c κs = search needs
+
+enum-known-number : tie.Need-enum-known-number Inv-loop μ-loop
+enum-known-number c = search needs
+
+enum-told : tie.Need-enum-told Inv-loop μ-loop
+enum-told c = search needs
+
+number-refusal-requires : tie.Need-number-refusal-requires Inv-loop μ-loop
+number-refusal-requires c κs = search needs
+
+returns : tie.Need-returns Inv-loop μ-loop
+returns c =
+    let e = c .before .enum-told .given .1 in
+    tally-refused (c .before .before .before .before .before .loop .inv) _ _ (runs-refused (c .before .before .before .before .before .before .before .before .before .args .bytes .now) _ _ (c .before .before .before .before .loop-test .taken) _ _ (c .before .before .before .number-at .ensures ∙ ap numberTold e))
+    ∙ ap denied (sym (c .number-refusal .ensures _ e))
+
+returns-2 : tie.Need-returns-2 Inv-loop μ-loop
+returns-2 c =
+    tally-refused (c .before .before .before .before .before .before .loop .inv) _ _
+    (runs-none (c .before .before .before .before .before .before .before .before .before .before .args .bytes .now) _ _ (c .before .before .before .before .before .loop-test .taken) _ (c .before .before .before .before .number-at .ensures ∙ ap numberTold (c .before .before .number .given .1)) (c .if1 .taken))
+
+add-total : tie.Need-add-total Inv-loop μ-loop
+add-total c = omega (arith, here (c .before .before) .small)
+
+returns-3 : tie.Need-returns-3 Inv-loop μ-loop
+returns-3 c =
+    tally-refused (c .before .before .before .before .before .before .before .loop .inv) _ _
+    (runs-over (c .before .before .before .before .before .before .before .before .before .before .before .args .bytes .now) _ _ (c .before .before .before .before .before .before .loop-test .taken) _ (c .before .before .before .before .before .number-at .ensures ∙ ap numberTold (c .before .before .before .number .given .1)) (c .before .if1 .left) (c .if2 .taken))
+
+add-runs : tie.Need-add-runs Inv-loop μ-loop
+add-runs c = omega arith
+
+loop-less : tie.Need-loop-less Inv-loop μ-loop
+loop-less c = omega (arith, here (c .before .before .before) .further-on, c .before .before .before .before .before .before .loop-test .taken)
+
+loop-again : tie.Need-loop-again Inv-loop μ-loop
+loop-again c =
+    tally-one (c .before .before .before .before .before .before .before .loop .inv) _ (all-bytes (c .before .before .before .before .before .before .before)) (c .before .before .before .before .before .before .loop-test .taken)
+    (c .before .before .before .before .before .number-at .ensures ∙ ap numberTold (c .before .before .before .number .given .1)) (c .before .if1 .left) (c .if2 .left)
+
+returns-4 : tie.Need-returns-4 Inv-loop μ-loop
+returns-4 c = tally-low (c .before .before .before .before .loop .inv) (c .before .before .before .loop-test .left) (c .before .if3 .taken) (c .if4 .taken)
+
+returns-5 : tie.Need-returns-5 Inv-loop μ-loop
+returns-5 c = tally-some (c .before .before .before .before .loop .inv) (c .before .before .before .loop-test .left) (c .before .if3 .taken) (c .if4 .left)
+
+returns-6 : tie.Need-returns-6 Inv-loop μ-loop
+returns-6 c = tally-high (c .before .before .before .loop .inv) (c .before .before .loop-test .left) (c .if3 .left)
+
+pub check-runs-spec : {M : Type 1} → statement M
+check-runs-spec =
+    tie.close
+    (tie.spec
+    Inv-loop
+    μ-loop
+    loop-holds
+    number-at-requires
+    enum-known-number
+    enum-told
+    number-refusal-requires
+    returns
+    returns-2
+    add-total
+    returns-3
+    add-runs
+    loop-less
+    loop-again
+    returns-4
+    returns-5
+    returns-6)
