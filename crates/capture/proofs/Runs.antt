@@ -3,6 +3,7 @@ use Prim.Native.Nat.{ℕ, zero, suc, _+_, _-_, _≤_, _<_}
 use mathlib.Core.Path.{_≡_, refl, sym, ap, _∙_}
 use mathlib.Core.List.{List, [], _∷_, _++_}
 use native.Mathlib.Omega.{arith}
+use native.Mathlib.Decide.{decLe}
 use native.Mathlib.Nat.{add-zero, add-suc, suc-add}
 use lib.ListN.{length, drop, replicate, length-drop, length-append, length-replicate, drop-of-length-le}
 use lib.Seq.{drop-cons, drop-drop}
@@ -70,6 +71,39 @@ module _ (s : List ℕ) (total at : ℕ) (h : at < length s) where
         runs-skip (n .after - at - 1) (total + n .value) (suc at) (drop (suc at) s) (omega (arith, length-drop (suc at) s)) ∙ rw (drop-drop, x) in
         runs-here s total at h ∙ run-given at total n (group further (drop at s)) _ e
         ∙ rw (le-leb 1 (n .value) z, le-leb (total + n .value) totalMost o) (ap (joined (n .value)) y)
+
+-- where the runs are all to be had, the one at a place is, and so are those behind it
+pub record Next (s : List ℕ) (total : ℕ) (n : Numeral) (runs : List ℕ) : Type 0 where
+  pub some : 1 ≤ n .value
+  pub low : total + n .value ≤ totalMost
+  pub others : List ℕ
+  pub is : runs ≡ n .value ∷ others
+  pub spelt : runsFrom 0 (total + n .value) (n .after) (drop (n .after) s) ≡ given others
+
+never : {A : Type 0} {number place : ℕ} {x : A} → refused number place ≡ given x → ⊥
+never e = let z : _≡_ {A = ℕ} 0 1 = cc in omega arith
+
+joined-given : (run : ℕ) (answer : Answer (List ℕ)) (runs : List ℕ) → joined run answer ≡ given runs → (others : List ℕ) × ((runs ≡ run ∷ others) × (answer ≡ given others))
+joined-given run (given others) runs e = (others, (cc, refl))
+joined-given run (refused number place) runs e = let z : _≡_ {A = ℕ} 0 1 = cc in absurd (omega arith)
+joined-given run (refusedAfter number place count) runs e = let z : _≡_ {A = ℕ} 0 1 = cc in absurd (omega arith)
+
+module _ (s : List ℕ) (total at : ℕ) (h : at < length s) (runs : List ℕ) (g : runsFrom 0 total at (drop at s) ≡ given runs) where
+  pub next-refused : (number place : ℕ) → numberAt s at ≡ refused number place → ⊥
+  next-refused number place e = never (sym (runs-refused s total at h number place e) ∙ g)
+
+  pub next-is : (n : Numeral) → Bytes s → numberAt s at ≡ given n → Next s total n runs
+  next-is n b e = some (decLe 1 (n .value))
+    where
+      low : 1 ≤ n .value → Dec (total + n .value ≤ totalMost) → Next s total n runs
+      low z (yes o) =
+          let j = joined-given (n .value) (runsFrom 0 (total + n .value) (n .after) (drop (n .after) s)) runs (sym (runs-one s total at h n e b z o) ∙ g) in
+          record { some = z; low = o; others = j .0; is = j .1 .0; spelt = j .1 .1 }
+      low z (no o) = absurd (never (sym (runs-over s total at h n e z (omega arith)) ∙ g))
+
+      some : Dec (1 ≤ n .value) → Next s total n runs
+      some (yes z) = low z (decLe (total + n .value) totalMost)
+      some (no z) = absurd (never (sym (runs-none s total at h n e (omega arith)) ∙ g))
 
 -- how many reads runs stand for
 abbrev pub sum : List ℕ → ℕ

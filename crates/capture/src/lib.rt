@@ -12,12 +12,16 @@ use measure::SAMPLING_LEAST;
 use measure::SAMPLING_MOST;
 use measure::between;
 ghost use mathlib.Core.Path.{_≡_};
-ghost use Prim.Native.Nat.{ℕ, _≤_, _<_};
-ghost use lib.ListN.{drop};
+ghost use mathlib.Core.Bool.{true};
+ghost use Prim.Native.Nat.{ℕ, _+_, _≤_, _<_};
+ghost use lib.Dec.{leb};
+ghost use lib.ListN.{drop, length, replicate};
+ghost use lib.Seq.{sets};
 ghost use Rattle.measure.specs.Choose.{between as isBetween};
+ghost use Rattle.measure.specs.Refusals.{given};
 ghost use Rattle.capture.specs.Numbers.{before, bound, following, further, group, numberAt};
-ghost use Rattle.capture.specs.Capture.{fittingAt, heading, runsFrom, then, withRuns};
-ghost use Rattle.capture.specs.Refusals.{checked, frontTold, headTold, headed, numberTold, summed, told};
+ghost use Rattle.capture.specs.Capture.{fittingAt, heading, readsOf, runsFrom, then, withRuns};
+ghost use Rattle.capture.specs.Refusals.{checked, frontTold, headTold, headed, numberTold, readBack, summed, told};
 
 // The weight of a byte's top bit: the seven bits below it are a group.
 const TOP_BIT: usize = 128;
@@ -286,4 +290,66 @@ pub fn check(bytes: &[u8]) -> Checked
         return Checked::Refused(head_refusal(head));
     };
     check_runs(bytes, h)
+}
+
+// Stores a level so many times from a place on.
+fn fill(level: u8, count: usize, out: &mut [u8], from: usize)
+    requires { ⌜ from + count ≤ length (now out) ⌝ }
+    ensures { λ _. ⌜ now (out .exit) ≡ sets (now (out .entry)) from (replicate count level) ⌝ }
+{
+    let mut i = 0;
+    while i < count {
+        let place = from + i;
+        out[place] = level;
+        i += 1;
+    }
+}
+
+// Stores the reads of a checked capture, whose runs begin at a place, at the front of an output that has room for them.
+fn unroll_into(bytes: &[u8], from: usize, level: u8, out: &mut [u8])
+    requires { ⌜ level ≤ 1 ⌝ }
+    requires { ⌜ then (runsFrom 0 0 from (drop from (now bytes))) (λ runs. given (leb (length (readsOf level runs)) (length (now out)))) ≡ given true ⌝ }
+    ensures { λ _. ⌜ then (runsFrom 0 0 from (drop from (now (bytes .entry)))) (λ runs. given (sets (now (out .entry)) 0 (readsOf level runs))) ≡ given (now (out .exit)) ⌝ }
+{
+    let mut at = from;
+    let mut done = 0;
+    let mut current = level;
+    while at < bytes.len() {
+        let number = number_at(bytes, at);
+        let Number::Is(run, next) = number else {
+            return;
+        };
+        fill(current, run, out, done);
+        done += run;
+        current = HIGH - current;
+        at = next;
+    }
+}
+
+// Reads a capture: sums it up, and puts its reads, one byte each, at the front of the lent output. Refuses as `check` does,
+// and last with 4 where the output is shorter than the reads. After a refusal the output is untouched, and after success
+// what lies beyond the reads.
+pub fn read_capture(bytes: &[u8], out: &mut [u8]) -> Checked
+    ensures { λ x. ⌜ readBack (now (bytes .entry)) (now (out .entry)) ≡ (told x, now (out .exit)) ⌝ }
+{
+    if CAPTURE_MOST < bytes.len() {
+        return Checked::Refused(Refusal::Limit);
+    }
+    let head = read_heading(bytes);
+    let Head::Found(h) = head else {
+        return Checked::Refused(head_refusal(head));
+    };
+    let found = check_runs(bytes, h);
+    let Checked::Capture(s) = found else {
+        return found;
+    };
+    let reads = s.reads;
+    if out.len() < reads {
+        return Checked::Refused(Refusal::Room);
+    }
+    let after = h.after;
+    let first = h.level;
+    let level = first as u8;
+    unroll_into(bytes, after, level, out);
+    found
 }

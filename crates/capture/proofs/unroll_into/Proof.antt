@@ -1,0 +1,86 @@
+-- `unroll_into` meets its contract: each turn stores one run, and the runs still to come are known to be good.
+use Prim.Native.Nat.{_-_}
+use mathlib.Core.Path.{ap, _∙_}
+use native.Mathlib.Omega.{arith}
+use borrow.Author.Needs.{needs}
+use lib.ListN.{length}
+use Rattle.capture.specs.Refusals.{numberTold}
+use Rattle.capture.proofs.Groups.{Bytes}
+use Rattle.capture.proofs.Places.{number-placed}
+use Rattle.capture.proofs.Unrolling.{Unrolled, unrolled-none, unrolled-refused, unrolled-room, unrolled-one, unrolled-all}
+use Rattle.capture.proofs.unroll_into.Statement.{statement}
+use Rattle.capture.proofs.unroll_into.Tie as tie
+
+abbrev Inv-loop : tie.InvT-loop
+Inv-loop bytes from level out₀ at₀ done₀ current₀ out at done current = Unrolled bytes from level out₀ out at done current
+
+abbrev μ-loop : tie.MeasureT-loop
+μ-loop bytes from level out₀ at₀ done₀ current₀ out at done current = length bytes - at
+
+-- the bytes are bytes
+all-bytes : (c : tie.At-loop Inv-loop μ-loop) → Bytes (c .before .before .before .args .bytes .now)
+all-bytes c i = omega (arith, c .before .before .shared-slice-known .given i)
+
+loop-holds : tie.Need-loop-holds Inv-loop μ-loop
+loop-holds c = unrolled-none _ _ _ _ (c .before .before .pre .0) (c .before .before .pre .1)
+
+number-at-requires : tie.Need-number-at-requires Inv-loop μ-loop
+number-at-requires c κs = search needs
+
+enum-known-number : tie.Need-enum-known-number Inv-loop μ-loop
+enum-known-number c = search needs
+
+enum-told : tie.Need-enum-told Inv-loop μ-loop
+enum-told c = search needs
+
+same-length : tie.Need-same-length Inv-loop μ-loop
+same-length c = c .before .before .before .before .loop .inv .stored .size
+
+returns : tie.Need-returns Inv-loop μ-loop
+returns c = absurd (unrolled-refused (c .before .before .before .before .loop .inv) (c .before .before .before .loop-test .taken) _ _ (c .before .before .number-at .ensures ∙ ap numberTold (c .enum-told .given .1)))
+
+fill-requires : tie.Need-fill-requires Inv-loop μ-loop
+fill-requires c κs =
+    omega (arith, c .before .before .before .before .before .before .loop .inv .stored .size, unrolled-room (c .before .before .before .before .before .before .loop .inv) _ (all-bytes (c .before .before .before .before .before .before)) (c .before .before .before .before .before .loop-test .taken) (c .before .before .before .before .number-at .ensures ∙ ap numberTold (c .before .before .number .given .1)))
+
+add-done : tie.Need-add-done Inv-loop μ-loop
+add-done c =
+    omega (arith, c .before .before .before .before .before .before .before .before .before .before .before .before .good, unrolled-room (c .before .before .before .before .before .before .before .before .before .loop .inv) _ (all-bytes (c .before .before .before .before .before .before .before .before .before)) (c .before .before .before .before .before .before .before .before .loop-test .taken) (c .before .before .before .before .before .before .before .number-at .ensures ∙ ap numberTold (c .before .before .before .before .before .number .given .1)))
+
+sub-current : tie.Need-sub-current Inv-loop μ-loop
+sub-current c = c .before .before .before .before .before .before .before .before .before .loop .inv .bit
+
+loop-less : tie.Need-loop-less Inv-loop μ-loop
+loop-less c =
+    let p = number-placed (c .before .before .before .before .before .before .before .before .before .before .before .before .args .bytes .now) (c .before .before .before .before .before .before .before .before .before .loop .at) _ (all-bytes (c .before .before .before .before .before .before .before .before .before)) (c .before .before .before .before .before .before .before .number-at .ensures ∙ ap numberTold (c .before .before .before .before .before .number .given .1)) in
+    omega (arith, p .further-on, c .before .before .before .before .before .before .before .before .loop-test .taken)
+
+loop-again : tie.Need-loop-again Inv-loop μ-loop
+loop-again c =
+    unrolled-one (c .before .before .before .before .before .before .before .before .before .loop .inv) _ (all-bytes (c .before .before .before .before .before .before .before .before .before)) (c .before .before .before .before .before .before .before .before .loop-test .taken) (c .before .before .before .before .before .before .before .number-at .ensures ∙ ap numberTold (c .before .before .before .before .before .number .given .1)) _ (c .before .before .fill .ensures)
+
+same-length-2 : tie.Need-same-length-2 Inv-loop μ-loop
+same-length-2 c = c .before .loop .inv .stored .size
+
+returns-2 : tie.Need-returns-2 Inv-loop μ-loop
+returns-2 c = unrolled-all (c .before .loop .inv) (c .loop-test .left)
+
+pub unroll-into-spec : {M : Type 1} → statement M
+unroll-into-spec =
+    tie.close
+    (tie.spec
+    Inv-loop
+    μ-loop
+    loop-holds
+    number-at-requires
+    enum-known-number
+    enum-told
+    same-length
+    returns
+    fill-requires
+    add-done
+    sub-current
+    loop-less
+    loop-again
+    same-length-2
+    returns-2)
