@@ -8,3 +8,6 @@ pub mod Captures
 pub mod Stores
 pub mod Unrolling
 pub mod Reading
+pub mod Spelling
+pub mod Grouping
+pub mod Writing

@@ -37,6 +37,13 @@ module _ {out₀ : List ℕ} {from : ℕ} {all out : List ℕ} {at : ℕ} where
   pub stored-all : Stored out₀ from all out at [] → out ≡ sets out₀ from all
   stored-all q = q .whole
 
+  -- where there is room for all, there is for what is still to come, and for a part of that
+  pub stored-room : {rest : List ℕ} → Stored out₀ from all out at rest → from + length all ≤ length out₀ → at + length rest ≤ length out
+  stored-room q h = omega (arith, q .reach, q .size)
+
+  pub stored-next : (part rest : List ℕ) → Stored out₀ from all out at (part ++ rest) → from + length all ≤ length out₀ → at + length part ≤ length out
+  stored-next part rest q h = omega (arith, stored-room q h, length-append part rest)
+
 -- what is stored at the front is laid onto the output
 pub stored-onto : (all out : List ℕ) → length all ≤ length out → sets out 0 all ≡ onto all out
 stored-onto all out h =
