@@ -17,7 +17,7 @@ after-same : (level count read : ℕ) (l : List ℕ) → read ≡ level → runs
 unfolding runsAfter
 after-same level count read l e = rw (eq-eqb read level e)
 
-after-other : (level count read : ℕ) (l : List ℕ) → (read ≡ level → ⊥) → runsAfter level count (read ∷ l) ≡ count ∷ runsOf (read ∷ l)
+pub after-other : (level count read : ℕ) (l : List ℕ) → (read ≡ level → ⊥) → runsAfter level count (read ∷ l) ≡ count ∷ runsOf (read ∷ l)
 unfolding runsAfter runsOf
 after-other level count read l e = rw (ne-eqb read level e)
 

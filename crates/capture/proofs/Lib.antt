@@ -11,3 +11,7 @@ pub mod Reading
 pub mod Spelling
 pub mod Grouping
 pub mod Writing
+pub mod Respelling
+pub mod ReadsBack
+pub mod WritesBack
+pub mod RoundTrips

@@ -2,4 +2,5 @@ pub mod Numbers
 pub mod Capture
 pub mod Writing
 pub mod Refusals
+pub mod RoundTrips
 pub mod Cases

@@ -1,0 +1,153 @@
+-- The two round trips: a capture's numbers and its bytes determine one another, and so do its runs and its reads.
+use Prim.Native.Nat.{ℕ, zero, suc, _-_, _≤_, _<_}
+use mathlib.Core.Path.{_≡_, refl, sym, ap, _∙_}
+use mathlib.Core.List.{List, [], _∷_, _++_}
+use mathlib.Core.Bool.{Bool, true, false, _&&_}
+use native.Mathlib.Omega.{arith}
+use native.Mathlib.Decide.{decLe}
+use lib.Dec.{ltb}
+use lib.ListN.{length, take, drop, getD, replicate, List·getD-eq-default}
+use lib.Seq.{take-at}
+use borrow.Author.Tests.{le-ltb, ltb-false, le-leb}
+use Rattle.measure.specs.Choose.{choose}
+use Rattle.measure.specs.Ranges.{sampling, rowBits, quiet, entriesMost}
+use Rattle.measure.specs.Lists.{firstAbove, someAbove, onto}
+use Rattle.measure.specs.Refusals.{Answer, given, refused, refusedAfter}
+use Rattle.measure.proofs.Above.{above-none}
+use Rattle.capture.specs.Capture.{Capture, capture, readsOf, totalMost}
+use Rattle.capture.specs.Writing.{runsOf, firstLevel, captureOf}
+use Rattle.capture.specs.Refusals.{summary, unrolled, readBack, written}
+use Rattle.capture.specs.RoundTrips.{ReadsAs, ReadsBack, WritesBack, WrittenReadsBack, ReadWritesBack}
+use Rattle.capture.specs.declared.Summary.{Summary}
+use Rattle.capture.proofs.Groups.{Bytes}
+use Rattle.capture.proofs.Runs.{sum, length-reads}
+use Rattle.capture.proofs.ReadsBack.{Levels, reads-back, capture-back}
+use Rattle.capture.proofs.WritesBack.{Accepted, accepted, capture-again}
+use Rattle.capture.proofs.Writing.{InRange, write-whole}
+
+-- a list none of whose entries is above 255 has bytes, and one none of whose entries is above 1 has levels
+all-bytes : (l : List ℕ) → someAbove 255 l ≡ false → Bytes l
+all-bytes l e i = go (decLe (length l) i)
+  where
+    go : Dec (length l ≤ i) → getD l i 0 < 256
+    go (yes h) = rw (List·getD-eq-default l 0 h) (omega arith)
+    go (no h) = omega (arith, above-none 255 l (ltb-false (firstAbove 255 l) (length l) e) i (omega arith))
+
+all-levels : (l : List ℕ) → ((i : ℕ) → i < length l → getD l i 0 ≤ 1) → Levels l
+all-levels [] h = tt
+all-levels (x ∷ l) h = (h 0 (omega arith), all-levels l (λ i k. h (suc i) (omega arith)))
+
+levels : (l : List ℕ) → length l ≤ firstAbove 1 l → Levels l
+levels l h = all-levels l (above-none 1 l h)
+
+pub reads-written-back : ReadsBack
+reads-written-back k n Q reads r h e =
+    let l = levels reads (ltb-false (firstAbove 1 reads) (length reads) e) in
+    record {
+      is = record { k = k; n = n; Q = Q; level = firstLevel reads; runs = runsOf reads };
+      accepted = capture-back k n Q reads r h l;
+      same-k = refl;
+      same-n = refl;
+      same-Q = refl;
+      same-reads = reads-back reads l;
+    }
+
+pub bytes-read-back : WritesBack
+bytes-read-back bytes e c g = capture-again bytes c (all-bytes bytes e) g
+
+-- reads of levels that runs stand for
+no-higher : (x : ℕ) (l : List ℕ) → x ≤ 1 → length l ≤ firstAbove 1 l → length (x ∷ l) ≤ firstAbove 1 (x ∷ l)
+unfolding firstAbove
+no-higher x l h k = rw (le-leb x 1 h) (omega arith)
+
+no-higher-run : (level times : ℕ) (l : List ℕ) → level ≤ 1 → length l ≤ firstAbove 1 l → length (replicate times level ++ l) ≤ firstAbove 1 (replicate times level ++ l)
+no-higher-run level zero l h k = k
+no-higher-run level (suc times) l h k = no-higher level (replicate times level ++ l) h (no-higher-run level times l h k)
+
+no-higher-reads : (level : ℕ) (runs : List ℕ) → level ≤ 1 → length (readsOf level runs) ≤ firstAbove 1 (readsOf level runs)
+unfolding readsOf firstAbove
+no-higher-reads level [] h = omega arith
+no-higher-reads level (run ∷ runs) h = no-higher-run level run (readsOf (1 - level) runs) h (no-higher-reads (1 - level) runs (omega arith))
+
+-- an answer that was given was not refused: a test that refuses where it fails held, and one that refuses where it holds failed
+refused-none : {A : Type 0} (number place : ℕ) (out out′ : List ℕ) (x : A) → _≡_ {A = Answer A × List ℕ} (refused number place, out) (given x, out′) → ⊥
+refused-none {A} number place out out′ x e =
+    let f : _≡_ {A = Answer A} (refused number place) (given x) = ap (λ (p : Answer A × List ℕ). p .0) e in
+    let z : _≡_ {A = ℕ} 0 1 = cc in
+    omega arith
+
+module _ {A : Type 0} (number place : ℕ) (out out′ : List ℕ) (x : A) where
+  held : (test : Bool) (rest : Answer A × List ℕ) → choose test rest (refused number place, out) ≡ (given x, out′) → (test ≡ true) × (rest ≡ (given x, out′))
+  held true rest e = (refl, e)
+  held false rest e = absurd (refused-none number place out out′ x e)
+
+  failed : (test : Bool) (rest : Answer A × List ℕ) → choose test (refused number place, out) rest ≡ (given x, out′) → (test ≡ false) × (rest ≡ (given x, out′))
+  failed true rest e = absurd (refused-none number place out out′ x e)
+  failed false rest e = (refl, e)
+
+-- what writing did, where it gave a size
+record Wrote (k n Q : ℕ) (reads out out′ : List ℕ) (size : ℕ) : Type 0 where
+  in-range : InRange k n Q
+  few : length reads ≤ entriesMost
+  low : length reads ≤ firstAbove 1 reads
+  sized : length (captureOf k n Q reads) ≡ size
+  laid : onto (captureOf k n Q reads) out ≡ out′
+
+wrote : (k n Q : ℕ) (reads out out′ : List ℕ) (size : ℕ) → written k n Q reads out ≡ (given size, out′) → Wrote k n Q reads out out′ size
+unfolding written
+wrote k n Q reads out out′ size e =
+    let fit = held 1 0 out out′ size (sampling k && rowBits n && quiet Q) _ e in
+    let few = failed 3 0 out out′ size (ltb entriesMost (length reads)) _ (fit .1) in
+    let low = failed 2 (firstAbove 1 reads) out out′ size (someAbove 1 reads) _ (few .1) in
+    let room = failed 4 0 out out′ size (ltb (length out) (length (captureOf k n Q reads))) _ (low .1) in
+    let f : given (length (captureOf k n Q reads)) ≡ given size = ap (λ (p : Answer ℕ × List ℕ). p .0) (room .1) in
+    record {
+      in-range = fit .0;
+      few = ltb-false entriesMost (length reads) (few .0);
+      low = ltb-false (firstAbove 1 reads) (length reads) (low .0);
+      sized = cc;
+      laid = ap (λ (p : Answer ℕ × List ℕ). p .1) (room .1);
+    }
+
+pub written-read-back : WrittenReadsBack
+unfolding readBack
+written-read-back k n Q reads out out′ room size e h =
+    let w = wrote k n Q reads out out′ size e in
+    let l = levels reads (w .low) in
+    let same : readsOf (firstLevel reads) (runsOf reads) ≡ reads = reads-back reads l in
+    let bytes : take size out′ ≡ captureOf k n Q reads = ap (take size) (sym (w .laid)) ∙ take-at (captureOf k n Q reads) (drop (length (captureOf k n Q reads)) out) size (w .sized) in
+    rw (bytes, capture-back k n Q reads (w .in-range) (w .few) l, same, le-ltb (length room) (length reads) h)
+
+-- what reading did, where it gave a summary
+record Read (bytes room room′ : List ℕ) (s : Summary) : Type 0 where
+  is : Capture
+  accepted-is : capture bytes ≡ given is
+  summed-up : summary is ≡ s
+  laid : onto (readsOf (is .level) (is .runs)) room ≡ room′
+
+read : (bytes room room′ : List ℕ) (s : Summary) → readBack bytes room ≡ (given s, room′) → Read bytes room room′ s
+unfolding readBack
+read bytes room room′ s = go (capture bytes) refl
+  where
+    go : (answer : Answer Capture) → capture bytes ≡ answer → unrolled answer room ≡ (given s, room′) → Read bytes room room′ s
+    go (given c) e f =
+        let g = failed 4 0 room room′ s (ltb (length room) (length (readsOf (c .level) (c .runs)))) _ f in
+        let h : given (summary c) ≡ given s = ap (λ (p : Answer Summary × List ℕ). p .0) (g .1) in
+        record { is = c; accepted-is = e; summed-up = cc; laid = ap (λ (p : Answer Summary × List ℕ). p .1) (g .1) }
+    go (refused number place) e f = absurd (refused-none number place room room′ s f)
+    go (refusedAfter number place count) e f =
+        let g : _≡_ {A = Answer Summary} (refusedAfter number place count) (given s) = ap (λ (p : Answer Summary × List ℕ). p .0) f in
+        let z : _≡_ {A = ℕ} 0 1 = cc in
+        absurd (omega arith)
+
+pub read-written-back : ReadWritesBack
+read-written-back bytes room room′ out s e f h =
+    let r = read bytes room room′ s f in
+    let c = r .is in
+    let b = all-bytes bytes e in
+    let a = accepted bytes c b (r .accepted-is) in
+    let reads = readsOf (c .level) (c .runs) in
+    let same : captureOf (c .k) (c .n) (c .Q) reads ≡ bytes = capture-again bytes c b (r .accepted-is) in
+    let front : take (length reads) room′ ≡ reads = ap (take (length reads)) (sym (r .laid)) ∙ take-at reads (drop (length reads) room) (length reads) refl in
+    rw (← r .summed-up, front)
+    (write-whole (c .k) (c .n) (c .Q) reads out (a .in-range) (omega (arith, a .few, length-reads (c .level) (c .runs))) (no-higher-reads (c .level) (c .runs) (a .low)) (rw same h) ∙ rw same)
