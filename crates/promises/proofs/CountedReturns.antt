@@ -1,25 +1,30 @@
--- Accepted settings meet the margins of the inner theorem, which ask one time unit less; source 002's ratios and lengths are accepted by three orders.
+-- Accepted settings meet the margins of the inner theorem, which ask one time unit less; source 002's settings are accepted by three orders.
 use mathlib.Core.Path.{_≡_, refl}
 use mathlib.Core.Logic.{dite}
 use mathlib.Core.Bool.{Bool, true, false}
-use mathlib.Core.List.{[], _∷_}
-use Prim.Native.Nat.{ℕ, zero, suc, _+_, _*_, _≤_, _<_}
+use mathlib.Core.List.{List, [], _∷_}
+use Prim.Native.Nat.{ℕ, zero, suc, _≤_, _<_}
 use native.Mathlib.Decide.{decLe}
 use native.Mathlib.Omega.{arith}
-use borrow.Author.Tests.{le-leb, lt-leb}
+use lib.ListN.{length}
+use borrow.Author.Tests.{le-leb, lt-leb, le-ltb, eq-eqb}
+use Rattle.measure.specs.Ranges.{bitsMost, entriesMost}
 use Rattle.sender.specs.Sending.{cells, wave}
 use Rattle.line.specs.Smooth.{smoothFrom}
 use Rattle.line.specs.Warp.{look, dropped, warpFrom, warp}
 use Rattle.line.specs.Settle.{settle}
 use Rattle.counted.specs.Counted.{fromMark, counted}
+use Rattle.counted.specs.Refusals.{countedBits}
+use Rattle.line.proofs.Entries.{AtMost}
+use Rattle.settings.proofs.Inequalities.{accepted-keeps, keeps-accepted}
 use Rattle.settings.specs.Margins.{accepted}
-use Rattle.promises.specs.CountedReturns.{found, EveryMessageReturned, AcceptedReturn, WithinOnePartIn, Source002, Conjecture002}
+use Rattle.promises.specs.CountedReturns.{overTheLine, found, EveryMessageReturned, AcceptedReturn, OperationReturns, WithinOnePartIn, Source002, shortestRead, longestRead, Conjecture002}
 use Rattle.promises.proofs.Timing.{Margins}
-use Rattle.promises.proofs.LevelLists.{most-levels}
+use Rattle.promises.proofs.LevelLists.{most-levels, none-above}
 use Rattle.promises.proofs.Stretches.{wave-most}
-use Rattle.promises.proofs.Reading.{cycle-clock, read-clock, reads-of-01}
+use Rattle.promises.proofs.Reading.{cycle-clock, read-clock, reads-of-01, levels-of-01}
 use Rattle.promises.proofs.Received.{returns}
-use Rattle.promises.proofs.SignedMargins.{accepted-orders, orders-accepted}
+use Rattle.promises.proofs.SignedMargins.{accepted-margins}
 
 -- margins of minus one or more and a read that takes time
 pub returned : (a b k w r : ℕ) → 0 < r → Margins a b 1 k w w r r → EveryMessageReturned a b k w r
@@ -28,14 +33,35 @@ returned a b k w r pos ok p p1 p2 bits choices below hb hc =
     _ hb (reads-of-01 w r p (wave a b p1 p2 bits) choices pos below (wave-most a b p1 p2 bits) (most-levels choices hc))
 
 -- M2 leaves no room for a read that takes no time
+takes-time : (a b k w r p : ℕ) → p < w → accepted a b k w r ≡ true → 0 < r
+takes-time a b k w zero p below h = absurd (omega (arith, accepted-keeps a b k w 0 h .M2))
+takes-time a b k w (suc r) p below h = omega arith
+
 pub accepted-return : AcceptedReturn
 accepted-return a b k w r h p p1 p2 bits choices below =
-    let (one, two, three) = accepted-orders a b k w r h in
-    returned a b k w r (timed r two) (record { m1 = omega arith; m2 = omega arith; m3 = omega arith }) p p1 p2 bits choices below
+    returned a b k w r (takes-time a b k w r p below h) (accepted-margins a b k w r h) p p1 p2 bits choices below
+
+pub operation-returns : OperationReturns
+unfolding countedBits
+operation-returns a b k w r p p1 p2 bits choices output h below hb hc ranged few short room =
+    rw (
+      ranged,
+      le-leb (length bits) bitsMost few,
+      le-ltb entriesMost (length reads) short,
+      none-above 1 reads levels,
+      le-ltb (length reads) (length reads) (omega arith),
+      le-ltb (length output) (length bits) room,
+      accepted-return a b k w r h p p1 p2 bits choices below hb hc,
+      eq-eqb (length bits) (length bits) refl,
+    )
   where
-    timed : (r : ℕ) → 1 * r + (a + 1) * w ≤ k * r → 0 < r
-    timed zero two = absurd (omega arith)
-    timed (suc r) two = omega arith
+    reads : List ℕ
+    reads = overTheLine a b w r p p1 p2 bits choices
+
+    levels : AtMost 1 reads
+    levels =
+        levels-of-01 w r p (wave a b p1 p2 bits) choices (takes-time a b k w r p below h) below
+        (wave-most a b p1 p2 bits) (most-levels choices hc)
 
 unless : (b : Bool) → (b ≡ true → ⊥) → b ≡ false
 unless true h = absurd (h refl)
@@ -43,11 +69,11 @@ unless false h = refl
 
 within-18 : (w r : ℕ) → WithinOnePartIn 18 w r → accepted 5 13 10 w r ≡ true
 within-18 w r near =
-    orders-accepted 5 13 10 w r (omega (arith, near .least, near .most)) (omega (arith, near .least, near .most)) (omega (arith, near .least, near .most))
+    keeps-accepted 5 13 10 w r (record { M1 = omega arith; M2 = omega arith; M3 = omega arith })
 
 within-32 : (w r : ℕ) → WithinOnePartIn 32 w r → accepted 16 16 23 w r ≡ true
 within-32 w r near =
-    orders-accepted 16 16 23 w r (omega (arith, near .least, near .most)) (omega (arith, near .least, near .most)) (omega (arith, near .least, near .most))
+    keeps-accepted 16 16 23 w r (record { M1 = omega arith; M2 = omega arith; M3 = omega arith })
 
 pub source-002 : Source002
 source-002 = record {
@@ -57,8 +83,14 @@ source-002 = record {
   cell-32-returns = λ w r near. accepted-return 16 16 23 w r (within-32 w r near);
 }
 
-from-67-to-141 : (r : ℕ) → 67 ≤ r → r ≤ 141 → accepted 5 13 10 100 r ≡ true
-from-67-to-141 r least most = orders-accepted 5 13 10 100 r (omega arith) (omega arith) (omega arith)
+accepted-between : (r : ℕ) → shortestRead ≤ r → r ≤ longestRead → accepted 5 13 10 100 r ≡ true
+accepted-between r least most = keeps-accepted 5 13 10 100 r (record { M1 = omega arith; M2 = omega arith; M3 = omega arith })
+
+not-faster : (r : ℕ) → r < shortestRead → accepted 5 13 10 100 r ≡ false
+not-faster r short = unless (accepted 5 13 10 100 r) (λ h. omega (arith, accepted-keeps 5 13 10 100 r h))
+
+not-slower : (r : ℕ) → longestRead < r → accepted 5 13 10 100 r ≡ false
+not-slower r long = unless (accepted 5 13 10 100 r) (λ h. omega (arith, accepted-keeps 5 13 10 100 r h))
 
 too-fast : found 5 13 10 100 66 35 1 0 (1 ∷ []) [] ≡ 0 ∷ []
 unfolding cells wave smoothFrom look dropped warpFrom warp settle fromMark counted
@@ -71,13 +103,13 @@ too-slow = refl
 pub conjecture-002 : Conjecture002
 conjecture-002 = record {
   accepts-exactly = λ r.
-      dite (decLe 67 r)
+      dite (decLe shortestRead r)
       (λ least.
-      dite (decLe r 141)
-      (λ most. rw (from-67-to-141 r least most, le-leb 67 r least, le-leb r 141 most))
-      (λ most. rw (unless (accepted 5 13 10 100 r) (λ h. omega (arith, accepted-orders 5 13 10 100 r h)), le-leb 67 r least, lt-leb r 141 (omega arith))))
-      (λ least. rw (unless (accepted 5 13 10 100 r) (λ h. omega (arith, accepted-orders 5 13 10 100 r h)), lt-leb 67 r (omega arith)));
-  returns = λ r least most. accepted-return 5 13 10 100 r (from-67-to-141 r least most);
+      dite (decLe r longestRead)
+      (λ most. rw (accepted-between r least most, le-leb shortestRead r least, le-leb r longestRead most))
+      (λ most. rw (not-slower r (omega arith), le-leb shortestRead r least, lt-leb r longestRead (omega arith))))
+      (λ least. rw (not-faster r (omega arith), lt-leb shortestRead r (omega arith)));
+  returns = λ r least most. accepted-return 5 13 10 100 r (accepted-between r least most);
   too-fast = too-fast;
   too-slow = too-slow;
 }

@@ -1,21 +1,20 @@
 -- Where 01's words place a row: the Q reads of a lead are the first that pass the test of lying within it, so the Q-th is the last of them, and the last sample is counted from the read after it.
-use mathlib.Core.Path.{_≡_, refl, subst, sym, ap, _∙_}
-use mathlib.Core.Bool.{Bool, true, false, _&&_}
-use mathlib.Core.List.{List, [], _∷_, _++_, append-nil}
-use Prim.Native.Nat.{ℕ, zero, suc, _+_, _*_, _-_, _≤_, _<_}
+use mathlib.Core.Path.{_≡_, refl, subst, ap, _∙_}
+use mathlib.Core.Bool.{Bool, true, false}
+use mathlib.Core.List.{List, [], _∷_, append-nil}
+use Prim.Native.Nat.{ℕ, zero, suc, _+_, _*_, _-_, _≤_, _<_, suc-le-suc}
 use native.Mathlib.Nat.{add-zero, add-suc, suc-add, zero-add}
 use native.Mathlib.Omega.{arith}
-use lib.Dec.{leb}
 use lib.ListN.{length, getD, drop}
 use borrow.Author.Tests.{le-leb, lt-leb}
 use Rattle.sender.specs.Sending.{Row, planWave}
 use Rattle.line.specs.Warp.{cycleStart, readStart}
 use Rattle.board.specs.Feeding.{Report}
-use Rattle.promises.specs.Places.{Link, readsOf, cyclesOf, keep, passing, numbered, wholly, heard, lastSample, samplePlace, deliveries}
+use Rattle.promises.specs.Places.{Link, readsOf, cyclesOf, passing, numbered, wholly, withinLead, heard, lastSample, samplePlace, deliveries}
 use Rattle.promises.proofs.Clock.{mono}
 use Rattle.promises.proofs.Stretches.{length-wave}
-use Rattle.promises.proofs.Reading.{cycle-clock, read-clock}
-use Rattle.promises.proofs.Sampling.{Samples, samples-on, sampled-at}
+use Rattle.promises.proofs.Reading.{read-clock}
+use Rattle.promises.proofs.Sampling.{samples-on, sampled-at}
 use Rattle.promises.proofs.OneRow.{deliveredAt}
 use Rattle.promises.proofs.Quiets.{Lead}
 use Rattle.promises.proofs.ManyRows.{Fit, Placed, no-row, a-row}
@@ -36,15 +35,31 @@ module _ (test : ℕ → Bool) where
   numbered-all (suc q) (suc many) place h f =
       rw (f place (omega arith) (omega arith), add-suc, ← suc-add) (numbered-all q many (suc place) (omega arith) (λ i p r. f i (omega arith) (omega arith)))
 
-  pub numbered-first : (i0 q many : ℕ) → i0 + q < many → ((i : ℕ) → i < i0 → test i ≡ false) → ((i : ℕ) → i0 ≤ i → i ≤ i0 + q → test i ≡ true)
-      → numbered (suc q) (passing test 0 many) ≡ i0 + q
-  numbered-first i0 q many h f t =
-      ap (λ (m : ℕ). numbered (suc q) (passing test 0 m)) all
-      ∙ ap (λ (l : List ℕ). numbered (suc q) l) (passing-none i0 (many - i0) 0 (λ i p r. f i (omega arith)) ∙ rw zero-add)
-      ∙ numbered-all q (many - i0) i0 (omega arith) t
-    where
-      all : many ≡ i0 + (many - i0)
-      all = omega arith
+  many-pass : (q many place : ℕ) → q ≤ many → ((i : ℕ) → place ≤ i → i < place + q → test i ≡ true) → q ≤ length (passing test place many)
+  unfolding passing
+  many-pass zero many place h f = omega arith
+  many-pass (suc q) zero place h f = absurd (omega arith)
+  many-pass (suc q) (suc many) place h f =
+      rw (f place (omega arith) (omega arith)) (suc-le-suc (many-pass q many (suc place) (omega arith) (λ i p r. f i (omega arith) (omega arith))))
+
+  -- the first i0 places do not pass, and the next Q do
+  module _ (i0 Q many : ℕ) (fits : i0 + Q ≤ many) (fail : (i : ℕ) → i < i0 → test i ≡ false) (pass : (i : ℕ) → i0 ≤ i → i < i0 + Q → test i ≡ true) where
+    skipped : passing test 0 many ≡ passing test i0 (many - i0)
+    skipped =
+        ap (λ (m : ℕ). passing test 0 m) all ∙ passing-none i0 (many - i0) 0 (λ i p q. fail i (omega arith)) ∙ rw zero-add
+      where
+        all : many ≡ i0 + (many - i0)
+        all = omega arith
+
+    pub enough : Q ≤ length (passing test 0 many)
+    enough = rw skipped (many-pass Q (many - i0) i0 (omega arith) pass)
+
+    pub the-Qth : 0 < Q → suc (numbered Q (passing test 0 many)) ≡ i0 + Q
+    the-Qth some = rw skipped (go Q some (omega arith) pass)
+      where
+        go : (Q : ℕ) → 0 < Q → Q ≤ many - i0 → ((i : ℕ) → i0 ≤ i → i < i0 + Q → test i ≡ true) → suc (numbered Q (passing test i0 (many - i0))) ≡ i0 + Q
+        go zero p h f = absurd (omega arith)
+        go (suc q) p h f = omega (arith, numbered-all q (many - i0) i0 (omega arith) (λ i y z. f i y (omega arith)))
 
 module _ (x : Link) where
   abbrev R : List ℕ
@@ -56,26 +71,25 @@ module _ (x : Link) where
   abbrev tr : ℕ → ℕ
   tr = readStart (x .p) (x .r)
 
-  pub heard-is : (c : ℕ) (row : Row) (i0 : ℕ) → 0 < x .Q → Lead tw tr 1 (x .Q) c (row .lead) i0 → i0 + x .Q ≤ length R → suc (heard x c row) ≡ i0 + x .Q
-  unfolding heard
-  heard-is c row i0 some lead le = go (x .Q) some lead le
-    where
-      test : ℕ → Bool
-      test = wholly x (suc c) (c + row .lead)
+  -- the Q reads of a lead are the first that lie wholly within it
+  module _ (c : ℕ) (row : Row) (i0 : ℕ) (lead : Lead tw tr 1 (x .Q) c (row .lead) i0) (there : i0 + x .Q ≤ length R) where
+    outside : (i : ℕ) → i < i0 → wholly x (suc c) (c + row .lead) i ≡ false
+    outside i h = rw (lt-leb (tw (suc c)) (tr i) (omega (arith, lead .first i h)))
 
-      go : (Q : ℕ) → 0 < Q → Lead tw tr 1 Q c (row .lead) i0 → i0 + Q ≤ length R → suc (numbered Q (passing test 0 (length R))) ≡ i0 + Q
-      go zero p lead le = absurd (omega arith)
-      go (suc q) p lead le = omega (arith, numbered-first test i0 q (length R) (omega arith) outside inside)
-        where
-          outside : (i : ℕ) → i < i0 → test i ≡ false
-          outside i h = rw (lt-leb (tw (suc c)) (tr i) (omega (arith, lead .first i h)))
+    inside : (i : ℕ) → i0 ≤ i → i < i0 + x .Q → wholly x (suc c) (c + row .lead) i ≡ true
+    inside i h l =
+        rw (
+          le-leb (tw (suc c)) (tr i) (omega (arith, lead .starts, mono (read-clock (x .p) (x .r)) i0 i h)),
+          le-leb (tr (suc i)) (tw (c + row .lead)) (omega (arith, lead .ends, mono (read-clock (x .p) (x .r)) (suc i) (i0 + x .Q) l)),
+        )
 
-          inside : (i : ℕ) → i0 ≤ i → i ≤ i0 + q → test i ≡ true
-          inside i h l =
-              rw (
-                le-leb (tw (suc c)) (tr i) (omega (arith, lead .starts, mono (read-clock (x .p) (x .r)) i0 i h)),
-                le-leb (tr (suc i)) (tw (c + row .lead)) (omega (arith, lead .ends, mono (read-clock (x .p) (x .r)) (suc i) (i0 + suc q) (omega arith))),
-              )
+    pub lead-enough : x .Q ≤ length (withinLead x c row)
+    unfolding withinLead
+    lead-enough = enough (wholly x (suc c) (c + row .lead)) i0 (x .Q) (length R) there outside inside
+
+    pub heard-is : 0 < x .Q → suc (heard x c row) ≡ i0 + x .Q
+    unfolding heard withinLead
+    heard-is = the-Qth (wholly x (suc c) (c + row .lead)) i0 (x .Q) (length R) there outside inside
 
   cycles-of-row : (row : Row) → cyclesOf x (row ∷ []) ≡ row .lead + (length (row .bits) * (x .a + x .b) + row .trail)
   unfolding planWave
@@ -87,7 +101,7 @@ module _ (x : Link) where
   unfolding deliveries lastSample
   placed-is some fit no-row = refl
   placed-is {c} some fit (a-row {i0 = i0} {s = s} {row = row} {rows = rows} {fs = fs} lead samples within more) =
-      rw (heard-is c row i0 some lead (omega (arith, samples-on samples)), sampled, cycles-of-row row)
+      rw (heard-is c row i0 lead (omega (arith, samples-on samples)) some, sampled, cycles-of-row row)
       (ap (λ (l : List Report). deliveredAt s (row .bits) ∷ l) (placed-is some (fit .3) more))
     where
       sampled : samplePlace (x .k) (x .n) 1 (i0 + x .Q) (drop (i0 + x .Q) R) ≡ s

@@ -1,5 +1,5 @@
--- The exact rule for every settling count and for clocks that wander within bounds: every message is returned exactly if the margins are minus one or more.
--- Where one is less, clocks of a constant length at the worse end of their bounds lose a message of one bit.
+-- The exact rule for every settling count and for clocks that wander within bounds: every message is returned exactly if the margins are minus
+-- one or more. Where one is less, clocks of constant length at the worse end of their bounds lose a message of one bit.
 use mathlib.Core.Path.{_≡_}
 use mathlib.Core.List.{List, [], _∷_}
 use Prim.Native.Nat.{ℕ, suc, _+_, _*_, _-_, _≤_, _<_}
@@ -51,7 +51,10 @@ module _ (a b g k w r : ℕ) (ha : 0 < a) (hg : 0 < g) (hk : 0 < k) (hw : 0 < w)
   lead = (g - 1) * (r - 1)
 
   pub lost-1 : a * w + 2 ≤ 2 * r + g * w → (m : OneBit w) × Loses a b g k w r m
-  lost-1 h = (highBit w lead 1 (many a b g k w r ha hg hk hw hr lead 1) hw (omega arith), loses-1 a b g k w r ha hg hk hw hr lead ((g - 1) * w) (lies g w r hg hw hr) h)
+  lost-1 h = (
+    highBit w lead 1 (many a b g w r lead 1) hw (omega arith),
+    loses-1 a b g k w r ha hg hk hw hr lead ((g - 1) * w) (lies g w r hg hw hr) h,
+  )
 
   pub lost-2 : k * r + 2 ≤ (a + g) * w + r → (m : OneBit w) × Loses a b g k w r m
   lost-2 h =
@@ -60,7 +63,10 @@ module _ (a b g k w r : ℕ) (ha : 0 < a) (hg : 0 < g) (hk : 0 < k) (hw : 0 < w)
       (lowBit w n (n * w + 1 - r) below, loses-2 a b g k w r ha hg hk hw hr n (n * w + 1 - r) below (omega arith) (omega arith))
 
   pub lost-3 : (a + b) * w + 2 ≤ (k + 2) * r + g * w → (m : OneBit w) × Loses a b g k w r m
-  lost-3 h = (highBit w lead 0 (many a b g k w r ha hg hk hw hr lead 0) hw (omega arith), loses-3 a b g k w r ha hg hk hw hr lead ((g - 1) * w) (lies g w r hg hw hr) h)
+  lost-3 h = (
+    highBit w lead 0 (many a b g w r lead 0) hw (omega arith),
+    loses-3 a b g k w r ha hg hk hw hr lead ((g - 1) * w) (lies g w r hg hw hr) h,
+  )
 
 -- a clock of constant length within the bounds
 wider : {t : ℕ → ℕ} (lo hi x : ℕ) → lo ≤ x → x ≤ hi → Clock t x x → Clock t lo hi

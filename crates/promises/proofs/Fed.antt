@@ -1,19 +1,24 @@
 -- Feeding a list in two parts: a report depends on earlier reads only, so the first part's reports stand below the seam and the second's do not depend on it.
-use mathlib.Core.Path.{_≡_, refl, subst, sym, ap, _∙_}
+use mathlib.Core.Path.{_≡_, refl, ap, _∙_}
 use mathlib.Core.Bool.{Bool, true, false}
 use mathlib.Core.List.{List, [], _∷_, _++_, append-nil}
-use Prim.Native.Nat.{ℕ, zero, suc, _+_, _-_, _≤_, _<_}
-use native.Mathlib.Nat.{add-zero, add-suc, suc-add, zero-add}
+use Prim.Native.Nat.{ℕ, suc, _+_, _-_, _≤_, _<_}
+use native.Mathlib.Nat.{add-zero, add-suc, suc-add}
 use native.Mathlib.Omega.{arith}
 use lib.Dec.{ltb}
 use lib.ListN.{length, getD}
 use borrow.Author.Tests.{lt-ltb, le-ltb}
-use Rattle.board.specs.Rows.{State, Happening, nothing, row, broken, Moved, next}
+use Rattle.board.specs.Rows.{State, Happening, nothing, row, broken, next}
 use Rattle.board.specs.Feeding.{Report, noted, Step, afterBy, reportsBy}
+use Rattle.board.proofs.FeedingLaws.{reports-append}
 use Rattle.promises.specs.Places.{keep}
-use Rattle.promises.specs.Demand3.{reportsAt, below, above, movedTo, moved}
-use Rattle.promises.proofs.Steps.{rules, noted-append}
+use Rattle.promises.specs.Replaced.{reportsAt, below, above, moved}
+use Rattle.promises.proofs.Steps.{rules}
 use Rattle.promises.proofs.Goes.{Goes, here, then, forward}
+
+-- where a stretch moves a read
+abbrev pub movedTo : ℕ → ℕ → List ℕ → ℕ → ℕ
+movedTo i j junk place = i + length junk + (place - j)
 
 pub reports-at-append : (test : ℕ → Bool) (one other : List Report) → reportsAt test (one ++ other) ≡ reportsAt test one ++ reportsAt test other
 unfolding reportsAt
@@ -26,21 +31,8 @@ reports-at-append test (x ∷ one) other = go (test (x .place)) (reports-at-appe
     go false e = e
 
 module _ (step : Step) where
-  pub after-append : (xs ys : List ℕ) (s : State) → afterBy step s (xs ++ ys) ≡ afterBy step (afterBy step s xs) ys
-  unfolding afterBy
-  after-append [] ys s = refl
-  after-append (x ∷ xs) ys s = after-append xs ys (step s x .state)
-
-  pub fed-append : (xs ys : List ℕ) (place : ℕ) (s : State)
-      → reportsBy step s place (xs ++ ys) ≡ reportsBy step s place xs ++ reportsBy step (afterBy step s xs) (place + length xs) ys
-  unfolding reportsBy afterBy
-  fed-append [] ys place s = rw add-zero
-  fed-append (x ∷ xs) ys place s =
-      ap (λ (l : List Report). noted place (step s x .event) l) (fed-append xs ys (suc place) (step s x .state))
-      ∙ rw (add-suc, ← suc-add) (noted-append place (step s x .event) (reportsBy step (step s x .state) (suc place) xs) _)
-
   -- all the reports of a list pass a test, or none does, where all its places do or none does
-  all-pass : (test : ℕ → Bool) (xs : List ℕ) (place : ℕ) (s : State) → ((at : ℕ) → place ≤ at → at < place + length xs → test at ≡ true)
+  pub all-pass : (test : ℕ → Bool) (xs : List ℕ) (place : ℕ) (s : State) → ((at : ℕ) → place ≤ at → at < place + length xs → test at ≡ true)
       → reportsAt test (reportsBy step s place xs) ≡ reportsBy step s place xs
   unfolding reportsAt reportsBy
   all-pass test [] place s f = refl
@@ -73,7 +65,7 @@ module _ (step : Step) where
   -- below the seam: the reports of the first part
   pub first-part : (xs ys : List ℕ) (s : State) (i : ℕ) → length xs ≡ i → below i (reportsBy step s 0 (xs ++ ys)) ≡ reportsBy step s 0 xs
   first-part xs ys s i e =
-      ap (λ (l : List Report). below i l) (fed-append xs ys 0 s)
+      ap (λ (l : List Report). below i l) (reports-append step s 0 xs ys)
       ∙ reports-at-append (λ at. ltb at i) (reportsBy step s 0 xs) rest
       ∙ rw (none-passes (λ at. ltb at i) ys (0 + length xs) (afterBy step s xs) (λ at p q. le-ltb at i (omega arith)), append-nil)
       (all-pass (λ at. ltb at i) xs 0 s (λ at p q. lt-ltb at i (omega arith)))
@@ -84,7 +76,7 @@ module _ (step : Step) where
   -- from the seam on: those of the second part, from the state that the first part leads to
   pub last-part : (xs ys : List ℕ) (s : State) (i : ℕ) → length xs ≡ suc i → above i (reportsBy step s 0 (xs ++ ys)) ≡ reportsBy step (afterBy step s xs) (suc i) ys
   last-part xs ys s i e =
-      ap (λ (l : List Report). above i l) (fed-append xs ys 0 s)
+      ap (λ (l : List Report). above i l) (reports-append step s 0 xs ys)
       ∙ reports-at-append (λ at. ltb i at) (reportsBy step s 0 xs) (reportsBy step (afterBy step s xs) (0 + length xs) ys)
       ∙ rw (none-passes (λ at. ltb i at) xs 0 s (λ at p q. le-ltb i at (omega arith)), at-seam)
       (all-pass (λ at. ltb i at) ys (suc i) (afterBy step s xs) (λ at p q. lt-ltb i at p))

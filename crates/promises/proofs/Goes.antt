@@ -1,13 +1,14 @@
 -- What the row receiver goes through over a stretch of reads: steps joined one to another, and the stretches that a row is made of.
 use mathlib.Core.Path.{_≡_, refl, subst, sym, ap, _∙_}
-use mathlib.Core.List.{List, [], _∷_, _++_}
+use mathlib.Core.List.{List, [], _++_}
 use Prim.Native.Nat.{ℕ, zero, suc, _+_, _-_, _≤_, _<_}
 use native.Mathlib.Nat.{add-zero, add-suc, suc-add}
 use native.Mathlib.Decide.{decLe}
 use native.Mathlib.Omega.{arith}
-use Rattle.board.specs.Rows.{State, Happening, nothing, Moved, runAfter, hunting, ready, counting, waiting, next, quietened}
+use Rattle.board.specs.Rows.{State, Happening, Moved, runAfter, hunting, ready, counting, waiting, next, quietened}
 use Rattle.board.specs.Feeding.{Report, noted}
-use Rattle.promises.proofs.Steps.{rules, silently, noted-append, run-most, full-step, hunts, stays-ready, counts-on, waits-on, adds}
+use Rattle.board.proofs.FeedingLaws.{noted-append}
+use Rattle.promises.proofs.Steps.{rules, run-most, full-step, hunts, stays-ready, counts-on, waits-on, adds}
 
 module _ (k n Q : ℕ) (D : ℕ → ℕ) where
   -- From the state s before read j the receiver goes to the state t before read i, and reports es on the way.

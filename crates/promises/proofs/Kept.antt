@@ -1,4 +1,5 @@
--- What a read that settles against its choices tells of the wave: every cycle that shares time with it was known, so the wave had its level there and at the g cycles before.
+-- What a read that settles against its choices tells of the wave: each cycle that shares time with it was known, so the wave had its level there
+-- and at the g cycles before.
 use mathlib.Core.Path.{_≡_, refl, _∙_}
 use mathlib.Core.Logic.{_≢_, dite}
 use mathlib.Core.List.{List, [], _∷_}
@@ -54,7 +55,8 @@ kept g left v (x ∷ xs) (suc c) u o h e =
         at (suc i) y z = f i (omega arith) (omega arith)
 
 -- a read that is v: so is each cycle that shares more than a point of time with it
-shared : {tw tr : ℕ → ℕ} → Clocks tw tr → (levels : List ℕ) (q v : ℕ) → v < 2 → getD (warpBy tw tr levels) q 2 ≡ v → (c : ℕ) → Shares tw tr q c → getD levels c 2 ≡ v
+shared : {tw tr : ℕ → ℕ} → Clocks tw tr → (levels : List ℕ) (q v : ℕ) → v < 2 → getD (warpBy tw tr levels) q 2 ≡ v
+    → (c : ℕ) → Shares tw tr q c → getD levels c 2 ≡ v
 shared {tw} {tr} clocks levels q v known is c shares =
     read-is clocks levels q there .known (omega arith) c within shares ∙ is
   where

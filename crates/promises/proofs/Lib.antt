@@ -9,6 +9,9 @@ pub mod Parts
 pub mod Recovery
 pub mod Deliveries
 pub mod Demand3
+pub mod OneByOne
+pub mod Tried
+pub mod Useless
 pub mod Worked
 pub mod Clock
 pub mod Timing

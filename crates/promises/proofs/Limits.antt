@@ -1,4 +1,5 @@
--- 01's limits leave room for a lost message wherever one bit fits at all: the bit at the last phase with no pads has the fewest reads, and a lead of less than a read adds none.
+-- 01's limits leave room for a lost message wherever one bit fits at all: at the last phase with no pads it has the fewest reads, and where a
+-- lead is needed, the cell is short enough for it.
 use mathlib.Core.Path.{_≡_, refl, sym, _∙_}
 use mathlib.Core.Logic.{dite}
 use mathlib.Core.Bool.{true, false, false≢true}
@@ -22,7 +23,7 @@ use Rattle.promises.proofs.Smoothing.{smooth-is}
 use Rattle.promises.proofs.Stretches.{length-wave}
 use Rattle.promises.proofs.SignedMargins.{margins-almost}
 use Rattle.promises.proofs.Need.{unsettled}
-use Rattle.promises.proofs.Witness.{Loses, margins-or, highBit, lowBit, least, loses-1, loses-2, loses-3}
+use Rattle.promises.proofs.Witness.{Loses, margins-or, highBit, lowBit, least, many, loses-1, loses-2, loses-3}
 use Rattle.promises.proofs.WhatNoMeans.{loses-lost}
 
 -- the reads are within their limit exactly if one more would end after the wave
@@ -68,7 +69,7 @@ module _ (a b k w r : ℕ) (range : InRange a b k w r) (fits : (a + b) * w < w -
   Within = (n : OneBit w) × WithinLimits a b w r n × Lost a b k w r n
 
   -- the last phase, no pads and high choices
-  high : (x : ℕ) (is : x < 2) → Loses a b 1 k w r (highBit w 0 x (length (unsettled w r (w - 1) 1 (wave a b 0 0 (x ∷ [])))) (range .cycle .0) is) → Within
+  high : (x : ℕ) (is : x < 2) → Loses a b 1 k w r (highBit w 0 x (many a b 1 w r 0 x) (range .cycle .0) is) → Within
   high x is loses = (
     m,
     within m refl (omega arith) (omega (arith, fits)) (rw length-replicate (omega (arith, same-reads (w - 1) (wave a b 0 0 (x ∷ []))))),
@@ -76,7 +77,7 @@ module _ (a b k w r : ℕ) (range : InRange a b k w r) (fits : (a + b) * w < w -
   )
     where
       m : OneBit w
-      m = highBit w 0 x (length (unsettled w r (w - 1) 1 (wave a b 0 0 (x ∷ [])))) (range .cycle .0) is
+      m = highBit w 0 x (many a b 1 w r 0 x) (range .cycle .0) is
 
   -- no choices
   low : (lead p : ℕ) (below : p < w) → lead ≤ padMost → (lead + (a + b)) * w < p + suc entriesMost * r
@@ -122,9 +123,13 @@ module _ (a b k w r : ℕ) (range : InRange a b k w r) (fits : (a + b) * w < w -
   pub lose-within : almostAccepted a b k w r ≡ false → Within
   lose-within refused =
       margins-or a b 1 k w w r r (λ ok. absurd (false≢true (sym refused ∙ margins-almost a b k w r ok)))
-      (λ h. high 1 (omega arith) (loses-1 a b 1 k w r (range .mark .0) (omega arith) (range .sample .0) (range .cycle .0) (range .read .0) 0 0 starts h))
+      (λ h.
+      high 1 (omega arith)
+      (loses-1 a b 1 k w r (range .mark .0) (omega arith) (range .sample .0) (range .cycle .0) (range .read .0) 0 0 starts h))
       early
-      (λ h. high 0 (omega arith) (loses-3 a b 1 k w r (range .mark .0) (omega arith) (range .sample .0) (range .cycle .0) (range .read .0) 0 0 starts h))
+      (λ h.
+      high 0 (omega arith)
+      (loses-3 a b 1 k w r (range .mark .0) (omega arith) (range .sample .0) (range .cycle .0) (range .read .0) 0 0 starts h))
 
 -- the message that fits says that a cell at the last phase does
 pub lost-within-limits : LostWithinLimits

@@ -1,7 +1,7 @@
 -- Rows one behind another: from ready with the first lead heard, each row is delivered and the next lead heard, so the reports are the rows at their last samples.
-use mathlib.Core.Path.{_≡_, refl, subst, sym, ap, _∙_}
-use mathlib.Core.List.{List, [], _∷_, _++_}
-use Prim.Native.Nat.{ℕ, zero, suc, _+_, _*_, _-_, _≤_, _<_}
+use mathlib.Core.Path.{_≡_, refl, subst}
+use mathlib.Core.List.{List, [], _∷_}
+use Prim.Native.Nat.{ℕ, zero, suc, _+_, _*_, _≤_, _<_}
 use native.Mathlib.Nat.{add-assoc}
 use native.Mathlib.Omega.{arith}
 use lib.ListN.{length}
@@ -12,7 +12,7 @@ use Rattle.promises.proofs.Clock.{Clock, mono}
 use Rattle.promises.proofs.Timing.{Settled, Waits, Margins}
 use Rattle.promises.proofs.Cells.{Bits}
 use Rattle.promises.proofs.Sent.{final, Line, size}
-use Rattle.promises.proofs.Sampling.{Samples, samples-on}
+use Rattle.promises.proofs.Sampling.{Samples}
 use Rattle.promises.proofs.Goes.{Goes, here, join}
 use Rattle.promises.proofs.OneRow.{deliveredAt, Ended, RowFrom, one-row, two}
 use Rattle.promises.proofs.Quiets.{Lead, lead-reads, silent, waits, readied}

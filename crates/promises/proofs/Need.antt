@@ -1,4 +1,5 @@
--- The margins are needed: where one of them is minus two or less, a read settles against the message of one bit, since it shares time with a cycle that is not known.
+-- The margins are needed: where one is minus two or less, a read of a message of one bit settles wrongly, since it shares time with a cycle that
+-- is not known.
 use mathlib.Core.Path.{_≡_, sym, ap, _∙_}
 use mathlib.Core.Logic.{_≢_, dite}
 use mathlib.Core.List.{List, [], _∷_}
@@ -109,7 +110,8 @@ pub short-mark : (a b g k w r p p1 p2 j m : ℕ) → 0 < r → p < w → p + j *
     → length (unsettled w r p g (wave a b p1 p2 (1 ∷ []))) ≤ m → a * w + 2 ≤ 2 * r + g * w
     → counted k 1 1 (settledHigh w r p g m (wave a b p1 p2 (1 ∷ []))) ≡ []
 short-mark a b g k w r p p1 p2 j m pos below lies enough m1 =
-    unsampled reads k 1 1 (length reads) (λ q y h. dite (decLe q j) (λ le. high-to a b g k w r p p1 p2 j 1 m pos below lies enough q le h) (λ gt. high q h gt)) (omega arith)
+    unsampled reads k 1 1 (length reads)
+    (λ q y h. dite (decLe q j) (λ le. high-to a b g k w r p p1 p2 j 1 m pos below lies enough q le h) (λ gt. high q h gt)) (omega arith)
   where
     reads : List ℕ
     reads = settledHigh w r p g m (wave a b p1 p2 (1 ∷ []))
@@ -135,7 +137,8 @@ short-mark a b g k w r p p1 p2 j m pos below lies enough m1 =
             wider : (q j : ℕ) → (q ≤ j → ⊥) → suc (suc j) ≤ suc q
             wider q j gt = omega arith
 
--- M2 is minus two or less, and there are no choices: the first read touches the cell's start and settles low, and its sample starts before the code has settled
+-- M2 is minus two or less, and there are no choices: the first read touches the cell's start and settles low, and its sample starts before the
+-- code has settled
 pub early-sample : (a b g k w r p p1 p2 : ℕ) → 0 < a → 0 < g → 0 < k → 0 < r → p < w → p1 * w < p + r → p + k * r < (p1 + (a + g)) * w
     → counted k 1 1 (settledLow w r p g (wave a b p1 p2 (1 ∷ []))) ≢ 1 ∷ []
 early-sample a b g k w r p p1 p2 ha hg hk pos below touches early same =

@@ -10,11 +10,12 @@ use lib.Seq.{getD-drop, getD-take, take-add, drop-drop}
 use Rattle.sender.specs.Sending.{Row}
 use Rattle.board.specs.Rows.{State, next}
 use Rattle.board.specs.Feeding.{Report, afterBy}
+use Rattle.board.proofs.FeedingLaws.{after-append}
 use Rattle.promises.proofs.Sent.{Filled, final, Line, size}
 use Rattle.promises.proofs.Steps.{rules}
 use Rattle.promises.proofs.Goes.{Goes}
 use Rattle.promises.proofs.ManyRows.{Fit}
-use Rattle.promises.proofs.Fed.{after-append, feeds}
+use Rattle.promises.proofs.Fed.{feeds}
 
 -- the cycle in which a time lies
 pub cycle-of : (tw : ℕ → ℕ) (x d lo : ℕ) → tw lo ≤ x → x < tw (lo + d) → (c : ℕ) × (lo ≤ c) × (c < lo + d) × (tw c ≤ x) × (x < tw (suc c))
@@ -61,7 +62,7 @@ module _ (k n Q : ℕ) (R : List ℕ) where
       → (s : State) → afterBy (next (rules k n Q)) s (take (h - j) (drop j R)) ≡ t
   leads j i h t p q le any s =
       ap (λ (x : List ℕ). afterBy (next (rules k n Q)) s x) (part-split j i h p q)
-      ∙ after-append (next (rules k n Q)) (take (i - j) (drop j R)) (take (h - i) (drop i R)) s
+      ∙ after-append (next (rules k n Q)) s (take (i - j) (drop j R)) (take (h - i) (drop i R))
       ∙ from (any (afterBy (next (rules k n Q)) s (take (i - j) (drop j R))))
     where
       from : {u : State} → (es : List Report) × Goes k n Q (λ x. getD R x 2) i u es h t → afterBy (next (rules k n Q)) u (take (h - i) (drop i R)) ≡ t

@@ -1,11 +1,11 @@
 -- The quiet before a row: after a row the receiver hunts in silence, and Q reads within a settled lead make it ready whatever its state was.
-use mathlib.Core.Path.{_≡_, refl, subst, sym, ap, _∙_}
-use mathlib.Core.List.{List, [], _∷_, _++_}
+use mathlib.Core.Path.{_≡_, subst, sym, _∙_}
+use mathlib.Core.List.{List, []}
 use Prim.Native.Nat.{ℕ, zero, suc, _+_, _*_, _-_, _≤_, _<_}
 use native.Mathlib.Nat.{add-assoc, lt-of-mul-lt-mul-right, mul-le-mul-right}
 use native.Mathlib.Decide.{ℕ-discrete, decLe}
 use native.Mathlib.Omega.{arith}
-use Rattle.board.specs.Rows.{State, hunting, ready, next}
+use Rattle.board.specs.Rows.{State, hunting, ready}
 use Rattle.board.specs.Feeding.{Report}
 use Rattle.promises.proofs.Clock.{Clock, mono, span-high, reach-low}
 use Rattle.promises.proofs.Timing.{Settled, Waits, Margins, Crossing, quiet, cross}

@@ -1,20 +1,17 @@
 -- What the tests of ranges say: each test of a chain holds where the whole does.
-use mathlib.Core.Path.{_≡_, refl}
-use mathlib.Core.Bool.{Bool, true, false, _&&_, false≢true}
+use mathlib.Core.Path.{_≡_}
+use mathlib.Core.Bool.{true, _&&_}
 use Prim.Native.Nat.{ℕ, _≤_}
 use lib.Dec.{leb}
 use borrow.Author.Tests.{leb-true}
 use Rattle.measure.specs.Choose.{between}
 use Rattle.measure.specs.Ranges.{subcell, sampling, cycleLength}
 use Rattle.settings.specs.Refusals.{ranged}
-
-pub both-true : (x y : Bool) → (x && y) ≡ true → (x ≡ true) × (y ≡ true)
-both-true true y h = (refl, h)
-both-true false y h = absurd (false≢true h)
+use Rattle.settings.proofs.Both.{both, both-3}
 
 between-true : (least most x : ℕ) → between least most x ≡ true → (least ≤ x) × (x ≤ most)
 between-true least most x h =
-    let (low, high) = both-true (leb least x) (leb x most) h in (leb-true least x low, leb-true x most high)
+    let (low, high) = both (leb least x) (leb x most) h in (leb-true least x low, leb-true x most high)
 
 -- the settings' ranges
 pub record InRange (a b k w r : ℕ) : Type 0 where
@@ -26,14 +23,12 @@ pub record InRange (a b k w r : ℕ) : Type 0 where
 
 pub in-range : (a b k w r : ℕ) → ranged a b k w r ≡ true → InRange a b k w r
 in-range a b k w r h =
-    let (four, five) = both-true (subcell a && subcell b && sampling k && cycleLength w) (cycleLength r) h in
-    let (three, fourth) = both-true (subcell a && subcell b && sampling k) (cycleLength w) four in
-    let (two, third) = both-true (subcell a && subcell b) (sampling k) three in
-    let (first, second) = both-true (subcell a) (subcell b) two in
+    let (counts, cycle, read) = both-3 (subcell a && subcell b && sampling k) (cycleLength w) (cycleLength r) h in
+    let (mark, code, sample) = both-3 (subcell a) (subcell b) (sampling k) counts in
     record {
-      mark = between-true 1 255 a first;
-      code = between-true 1 255 b second;
-      sample = between-true 1 511 k third;
-      cycle = between-true 1 65535 w fourth;
-      read = between-true 1 65535 r five;
+      mark = between-true 1 255 a mark;
+      code = between-true 1 255 b code;
+      sample = between-true 1 511 k sample;
+      cycle = between-true 1 65535 w cycle;
+      read = between-true 1 65535 r read;
     }

@@ -1,4 +1,4 @@
--- The line keeps its word: a read is the level that the cycles sharing time with it all have, settling leaves such a read, and every settled read is a level.
+-- The line keeps its word: a read is the level that the cycles sharing time with it all have, settling leaves it so, and every settled read is a level.
 use mathlib.Core.Path.{_≡_, _∙_}
 use mathlib.Core.List.{List}
 use Prim.Native.Nat.{ℕ, suc, _≤_, _<_}
@@ -11,6 +11,7 @@ use Rattle.line.proofs.Entries.{AtMost, getD-any}
 use Rattle.line.proofs.Clocks.{Clocks, even-clocks}
 use Rattle.line.proofs.ReadsThere.{read-there, read-ends, reads-most}
 use Rattle.line.proofs.SharedCycles.{read-same}
+use Rattle.line.proofs.SmoothLaws.{smooth-most}
 use Rattle.line.proofs.WarpLaws.{warp-by}
 use Rattle.line.proofs.SettleLaws.{length-settle, settle-keeps, settle-most}
 use Rattle.promises.proofs.Clock.{Clock}
@@ -39,6 +40,10 @@ pub record Reads (tw tr : ℕ → ℕ) (levels rs : List ℕ) : Type 0 where
   pub there : (j : ℕ) → tr (suc j) ≤ tw (length levels) → j < length rs
   pub ends : (j : ℕ) → j < length rs → tr (suc j) ≤ tw (length levels)
 
+-- every settled read is a level
+pub line-levels : {tw tr : ℕ → ℕ} → Clocks tw tr → (levels choices : List ℕ) → AtMost 2 levels → AtMost 1 choices → AtMost 1 (settle (warpBy tw tr levels) choices)
+line-levels {tw} {tr} clocks levels choices all chosen = settle-most (warpBy tw tr levels) choices (reads-most clocks levels all) chosen
+
 pub line-reads : {tw tr : ℕ → ℕ} → Clocks tw tr → (levels choices : List ℕ) → AtMost 2 levels → AtMost 1 choices
     → Reads tw tr levels (settle (warpBy tw tr levels) choices)
 line-reads {tw} {tr} clocks levels choices all chosen = record {
@@ -51,7 +56,7 @@ line-reads {tw} {tr} clocks levels choices all chosen = record {
         omega (
           arith,
           getD-any (settle warped choices) j 2 0 (rw length-settle here),
-          settle-most warped choices (reads-most clocks levels all) chosen j (rw length-settle here),
+          line-levels clocks levels choices all chosen j (rw length-settle here),
         );
   };
   there = λ j ends. rw length-settle (read-there clocks levels j ends);
@@ -67,3 +72,7 @@ pub reads-of-01 : (w r p : ℕ) (l choices : List ℕ) → 0 < r → p < w → A
 reads-of-01 w r p l choices pos below levels chosen =
     rw (warp-by w r p (smooth l), smooth-is l)
     (line-reads (even-clocks w r p pos below) (smoothBy 1 0 1 l) choices (smooth-by-most 1 0 1 l levels) chosen)
+
+pub levels-of-01 : (w r p : ℕ) (l choices : List ℕ) → 0 < r → p < w → AtMost 1 l → AtMost 1 choices → AtMost 1 (settle (warp w r p (smooth l)) choices)
+levels-of-01 w r p l choices pos below levels chosen =
+    rw (warp-by w r p (smooth l)) (line-levels (even-clocks w r p pos below) (smooth l) choices (smooth-most 1 l levels) chosen)

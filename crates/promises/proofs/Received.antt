@@ -39,16 +39,19 @@ module _ {tw tr S : ℕ → ℕ} {w1 w2 r1 r2 end : ℕ} (rs : List ℕ) (wclk :
       further c n d = omega arith
 
       go : (m : ℕ) × Heard tw tr (λ i. getD rs i 2) a b g k r2 c v (codeLevel v x) j m
-          → ((m : ℕ) → Waits tw tr (λ i. getD rs i 2) g (c + (a + b)) (codeLevel v x) (m + k) → counted k (length xs) (codeLevel v x) (drop (m + k) rs) ≡ xs)
+          → ((m : ℕ) → Waits tw tr (λ i. getD rs i 2) g (c + (a + b)) (codeLevel v x) (m + k)
+          → counted k (length xs) (codeLevel v x) (drop (m + k) rs) ≡ xs)
           → counted k (suc (length xs)) v (drop j rs) ≡ x ∷ xs
       go (m, q) more =
           counted-step k (length xs) v rs j m 2 (q .from) (there (m + k) (omega (arith, q .ends, inside))) (q .before) (omega (arith, q .differs))
           ∙ rw (q .differs, q .sample, bit-code v x lv (hb .0), more m (q .next))
 
--- Margins of minus one or more and any clocks within their bounds, the phase below the first writer cycle: the receiver, started high, returns the message.
+-- margins of minus one or more and any clocks within their bounds, the phase below the first writer cycle: the receiver, started high, returns
+-- the message
 module _ {tw tr : ℕ → ℕ} {w1 w2 r1 r2 : ℕ} (wclk : Clock tw w1 w2) (rclk : Clock tr r1 r2) (pos : 0 < r1)
     (phase : tw 0 ≤ tr 0) (below : tr 0 < tw 1) {a b g k : ℕ} (settles : 0 < g) (ok : Margins a b g k w1 w2 r1 r2) where
-  pub returns : (p1 p2 : ℕ) (bits rs : List ℕ) → Levels bits → Reads tw tr (smoothBy g 0 1 (wave a b p1 p2 bits)) rs → counted k (length bits) 1 rs ≡ bits
+  pub returns : (p1 p2 : ℕ) (bits rs : List ℕ) → Levels bits → Reads tw tr (smoothBy g 0 1 (wave a b p1 p2 bits)) rs
+      → counted k (length bits) 1 rs ≡ bits
   returns p1 p2 bits rs hb reads =
       received rs wclk rclk pos (reads .settled) (reads .there) ok bits p1 1 0 hb (omega arith)
       (holds a b g l bits p1 1 fits (wave-carries a b p1 p2 bits)) wait (mono wclk _ _ (omega (arith, fits, same)))

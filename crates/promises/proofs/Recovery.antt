@@ -1,8 +1,8 @@
 -- A replaced stretch: what comes before it is as it was, and once a lead read after it has been heard the receiver is ready whatever it went through.
-use mathlib.Core.Path.{_≡_, refl, subst, sym, ap, _∙_}
-use mathlib.Core.List.{List, [], _∷_, _++_, append-assoc}
-use Prim.Native.Nat.{ℕ, zero, suc, _+_, _*_, _-_, _≤_, _<_}
-use native.Mathlib.Nat.{zero-add, add-assoc}
+use mathlib.Core.Path.{_≡_, subst, sym, ap, _∙_}
+use mathlib.Core.List.{List, _∷_, _++_, append-assoc}
+use Prim.Native.Nat.{ℕ, suc, _+_, _*_, _-_, _≤_, _<_}
+use native.Mathlib.Nat.{zero-add}
 use native.Mathlib.Omega.{arith}
 use lib.ListN.{length, getD, take, drop, length-append, length-drop, length-take, take-append-drop}
 use lib.Seq.{getD-drop, length-take-le, drop-drop}
@@ -10,9 +10,10 @@ use Rattle.sender.specs.Sending.{Row, planWave}
 use Rattle.line.specs.Sharing.{Shares}
 use Rattle.board.specs.Rows.{State, fresh, ready, next}
 use Rattle.board.specs.Feeding.{Report, Step, afterBy, reportsBy}
-use Rattle.promises.specs.Demand3.{below, above, movedTo, moved}
+use Rattle.board.proofs.FeedingLaws.{after-append}
+use Rattle.promises.specs.Replaced.{below, above, moved}
 use Rattle.promises.proofs.Clock.{Clock, mono}
-use Rattle.promises.proofs.Timing.{Settled, Margins}
+use Rattle.promises.proofs.Timing.{Margins}
 use Rattle.promises.proofs.Smoothing.{smoothBy, length-smooth-by}
 use Rattle.promises.proofs.Reading.{Reads}
 use Rattle.promises.proofs.Sent.{Line, size, length-plan, sent, settles-in-code}
@@ -20,8 +21,8 @@ use Rattle.promises.proofs.Steps.{rules}
 use Rattle.promises.proofs.Goes.{Goes}
 use Rattle.promises.proofs.OneRow.{two}
 use Rattle.promises.proofs.Quiets.{Lead, from-any}
-use Rattle.promises.proofs.ManyRows.{Fit, Placed, Reports, heard-lead, heard-rows, delivered}
-use Rattle.promises.proofs.Fed.{after-append, first-part, last-part, moves, feeds}
+use Rattle.promises.proofs.ManyRows.{Fit, Placed, heard-lead, heard-rows, delivered}
+use Rattle.promises.proofs.Fed.{movedTo, first-part, last-part, moves, feeds}
 use Rattle.promises.proofs.Parts.{cycle-of, later-line, later-fit, filled, leads}
 
 -- below the stretch the reports are those of the reads as they were
@@ -60,7 +61,7 @@ after-stretch step R i j junk h t fits jh hR lead =
     next-place = omega arith
 
     ready-then : afterBy step fresh (take i R ++ junk ++ A) ≡ t
-    ready-then = after-append step (take i R ++ junk) A fresh ∙ lead (afterBy step fresh (take i R ++ junk))
+    ready-then = after-append step fresh (take i R ++ junk) A ∙ lead (afterBy step fresh (take i R ++ junk))
 
 -- Clocks within bounds, a settling count g, and the reads R of a plan's smoothed wave.
 module _ {tw tr : ℕ → ℕ} {w1 w2 r1 r2 : ℕ} (wclk : Clock tw w1 w2) (rclk : Clock tr r1 r2) (pos : 0 < r1) (phase : tw 0 ≤ tr 0) (start : tr 0 < tw 1)
@@ -72,7 +73,7 @@ module _ {tw tr : ℕ → ℕ} {w1 w2 r1 r2 : ℕ} (wclk : Clock tw w1 w2) (rclk
   abbrev S : ℕ → ℕ
   S i = getD (smoothBy g 0 1 (planWave a b rows)) i 2
 
-  L : ℕ
+  abbrev L : ℕ
   L = length (smoothBy g 0 1 (planWave a b rows))
 
   abbrev G : Step
@@ -81,7 +82,7 @@ module _ {tw tr : ℕ → ℕ} {w1 w2 r1 r2 : ℕ} (wclk : Clock tw w1 w2) (rclk
   lined : Line a b g S 0 1 0 rows
   lined = sent a b g rows (omega (arith, settles-in-code (omega (arith, wclk .low 0, wclk .high 0)) (omega (arith, rclk .low 0, rclk .high 0)) pos ok)) (filled n Q g w1 r2 rows some fit)
 
-  total : 0 + size (a + b) 0 rows ≡ length (smoothBy g 0 1 (planWave a b rows))
+  total : 0 + size (a + b) 0 rows ≡ L
   total = rw length-smooth-by (omega (arith, length-plan a b 0 rows))
 
   begun : tr 0 ≤ tw g
@@ -93,7 +94,7 @@ module _ {tw tr : ℕ → ℕ} {w1 w2 r1 r2 : ℕ} (wclk : Clock tw w1 w2) (rclk
 
   -- with nothing replaced exactly the rows are reported
   pub undamaged : Told (reportsBy G fresh 0 R) 0 rows
-  undamaged = go (delivered (length (smoothBy g 0 1 (planWave a b rows))) wclk rclk pos (reads .settled) ok n Q m4 some begun (length R) (reads .ends) (reads .there) rows lined fit total phase)
+  undamaged = go (delivered L wclk rclk pos (reads .settled) ok n Q m4 some begun (length R) (reads .ends) (reads .there) rows lined fit total phase)
     where
       go : (fs : List Report) × (t : State) × Goes k n Q D 0 fresh fs (length R) t × Told fs 0 rows → Told (reportsBy G fresh 0 R) 0 rows
       go (fs, t, f, p) = subst (λ (x : List Report). Told x 0 rows) (sym (feeds k n Q D f R (zero-add _) (λ h y. rw zero-add) .0)) p
@@ -114,9 +115,6 @@ module _ {tw tr : ℕ → ℕ} {w1 w2 r1 r2 : ℕ} (wclk : Clock tw w1 w2) (rclk
   recovered j earlier row later same after =
       go (later-line a b g S earlier (row ∷ later) 0 1 0 (subst (λ (x : List Row). Line a b g S 0 1 0 x) same lined))
     where
-      L : ℕ
-      L = length (smoothBy g 0 1 (planWave a b rows))
-
       fit′ : Fit n Q g w1 r2 (row ∷ later)
       fit′ = later-fit n Q g w1 r2 earlier (row ∷ later) (subst (λ (x : List Row). Fit n Q g w1 r2 x) same fit)
 

@@ -1,4 +1,5 @@
--- The wave of a plan, smoothed, has the plan's rows: pads are stretches of high, and high stands from a cycle of the last code subcell on where a row ended high.
+-- The wave of a plan, smoothed, has the plan's rows: pads are stretches of high, and where a row ended high the stretch begins with its last
+-- code subcell.
 use mathlib.Core.Path.{_≡_, _∙_}
 use mathlib.Core.Logic.{dite}
 use mathlib.Core.List.{List, [], _∷_, _++_, append-assoc}
@@ -25,7 +26,8 @@ abbrev pub Filled : List Row → Type 0
 Filled [] = Unit {0}
 Filled (row ∷ rows) = (0 < length (row .bits)) × Filled rows
 
--- The smoothed wave S has the rows from cycle c on, after the level u and t cycles of trail. Its pads are known from their cycle g on, and at once after high.
+-- The smoothed wave S has the rows from cycle c on, after the level u and t cycles of trail. Pads are known from their cycle g on, and at once
+-- after high.
 abbrev pub Line : ℕ → ℕ → ℕ → (ℕ → ℕ) → ℕ → ℕ → ℕ → List Row → Type 0
 Line a b g S c u t [] = ((i : ℕ) → c + g ≤ i → i < c + t → S i ≡ 1) × (u ≡ 1 → (i : ℕ) → c ≤ i → i < c + t → S i ≡ 1)
 Line a b g S c u t (row ∷ rows) =
@@ -48,7 +50,8 @@ pub plan-most : (a b : ℕ) (rows : List Row) → AtMost 1 (planWave a b rows)
 unfolding planWave
 plan-most a b [] = most-none 1
 plan-most a b (row ∷ rows) =
-    most-append 1 (wave a b (row .lead) (row .trail) (row .bits)) (planWave a b rows) (wave-most a b (row .lead) (row .trail) (row .bits)) (plan-most a b rows)
+    most-append 1 (wave a b (row .lead) (row .trail) (row .bits)) (planWave a b rows) (wave-most a b (row .lead) (row .trail) (row .bits))
+    (plan-most a b rows)
 
 run-join : (W : ℕ → ℕ) (c n m v : ℕ) → Run W c n v → Run W (c + n) m v → Run W c (n + m) v
 run-join W c n m v p q i x y = dite (decLe (c + n) i) (λ z. q i z (omega arith)) (λ z. p i x (omega arith))

@@ -1,16 +1,14 @@
 -- One read of the row receiver after another: a read makes the run Q, or the mode decides, and what is reported on the way carries its places.
-use mathlib.Core.Path.{_≡_, refl, subst, sym, ap, _∙_}
+use mathlib.Core.Path.{_≡_, refl, ap, _∙_}
 use mathlib.Core.Bool.{Bool, true, false}
 use mathlib.Core.List.{List, [], _∷_, _++_}
 use Prim.Native.Nat.{ℕ, zero, suc, _+_, _-_, _≤_, _<_, min}
-use native.Mathlib.Decide.{ℕ-discrete}
 use native.Mathlib.Omega.{arith}
 use lib.Dec.{eqb}
 use lib.ListN.{length, length-append}
 use borrow.Author.Tests.{eq-eqb, ne-eqb}
 use Rattle.measure.specs.Choose.{choose}
-use Rattle.board.specs.Rows.{Settings, State, Happening, nothing, row, broken, Moved, runAfter, hunting, ready, counting, waiting, inProgress, quietened, collected, listening, next, bitOf}
-use Rattle.board.specs.Feeding.{Report, noted}
+use Rattle.board.specs.Rows.{Settings, State, nothing, row, Moved, runAfter, hunting, ready, counting, waiting, quietened, collected, listening, next, bitOf}
 use Rattle.board.specs.declared.Mode.{Mode}
 use Rattle.board.specs.declared.Mode.the-variants.{Hunting, Ready, Counting, Waiting}
 
@@ -20,11 +18,6 @@ rules k n Q = record { k = k; n = n; Q = Q }
 -- a state that is reached with nothing reported
 abbrev pub silently : State → Moved
 silently s = record { state = s; event = nothing }
-
-pub noted-append : (j : ℕ) (e : Happening) (es fs : List Report) → noted j e (es ++ fs) ≡ noted j e es ++ fs
-noted-append j nothing es fs = refl
-noted-append j (row bits) es fs = refl
-noted-append j (broken found) es fs = refl
 
 -- the run grows by at most one
 pub run-most : (Q run read : ℕ) → runAfter Q run read ≤ suc run

@@ -1,4 +1,4 @@
--- The exact rule at 01's clocks and settling: margins of minus one or more are those of the inner rule, and a lost message of that is one of 01's line.
+-- The exact rule at 01's clocks and settling: 01's margins at minus one or more are those of the inner rule, whose lost message is lost on 01's line.
 use mathlib.Core.Path.{_≡_, refl, sym, _∙_}
 use mathlib.Core.Bool.{Bool, true, false, false≢true}
 use mathlib.Core.List.{[], _∷_}

@@ -1,4 +1,5 @@
--- A message of one bit that is lost, for each margin of minus two or less: all choices high at the last phase, or none at the phase that lets the first read end one time unit into the cell.
+-- A message of one bit is lost for each margin of minus two or less: with all choices high at the last phase, or with no choices at the phase
+-- at which the first read ends one time unit into the cell.
 use mathlib.Core.Path.{_≡_, refl, sym, ap, _∙_}
 use mathlib.Core.Logic.{_≢_, dite}
 use mathlib.Core.List.{List, [], _∷_}
@@ -58,18 +59,18 @@ least w (suc x) h =
     let (n, p, q) = least w x h in
     dite (decLe (suc x) (n * w)) (λ y. (n, y, omega arith)) (λ y. (suc n, omega arith, omega arith))
 
-module _ (a b g k w r : ℕ) (ha : 0 < a) (hg : 0 < g) (hk : 0 < k) (hw : 0 < w) (hr : 0 < r) where
-  -- the number of reads, which are the choices that are needed at most
-  abbrev pub many : ℕ → ℕ → ℕ
-  many lead x = length (unsettled w r (w - 1) g (wave a b lead 0 (x ∷ [])))
+-- the number of reads at the last phase, which is as many choices as can be used
+abbrev pub many : (a b g w r lead bit : ℕ) → ℕ
+many a b g w r lead bit = length (unsettled w r (w - 1) g (wave a b lead 0 (bit ∷ [])))
 
+module _ (a b g k w r : ℕ) (ha : 0 < a) (hg : 0 < g) (hk : 0 < k) (hw : 0 < w) (hr : 0 < r) where
   -- read j starts one time unit before the mark has settled
   module _ (lead j : ℕ) (lies : w - 1 + j * r + 1 ≡ (lead + g) * w) where
-    pub loses-1 : a * w + 2 ≤ 2 * r + g * w → Loses a b g k w r (highBit w lead 1 (many lead 1) hw (omega arith))
-    loses-1 h = nothing _ 1 (short-mark a b g k w r (w - 1) lead 0 j (many lead 1) hr (omega arith) lies (omega arith) h)
+    pub loses-1 : a * w + 2 ≤ 2 * r + g * w → Loses a b g k w r (highBit w lead 1 (many a b g w r lead 1) hw (omega arith))
+    loses-1 h = nothing _ 1 (short-mark a b g k w r (w - 1) lead 0 j (many a b g w r lead 1) hr (omega arith) lies (omega arith) h)
 
-    pub loses-3 : (a + b) * w + 2 ≤ (k + 2) * r + g * w → Loses a b g k w r (highBit w lead 0 (many lead 0) hw (omega arith))
-    loses-3 h = nothing _ 0 (late-sample a b g k w r (w - 1) lead 0 j 0 (many lead 0) hr (omega arith) lies (omega arith) refl h)
+    pub loses-3 : (a + b) * w + 2 ≤ (k + 2) * r + g * w → Loses a b g k w r (highBit w lead 0 (many a b g w r lead 0) hw (omega arith))
+    loses-3 h = nothing _ 0 (late-sample a b g k w r (w - 1) lead 0 j 0 (many a b g w r lead 0) hr (omega arith) lies (omega arith) refl h)
 
   -- the first read ends after the cell's start, and its sample starts before the code has settled
   pub loses-2 : (lead p : ℕ) (below : p < w) → lead * w < p + r → p + k * r < (lead + (a + g)) * w → Loses a b g k w r (lowBit w lead p below)

@@ -5,21 +5,28 @@ use mathlib.Core.Bool.{true}
 use mathlib.Core.List.{List, [], _∷_}
 use lib.ListN.{length}
 use Rattle.measure.specs.Choose.{between}
+use Rattle.measure.specs.Ranges.{sampling, bitsMost, entriesMost}
+use Rattle.measure.specs.Lists.{onto}
+use Rattle.measure.specs.Refusals.{given}
 use Rattle.settings.specs.Margins.{accepted}
 use Rattle.sender.specs.Sending.{wave}
 use Rattle.line.specs.Smooth.{smooth}
 use Rattle.line.specs.Warp.{warp}
 use Rattle.line.specs.Settle.{settle}
 use Rattle.counted.specs.Counted.{counted}
+use Rattle.counted.specs.Refusals.{countedBits}
 use Rattle.promises.specs.Levels.{Levels}
 
--- what the counted receiver, started high, finds of a message that is sent and goes over the line
-abbrev pub found : ℕ → ℕ → ℕ → ℕ → ℕ → ℕ → ℕ → ℕ → List ℕ → List ℕ → List ℕ
-found a b k w r p p1 p2 bits choices =
-    counted k (length bits) 1 (settle (warp w r p (smooth (wave a b p1 p2 bits))) choices)
+-- the reads of a message that is sent and goes over the line
+abbrev pub overTheLine : (a b w r p p1 p2 : ℕ) (bits choices : List ℕ) → List ℕ
+overTheLine a b w r p p1 p2 bits choices = settle (warp w r p (smooth (wave a b p1 p2 bits))) choices
+
+-- what the counted receiver, started high, finds in them
+abbrev pub found : (a b k w r p p1 p2 : ℕ) (bits choices : List ℕ) → List ℕ
+found a b k w r p p1 p2 bits choices = counted k (length bits) 1 (overTheLine a b w r p p1 p2 bits choices)
 
 -- every message is returned, at any phase, with any pads, 0 included, and any choices
-abbrev pub EveryMessageReturned : ℕ → ℕ → ℕ → ℕ → ℕ → Type 0
+abbrev pub EveryMessageReturned : (a b k w r : ℕ) → Type 0
 EveryMessageReturned a b k w r =
     (p p1 p2 : ℕ) (bits choices : List ℕ) → p < w → Levels bits → Levels choices → found a b k w r p p1 p2 bits choices ≡ bits
 
@@ -27,22 +34,36 @@ EveryMessageReturned a b k w r =
 abbrev pub AcceptedReturn : Type 0
 AcceptedReturn = (a b k w r : ℕ) → accepted a b k w r ≡ true → EveryMessageReturned a b k w r
 
+-- What that means for the operation: where its own ranges, limits and room are kept, it answers with the number of bits, and these stand at the
+-- output's front.
+abbrev pub OperationReturns : Type 0
+OperationReturns = (a b k w r p p1 p2 : ℕ) (bits choices output : List ℕ) → accepted a b k w r ≡ true → p < w → Levels bits → Levels choices
+    → sampling k ≡ true → length bits ≤ bitsMost → length (overTheLine a b w r p p1 p2 bits choices) ≤ entriesMost → length bits ≤ length output
+    → countedBits k (length bits) 1 (overTheLine a b w r p p1 p2 bits choices) output ≡ (given (length bits), onto bits output)
+
 -- w / r is within one part in n of unity: from 1 - 1/n to 1 + 1/n
 pub record WithinOnePartIn (n w r : ℕ) : Type 0 where
   pub least : n * r ≤ n * w + r
   pub most : n * w ≤ n * r + r
 
--- Source 002's two results: its 18-cycle cell within 1/18 of unity, and its 32-cycle cell, with k 23, within 1/32. Both lie inside the margins.
+-- source 002's two results: its 18-cycle cell within 1/18 of unity, and its 32-cycle cell, with k 23, within 1/32; both lie inside the margins
 pub record Source002 : Type 0 where
   pub cell-18-accepted : (w r : ℕ) → WithinOnePartIn 18 w r → accepted 5 13 10 w r ≡ true
   pub cell-18-returns : (w r : ℕ) → WithinOnePartIn 18 w r → EveryMessageReturned 5 13 10 w r
   pub cell-32-accepted : (w r : ℕ) → WithinOnePartIn 32 w r → accepted 16 16 23 w r ≡ true
   pub cell-32-returns : (w r : ℕ) → WithinOnePartIn 32 w r → EveryMessageReturned 16 16 23 w r
 
--- Source 002 conjectures that its 18-cycle cell bears ratios almost 30 per cent from unity. At w 100 reads of 67 to 141 are accepted and no others;
--- one step further on either side a bit is lost.
+-- the shortest and the longest read that the 18-cycle cell bears at w 100
+abbrev pub shortestRead : ℕ
+shortestRead = 67
+
+abbrev pub longestRead : ℕ
+longestRead = 141
+
+-- Source 002 conjectures that its 18-cycle cell bears ratios almost 30 per cent from unity. At w 100 the reads of these lengths are accepted and
+-- no others, and return every message; one step further on either side a bit is lost.
 pub record Conjecture002 : Type 0 where
-  pub accepts-exactly : (r : ℕ) → accepted 5 13 10 100 r ≡ between 67 141 r
-  pub returns : (r : ℕ) → 67 ≤ r → r ≤ 141 → EveryMessageReturned 5 13 10 100 r
+  pub accepts-exactly : (r : ℕ) → accepted 5 13 10 100 r ≡ between shortestRead longestRead r
+  pub returns : (r : ℕ) → shortestRead ≤ r → r ≤ longestRead → EveryMessageReturned 5 13 10 100 r
   pub too-fast : found 5 13 10 100 66 35 1 0 (1 ∷ []) [] ≡ 0 ∷ []
   pub too-slow : found 5 13 10 100 142 97 0 10 (0 ∷ []) (1 ∷ 1 ∷ []) ≡ 1 ∷ []

@@ -1,19 +1,18 @@
--- Demand 3: a plan's rows are delivered once and in order, and a stretch of reads that is replaced by any others is made good with the next lead quiet that is heard.
--- The wave, the three passes and one read of the receiver are the definitions that the operations' contracts cite.
-use Prim.Native.Nat.{ℕ, suc, _+_, _-_, _≤_, _<_}
+-- Demand 3: a plan's rows are delivered once and in order, and any stretch of reads that is replaced is made good with the next lead quiet that is heard.
+-- The definitions are those that the operations' contracts cite: the sender leaves `planWave` in the lent output, each pass of the line leaves its list, and
+-- the receiver, given one read a call, reports what feeding `next` reports (OneByOne).
+use Prim.Native.Nat.{ℕ, _+_, _-_, _≤_, _<_}
 use mathlib.Core.Path.{_≡_}
-use mathlib.Core.Bool.{Bool, true}
+use mathlib.Core.Bool.{true}
 use mathlib.Core.List.{List, [], _∷_, _++_}
-use lib.ListN.{length, take, drop}
-use lib.Dec.{ltb}
+use lib.ListN.{length}
 use Rattle.settings.specs.Margins.{m1 as M1, m2 as M2, m3 as M3, m4 as M4, m5 as M5, zeroOrMore}
 use Rattle.sender.specs.Sending.{Row}
-use Rattle.line.specs.Warp.{cycleStart, readStart}
-use Rattle.line.specs.Sharing.{Shares}
 use Rattle.board.specs.Rows.{Settings, fresh, next}
-use Rattle.board.specs.Feeding.{Report, Step, reportsBy}
+use Rattle.board.specs.Feeding.{Step, reportsBy}
 use Rattle.promises.specs.Levels.{Levels}
-use Rattle.promises.specs.Places.{Link, readsOf, cyclesOf, keep, heard, deliveries}
+use Rattle.promises.specs.Places.{Link, readsOf, cyclesOf, withinLead, heard, deliveries}
+use Rattle.promises.specs.Replaced.{damaged, WhollyAfter, below, above, moved}
 
 -- each row has n bits and a lead with M5 zero or more
 abbrev pub RowsFit : Link → List Row → Type 0
@@ -24,7 +23,7 @@ RowsFit x (row ∷ rows) =
     × (zeroOrMore (M5 (row .lead) (x .Q) (x .w) (x .r)) ≡ true)
     × RowsFit x rows
 
--- What is asked of a link and its plan. The upper limits of 01 are not.
+-- What is asked of a link and its plan. None of 01's upper limits is, and that a read takes time follows from M2.
 pub record Fitting (x : Link) : Type 0 where
   pub phase : x .p < x .w
   pub choices : Levels (x .choices)
@@ -35,37 +34,6 @@ pub record Fitting (x : Link) : Type 0 where
   pub m3 : zeroOrMore (M3 (x .a) (x .b) (x .k) (x .w) (x .r)) ≡ true
   pub m4 : zeroOrMore (M4 (x .a) (x .b) (x .Q) (x .w) (x .r)) ≡ true
 
--- the settled reads, those from place i up to j replaced
-abbrev pub damaged : Link → ℕ → ℕ → List ℕ → List ℕ
-damaged x i j junk = take i (readsOf x) ++ junk ++ drop j (readsOf x)
-
--- The lead quiet of a row, whose lead begins with this cycle, is read wholly after a stretch that ends before place j:
--- every read that shares more than a point of time with its lead cycles stands at j or later.
-abbrev pub WhollyAfter : Link → ℕ → Row → ℕ → Type 0
-WhollyAfter x cycle row j =
-    (i read : ℕ) → cycle ≤ i → i < cycle + row .lead → read < length (readsOf x)
-    → Shares (cycleStart (x .w)) (readStart (x .p) (x .r)) read i → j ≤ read
-
--- the reports whose places pass a test; those below a place and those above it
-unfoldable pub reportsAt : (ℕ → Bool) → List Report → List Report
-reportsAt test [] = []
-reportsAt test (report ∷ reports) = keep (test (report .place)) report (reportsAt test reports)
-
-abbrev pub below : ℕ → List Report → List Report
-below place reports = reportsAt (λ at. ltb at place) reports
-
-abbrev pub above : ℕ → List Report → List Report
-above place reports = reportsAt (λ at. ltb place at) reports
-
--- where the stretch moves a read that stood at j or later
-abbrev pub movedTo : ℕ → ℕ → List ℕ → ℕ → ℕ
-movedTo i j junk place = i + length junk + (place - j)
-
-unfoldable pub moved : ℕ → ℕ → List ℕ → List Report → List Report
-moved i j junk [] = []
-moved i j junk (report ∷ reports) =
-    record { place = movedTo i j junk (report .place); event = report .event } ∷ moved i j junk reports
-
 -- Demand 3 of a receiver that does `step` with each read.
 pub record Demand3 (x : Link) (step : Step) : Type 0 where
   -- Before the stretch exactly the rows whose last sample is read there are delivered, and nothing is broken.
@@ -75,7 +43,7 @@ pub record Demand3 (x : Link) (step : Step) : Type 0 where
   pub after : (i j : ℕ) (junk : List ℕ) → i ≤ j → j ≤ length (readsOf x)
       → (earlier : List Row) (row : Row) (later : List Row) → x .rows ≡ earlier ++ row ∷ later
       → WhollyAfter x (cyclesOf x earlier) row j
-      → above (movedTo i j junk (heard x (cyclesOf x earlier) row)) (reportsBy step fresh 0 (damaged x i j junk))
+      → above (i + length junk + (heard x (cyclesOf x earlier) row - j)) (reportsBy step fresh 0 (damaged x i j junk))
       ≡ moved i j junk (deliveries x (cyclesOf x earlier) (row ∷ later))
 
 -- the receiver's settings
@@ -85,3 +53,17 @@ settings x = record { k = x .k; n = x .n; Q = x .Q }
 -- what is promised of 01's step
 abbrev pub Demand3Holds : Type 0
 Demand3Holds = (x : Link) → Fitting x → Demand3 x (next (settings x))
+
+-- What demand 3 takes for granted. Q reads lie within each lead, and each last sample is a read; a lead quiet that is read wholly after the stretch is heard
+-- after it, and the last samples from its row on are read after that, so neither difference stops at 0.
+pub record Grounds (x : Link) : Type 0 where
+  pub leads : (earlier : List Row) (row : Row) (later : List Row) → x .rows ≡ earlier ++ row ∷ later
+      → x .Q ≤ length (withinLead x (cyclesOf x earlier) row)
+  pub samples : below (length (readsOf x)) (deliveries x 0 (x .rows)) ≡ deliveries x 0 (x .rows)
+  pub heard-after : (j : ℕ) (earlier : List Row) (row : Row) (later : List Row) → x .rows ≡ earlier ++ row ∷ later
+      → WhollyAfter x (cyclesOf x earlier) row j → j ≤ heard x (cyclesOf x earlier) row
+  pub sampled-after : (earlier : List Row) (row : Row) (later : List Row) → x .rows ≡ earlier ++ row ∷ later
+      → above (heard x (cyclesOf x earlier) row) (deliveries x (cyclesOf x earlier) (row ∷ later)) ≡ deliveries x (cyclesOf x earlier) (row ∷ later)
+
+abbrev pub GroundsHold : Type 0
+GroundsHold = (x : Link) → Fitting x → Grounds x

@@ -1,5 +1,9 @@
 pub mod Places
+pub mod Replaced
 pub mod Demand3
+pub mod OneByOne
+pub mod Tried
+pub mod Useless
 pub mod Worked
 pub mod Levels
 pub mod CountedReturns

@@ -57,9 +57,13 @@ wholly x from to read =
     leb (cycleStart (x .w) from) (readStart (x .p) (x .r) read)
     && leb (readStart (x .p) (x .r) (suc read)) (cycleStart (x .w) to)
 
--- The lead quiet of a row, whose lead begins with this cycle, has been heard with the Q-th read that lies wholly within its lead cycles without the first.
+-- the reads that lie wholly within the lead cycles, without the first, of a row whose lead begins with this cycle
+unfoldable pub withinLead : Link → ℕ → Row → List ℕ
+withinLead x cycle row = passing (wholly x (suc cycle) (cycle + row .lead)) 0 (length (readsOf x))
+
+-- its lead quiet has been heard with the Q-th of them
 unfoldable pub heard : Link → ℕ → Row → ℕ
-heard x cycle row = numbered (x .Q) (passing (wholly x (suc cycle) (cycle + row .lead)) 0 (length (readsOf x)))
+heard x cycle row = numbered (x .Q) (withinLead x cycle row)
 
 -- the place of the mark, where the first of these reads has this place
 unfoldable pub markPlace : ℕ → ℕ → List ℕ → ℕ

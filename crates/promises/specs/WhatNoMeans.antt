@@ -22,7 +22,7 @@ minusOneOrMore (negsuc zero) = true
 minusOneOrMore (negsuc (suc n)) = false
 
 -- M1, M2 and M3 are all minus one or more
-unfoldable pub almostAccepted : ℕ → ℕ → ℕ → ℕ → ℕ → Bool
+unfoldable pub almostAccepted : (a b k w r : ℕ) → Bool
 almostAccepted a b k w r = minusOneOrMore (m1 a w r) && minusOneOrMore (m2 a k w r) && minusOneOrMore (m3 a b k w r)
 
 -- a message of one bit on its way: pads, a phase and choices
@@ -58,7 +58,7 @@ pub record ExactRule (a b k w r : ℕ) : Type 0 where
 abbrev pub MarginsAreExact : Type 0
 MarginsAreExact = (a b k w r : ℕ) → 1 ≤ a → 1 ≤ k → 1 ≤ w → 1 ≤ r → ExactRule a b k w r
 
--- 01's limits change nothing: wherever settings are in range and a message of one bit is within the limits at all, one within the limits is lost.
+-- 01's limits change nothing: where the settings are in range and some message of one bit is within the limits, one within the limits is lost
 abbrev pub LostWithinLimits : Type 0
 LostWithinLimits = (a b k w r : ℕ) → ranged a b k w r ≡ true → (m : OneBit w) → WithinLimits a b w r m
     → almostAccepted a b k w r ≡ false → (n : OneBit w) × WithinLimits a b w r n × Lost a b k w r n

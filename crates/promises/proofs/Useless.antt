@@ -1,0 +1,33 @@
+-- Each useless receiver reports fewer than two rows over P10's reads as they are, and demand 3 asks two.
+use mathlib.Core.Path.{refl, ap}
+use mathlib.Core.List.{List, []}
+use Prim.Native.Nat.{_<_}
+use native.Mathlib.Omega.{arith}
+use lib.ListN.{length}
+use Rattle.sender.specs.Sending.{cells, wave, planWave}
+use Rattle.line.specs.Smooth.{smoothFrom}
+use Rattle.line.specs.Warp.{look, dropped, warpFrom, warp}
+use Rattle.line.specs.Settle.{settle}
+use Rattle.counted.specs.Counted.{fromMark}
+use Rattle.board.specs.Rows.{fresh, next}
+use Rattle.board.specs.Feeding.{Report, Step, reportsBy}
+use Rattle.promises.specs.Places.{readsOf, passing, numbered, withinLead, heard, markPlace, samplePlace, lastSample, deliveries}
+use Rattle.promises.specs.Replaced.{damaged, reportsAt, below}
+use Rattle.promises.specs.Demand3.{Demand3}
+use Rattle.promises.specs.Tried.{p10}
+use Rattle.promises.specs.Useless.{ShutOut}
+
+too-few : (step : Step) → length (below 121 (reportsBy step fresh 0 (damaged p10 121 121 []))) < 2 → Demand3 p10 step → ⊥
+unfolding readsOf settle warp warpFrom look dropped smoothFrom planWave wave cells fromMark passing numbered withinLead heard markPlace samplePlace lastSample deliveries reportsAt
+too-few step few demand =
+    let two = ap (λ (l : List Report). length l) (demand .before 121 121 [] (omega arith) (omega arith)) in
+    omega arith
+
+pub shut-out : ShutOut
+unfolding readsOf settle warp warpFrom look dropped smoothFrom planWave wave cells next reportsBy reportsAt
+shut-out = record {
+  refusing = too-few _ (omega arith);
+  leaving = too-few _ (omega arith);
+  once = too-few _ (omega arith);
+  once-is = refl;
+}

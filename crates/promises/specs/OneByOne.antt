@@ -1,0 +1,39 @@
+-- What demand 3 means for the receiver's operation: made fresh and given one read a call, it refuses no level and reports what the rules report.
+use Prim.Native.Nat.{ℕ, suc}
+use mathlib.Core.Path.{_≡_}
+use mathlib.Core.Bool.{true}
+use mathlib.Core.List.{List, [], _∷_}
+use Rattle.measure.specs.Refusals.{Answer, given, refused, refusedAfter}
+use Rattle.board.specs.Rows.{Happening, fresh}
+use Rattle.board.specs.Feeding.{Report, noted, reports}
+use Rattle.board.specs.WellFormed.{settingsFit}
+use Rattle.board.specs.Refusals.{begun, stepped}
+use Rattle.board.specs.declared.Receiver.{Receiver}
+use Rattle.promises.specs.Levels.{Levels}
+
+-- the answers of one call a read, each with the receiver that the call before handed back
+unfoldable pub answers : Receiver → List ℕ → List (Answer Happening)
+answers x [] = []
+answers x (read ∷ reads) = stepped x read .answer ∷ answers (stepped x read .receiver) reads
+
+-- none is a refusal
+abbrev pub AllGiven : List (Answer Happening) → Type 0
+AllGiven [] = Unit {0}
+AllGiven (given event ∷ more) = AllGiven more
+AllGiven (refused number place ∷ more) = ⊥
+AllGiven (refusedAfter number place found ∷ more) = ⊥
+
+-- what they report, where the first is the answer to the read at this place
+unfoldable pub reported : ℕ → List (Answer Happening) → List Report
+reported place [] = []
+reported place (given event ∷ more) = noted place event (reported (suc place) more)
+reported place (refused number at ∷ more) = reported (suc place) more
+reported place (refusedAfter number at found ∷ more) = reported (suc place) more
+
+pub record OneByOne (k n Q : ℕ) (reads : List ℕ) : Type 0 where
+  pub refuses-none : AllGiven (answers (begun k n Q .1) reads)
+  pub reports-all : reported 0 (answers (begun k n Q .1) reads) ≡ reports (record { k = k; n = n; Q = Q }) fresh 0 reads
+
+-- for k, n and Q in range
+abbrev pub OperationReports : Type 0
+OperationReports = (k n Q : ℕ) (reads : List ℕ) → settingsFit k n Q ≡ true → Levels reads → OneByOne k n Q reads

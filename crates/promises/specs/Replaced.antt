@@ -1,0 +1,39 @@
+-- A stretch of a link's settled reads that is replaced by any others: which rows are read wholly after it, and where it moves the reports.
+use Prim.Native.Nat.{ℕ, _+_, _-_, _≤_, _<_}
+use mathlib.Core.Bool.{Bool}
+use mathlib.Core.List.{List, [], _∷_, _++_}
+use lib.ListN.{length, take, drop}
+use lib.Dec.{ltb}
+use Rattle.sender.specs.Sending.{Row}
+use Rattle.line.specs.Warp.{cycleStart, readStart}
+use Rattle.line.specs.Sharing.{Shares}
+use Rattle.board.specs.Feeding.{Report}
+use Rattle.promises.specs.Places.{Link, readsOf, keep}
+
+-- the settled reads, those from place i up to j replaced
+abbrev pub damaged : Link → ℕ → ℕ → List ℕ → List ℕ
+damaged x i j junk = take i (readsOf x) ++ junk ++ drop j (readsOf x)
+
+-- The lead quiet of a row, whose lead begins with this cycle, is read wholly after a stretch that ends before place j:
+-- every read that shares more than a point of time with its lead cycles stands at j or later.
+abbrev pub WhollyAfter : Link → ℕ → Row → ℕ → Type 0
+WhollyAfter x cycle row j =
+    (i read : ℕ) → cycle ≤ i → i < cycle + row .lead → read < length (readsOf x)
+    → Shares (cycleStart (x .w)) (readStart (x .p) (x .r)) read i → j ≤ read
+
+-- the reports whose places pass a test; those below a place and those above it
+unfoldable pub reportsAt : (ℕ → Bool) → List Report → List Report
+reportsAt test [] = []
+reportsAt test (report ∷ reports) = keep (test (report .place)) report (reportsAt test reports)
+
+abbrev pub below : ℕ → List Report → List Report
+below place reports = reportsAt (λ at. ltb at place) reports
+
+abbrev pub above : ℕ → List Report → List Report
+above place reports = reportsAt (λ at. ltb place at) reports
+
+-- reports of reads that stood at j or later, each at the place to which the stretch moves its read
+unfoldable pub moved : ℕ → ℕ → List ℕ → List Report → List Report
+moved i j junk [] = []
+moved i j junk (report ∷ reports) =
+    record { place = i + length junk + (report .place - j); event = report .event } ∷ moved i j junk reports
