@@ -1,5 +1,5 @@
 -- The first cycle left for a read starts by the read's start and ends after it: the read before dropped just those that had ended.
-use mathlib.Core.Path.{_≡_, refl}
+use mathlib.Core.Path.{_≡_}
 use mathlib.Core.Logic.{dite}
 use mathlib.Core.List.{List}
 use Prim.Native.Nat.{ℕ, zero, suc, _+_, _-_, _<_, _≤_}

@@ -3,12 +3,12 @@
 use mathlib.Core.Path.{_≡_, refl, sym}
 use mathlib.Core.Logic.{⊎-elim, dite}
 use mathlib.Core.List.{List}
-use Prim.Native.Nat.{ℕ, zero, suc, _+_, _-_, _<_, _≤_}
+use Prim.Native.Nat.{ℕ, zero, suc, _-_, _<_, _≤_}
 use native.Mathlib.Nat.{eq-or-lt-of-le}
 use native.Mathlib.Decide.{ℕ-discrete, decLe}
 use native.Mathlib.Omega.{arith}
-use lib.ListN.{length, drop, getD}
-use Rattle.line.specs.Warp.{look, warpBy}
+use lib.ListN.{length, getD}
+use Rattle.line.specs.Warp.{warpBy}
 use Rattle.line.specs.Sharing.{Shares, firstLeft, LooksAt, ReadIs}
 use Rattle.line.proofs.Clocks.{Clocks, cycles-in-order}
 use Rattle.line.proofs.LookLaws.{look-same, look-known}
@@ -77,7 +77,8 @@ module _ {starts reads : ℕ → ℕ} (clocks : Clocks starts reads) (levels : L
   read-same v ends all = read-is (read-there clocks levels j ends) .same v all
 
 -- only one level is read j
-pub read-is-one : (starts reads : ℕ → ℕ) (levels : List ℕ) (j v u : ℕ) → ReadIs starts reads levels j v → ReadIs starts reads levels j u → v ≡ u
+pub read-is-one : (starts reads : ℕ → ℕ) (levels : List ℕ) (j v u : ℕ) → ReadIs starts reads levels j v → ReadIs starts reads levels j u
+    → v ≡ u
 read-is-one starts reads levels j v u one other =
     dite (ℕ-discrete v 2)
     (λ e. dite (ℕ-discrete u 2) (λ f. omega arith) (λ known. one .same u (other .known known)))

@@ -37,7 +37,8 @@ smooth-next before (level ∷ next ∷ levels) zero h = refl
 smooth-next before (level ∷ next ∷ levels) (suc i) h = smooth-next level (next ∷ levels) i (omega arith)
 
 -- the first
-pub smooth-first : (before : ℕ) (levels : List ℕ) → 0 < length levels → getD (smoothFrom before levels) 0 2 ≡ smoothOne before (getD levels 0 2)
+pub smooth-first : (before : ℕ) (levels : List ℕ) → 0 < length levels
+    → getD (smoothFrom before levels) 0 2 ≡ smoothOne before (getD levels 0 2)
 unfolding smoothFrom
 smooth-first before [] h = absurd (omega arith)
 smooth-first before (level ∷ levels) h = refl

@@ -40,8 +40,8 @@ module _ (w r p : ℕ) (fits : timed w r p ≡ true) where
   pub timed-p : p < w
   timed-p = ltb-true p w (and-right (cycleLength w && cycleLength r) (ltb p w) fits)
 
--- so many cycles of a length in range
-pub product-most : (n w : ℕ) → n ≤ entriesMost + 64 → cycleLength w ≡ true → n * w ≤ 68722622400
+-- so many cycles of a length in range take a time that fits a number of the code
+pub product-most : (n w : ℕ) → n ≤ 2 * entriesMost → cycleLength w ≡ true → n * w ≤ 137436856320
 product-most n w few fits = mul-le-mul few (cycle-most w fits)
 
 -- a cycle that starts before a time by which the wave ends is one of the wave's

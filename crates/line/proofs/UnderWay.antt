@@ -1,5 +1,5 @@
 -- A read under way: with each cycle looked at, what it has found and the cycles to come still make the same read and leave the same cycle.
-use mathlib.Core.Path.{_≡_, refl, sym, _∙_}
+use mathlib.Core.Path.{_≡_, refl, _∙_}
 use mathlib.Core.Logic.{dite}
 use mathlib.Core.List.{List}
 use Prim.Native.Nat.{ℕ, suc, _+_, _-_, _<_, _≤_}
@@ -39,12 +39,14 @@ module _ (starts : ℕ → ℕ) (t : ℕ) (levels : List ℕ) where
 
   -- a level is to be reconciled with what is left
   pub way-from : (level next : ℕ) → starts next < t
-      → UnderWay starts t levels (reconcile level (look starts t next (drop next levels))) (next + dropped starts t next (drop next levels)) level next
+      → UnderWay starts t levels (reconcile level (look starts t next (drop next levels)))
+      (next + dropped starts t next (drop next levels)) level next
   way-from level next begun =
       record { more = λ h. refl; done = λ h. absurd (omega arith); gone = λ h. refl; kept = λ h. absurd (omega arith) }
 
   -- one cycle more has been looked at; the last one before it ended at `end`, before the read
-  pub way-on : (read left level i end level′ next : ℕ) → UnderWay starts t levels read left level i → i < length levels → starts i ≡ end → end < t
+  pub way-on : (read left level i end level′ next : ℕ) → UnderWay starts t levels read left level i
+      → i < length levels → starts i ≡ end → end < t
       → reconcile level (getD levels i 0) ≡ level′ → i + 1 ≡ next → UnderWay starts t levels read left level′ next
   way-on read left level i end level′ next way here at-end begun e n =
       let before : starts i < t = omega arith in

@@ -1,7 +1,7 @@
 -- A loop that warps a wave read by read: so many reads are written, the rest are to come, and the next one begins with the first cycle left.
 use mathlib.Core.Path.{_≡_, refl, sym}
-use mathlib.Core.List.{List, [], _∷_}
-use Prim.Native.Nat.{ℕ, zero, suc, _+_, _-_, _<_, _≤_}
+use mathlib.Core.List.{List}
+use Prim.Native.Nat.{ℕ, suc, _+_, _-_, _<_, _≤_}
 use native.Mathlib.Nat.{zero-add, sub-zero}
 use native.Mathlib.Numerals.{add-one}
 use native.Mathlib.Omega.{arith}
@@ -12,7 +12,7 @@ use Rattle.line.specs.Warp.{look, dropped, warpBy}
 use Rattle.line.specs.Sharing.{firstLeft}
 use Rattle.line.proofs.Clocks.{Clocks, reads-take}
 use Rattle.line.proofs.FirstLeft.{first-left}
-use Rattle.line.proofs.ReadsThere.{readsFrom, readAt, reads-more, reads-over}
+use Rattle.line.proofs.ReadsThere.{readsFrom, reads-more, reads-over}
 
 -- j reads are written, and `first` is the first cycle left
 pub record Run (starts reads : ℕ → ℕ) (levels out₀ out : List ℕ) (first j : ℕ) : Type 0 where

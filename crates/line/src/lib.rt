@@ -124,14 +124,13 @@ struct Looked {
     left: WriterCycles,
 }
 
-// Looks at the first cycle that is left.
-fn look_first(wave: &[u8], first: WriterCycles, w: TimeUnits) -> Looking
-    requires { ⌜ (cycleLength (w .0) ≡ true) × (length (now wave) ≤ entriesMost) × (first .0 < length (now wave)) ⌝ }
-    ensures { λ x. ⌜ (getD (now (wave .entry)) (first .0) 0 ≡ x .level) × (first .0 + 1 ≡ x .next .0) × (x .next .0 * w .0 ≡ x .end .0) ⌝ }
+// The read once it has looked at the cycles up to `last`, and found `level` in them.
+fn up_to(last: WriterCycles, level: u8, w: TimeUnits) -> Looking
+    requires { ⌜ (cycleLength (w .0) ≡ true) × (last .0 < entriesMost) ⌝ }
+    ensures { λ x. ⌜ (level ≡ x .level) × (last .0 + 1 ≡ x .next .0) × (x .next .0 * w .0 ≡ x .end .0) ⌝ }
 {
-    let i = first.0;
+    let i = last.0;
     let cycle = w.0;
-    let level = wave[i];
     let next = i + 1;
     let end = next * cycle;
     Looking {
@@ -144,24 +143,20 @@ fn look_first(wave: &[u8], first: WriterCycles, w: TimeUnits) -> Looking
 // Looks at one cycle more.
 fn look_on(wave: &[u8], looking: Looking, w: TimeUnits) -> Looking
     requires { ⌜ (cycleLength (w .0) ≡ true) × (length (now wave) ≤ entriesMost) × (looking .next .0 < length (now wave)) ⌝ }
-    ensures { λ x. ⌜ (agree (looking .level) (getD (now (wave .entry)) (looking .next .0) 0) ≡ x .level) × (looking .next .0 + 1 ≡ x .next .0) × (x .next .0 * w .0 ≡ x .end .0) ⌝ }
+    ensures { λ x. ⌜ (agree (looking .level) (getD (now (wave .entry)) (looking .next .0) 0) ≡ x .level)
+        × (looking .next .0 + 1 ≡ x .next .0) × (x .next .0 * w .0 ≡ x .end .0) ⌝ }
 {
-    let i = looking.next.0;
-    let cycle = w.0;
+    let next = looking.next;
+    let i = next.0;
     let level = agreed(looking.level, wave[i]);
-    let next = i + 1;
-    let end = next * cycle;
-    Looking {
-        level: level,
-        next: WriterCycles(next),
-        end: TimeUnits(end),
-    }
+    up_to(next, level, w)
 }
 
 // Ends a read at `t`, in the last cycle looked at: that one is dropped if it ends with the read, and otherwise left.
 fn leave(looking: Looking, t: TimeUnits) -> Looked
     requires { ⌜ 0 < looking .next .0 ⌝ }
-    ensures { λ x. ⌜ (looking .level ≡ x .level) × (choose (ltb (t .0) (looking .end .0)) (looking .next .0 - 1) (looking .next .0) ≡ x .left .0) ⌝ }
+    ensures { λ x. ⌜ (looking .level ≡ x .level)
+        × (choose (ltb (t .0) (looking .end .0)) (looking .next .0 - 1) (looking .next .0) ≡ x .left .0) ⌝ }
 {
     let level = looking.level;
     let next = looking.next.0;
@@ -180,14 +175,18 @@ fn leave(looking: Looking, t: TimeUnits) -> Looked
     }
 }
 
-// The most cycles that one call of reconcile looks at. A read looks at 65,536 at most, so at most 1,024 calls are open at a time.
+// The most cycles that one call of reconcile looks at. A read looks at 65,535 at most, so at most 1,024 calls are open at a time.
 const BLOCK: usize = 64;
 
 // Reconciles the level found so far with the cycles that the read, which ends at `t`, has yet to look at: with a block of them here, and
 // with the rest by a call of itself. The number of cycles left falls at each call.
 fn reconcile(wave: &[u8], looking: Looking, w: TimeUnits, t: TimeUnits) -> Looked
-    requires { ⌜ (cycleLength (w .0) ≡ true) × (length (now wave) ≤ entriesMost) × (looking .next .0 * w .0 ≡ looking .end .0) × (looking .end .0 < t .0) × (t .0 ≤ length (now wave) * w .0) ⌝ }
-    ensures { λ x. ⌜ (agree (looking .level) (look (cycleStart (w .0)) (t .0) (looking .next .0) (drop (looking .next .0) (now (wave .entry)))) ≡ x .level) × (looking .next .0 + dropped (cycleStart (w .0)) (t .0) (looking .next .0) (drop (looking .next .0) (now (wave .entry))) ≡ x .left .0) ⌝ }
+    requires { ⌜ (cycleLength (w .0) ≡ true) × (length (now wave) ≤ entriesMost) × (looking .next .0 * w .0 ≡ looking .end .0)
+        × (looking .end .0 < t .0) × (t .0 ≤ length (now wave) * w .0) ⌝ }
+    ensures { λ x. ⌜ (agree (looking .level) (look (cycleStart (w .0)) (t .0) (looking .next .0)
+        (drop (looking .next .0) (now (wave .entry)))) ≡ x .level)
+        × (looking .next .0 + dropped (cycleStart (w .0)) (t .0) (looking .next .0)
+        (drop (looking .next .0) (now (wave .entry))) ≡ x .left .0) ⌝ }
 {
     let from = looking.next.0;
     let cycle = w.0;
@@ -210,11 +209,15 @@ fn reconcile(wave: &[u8], looking: Looking, w: TimeUnits, t: TimeUnits) -> Looke
 // One read, which ends at `t`: it looks at the first cycle that is left and then at the rest. A read of up to twice a cycle's length looks at
 // three at most, and those are taken here, without a call.
 fn one_read(wave: &[u8], first: WriterCycles, w: TimeUnits, t: TimeUnits) -> Looked
-    requires { ⌜ (cycleLength (w .0) ≡ true) × (length (now wave) ≤ entriesMost) × (first .0 * w .0 < t .0) × (t .0 ≤ length (now wave) * w .0) ⌝ }
-    ensures { λ x. ⌜ (look (cycleStart (w .0)) (t .0) (first .0) (drop (first .0) (now (wave .entry))) ≡ x .level) × (first .0 + dropped (cycleStart (w .0)) (t .0) (first .0) (drop (first .0) (now (wave .entry))) ≡ x .left .0) ⌝ }
+    requires { ⌜ (cycleLength (w .0) ≡ true) × (length (now wave) ≤ entriesMost)
+        × (first .0 * w .0 < t .0) × (t .0 ≤ length (now wave) * w .0) ⌝ }
+    ensures { λ x. ⌜ (look (cycleStart (w .0)) (t .0) (first .0) (drop (first .0) (now (wave .entry))) ≡ x .level)
+        × (first .0 + dropped (cycleStart (w .0)) (t .0) (first .0) (drop (first .0) (now (wave .entry))) ≡ x .left .0) ⌝ }
 {
     let until = t.0;
-    let one = look_first(wave, first, w);
+    let i = first.0;
+    let level = wave[i];
+    let one = up_to(first, level, w);
     if until <= one.end.0 {
         return leave(one, t);
     }
@@ -230,7 +233,8 @@ fn one_read(wave: &[u8], first: WriterCycles, w: TimeUnits, t: TimeUnits) -> Loo
 }
 
 fn warp_into(wave: &[u8], w: TimeUnits, r: TimeUnits, p: TimeUnits, n: ReadCycles, out: &mut [u8])
-    requires { ⌜ (isTimed (w .0) (r .0) (p .0) ≡ true) × (length (now wave) ≤ entriesMost) × (readCount (w .0) (r .0) (p .0) (length (now wave)) ≡ n .0) × (n .0 ≤ entriesMost) × (n .0 ≤ length (now out)) ⌝ }
+    requires { ⌜ (isTimed (w .0) (r .0) (p .0) ≡ true) × (length (now wave) ≤ entriesMost)
+        × (readCount (w .0) (r .0) (p .0) (length (now wave)) ≡ n .0) × (n .0 ≤ length (now out)) ⌝ }
     ensures { λ _. ⌜ onto (warping (w .0) (r .0) (p .0) (now (wave .entry))) (now (out .entry)) ≡ now (out .exit) ⌝ }
 {
     let all = n.0;

@@ -1,8 +1,8 @@
 -- `reconcile` meets its contract: a read under way stays so over the block, and what is left of it is the call's. The measure is the number of
 -- cycles left.
-use mathlib.Core.Path.{_≡_, refl}
+use mathlib.Core.Path.{_≡_}
 use mathlib.Core.Logic.{⊎-elim}
-use Prim.Native.Nat.{ℕ, suc, _+_, _*_, _-_, _<_, _≤_}
+use Prim.Native.Nat.{ℕ, _+_, _*_, _-_, _<_, _≤_}
 use native.Mathlib.Nat.{lt-of-mul-lt-mul-right}
 use native.Mathlib.Omega.{arith}
 use lib.ListN.{length, drop}
@@ -18,6 +18,10 @@ use Rattle.line.proofs.leave.Reads as leave-reads
 use Rattle.line.proofs.look_on.Reads as look-on-reads
 use Rattle.line.proofs.+reconcile.{statement}
 use Rattle.line.proofs.+reconcile.Tie.{close}
+
+-- the code's BLOCK
+abbrev block : ℕ
+block = 64
 
 abbrev μ-reconcile : Measures 1 reconcile-kinds.ps ℕ
 μ-reconcile κs a = length (a .0 .now) - a .1 .0 .next .0
@@ -54,7 +58,7 @@ module _ (t : ℕ) where
       let s = c .before in
       omega (
         arith,
-        product-most (s .args .looking .next .0 + 64) (s .args .w .0)
+        product-most (s .args .looking .next .0 + block) (s .args .w .0)
             (omega (arith, there s _ _ (s .pre .1 .2) (s .pre .1 .3))) (s .pre .1 .0),
       )
 
@@ -62,12 +66,17 @@ module _ (t : ℕ) where
   loop-holds c = (c .before .before .pre .1 .2, omega arith, way-from _ _ _ _ _ (omega arith))
 
   -- the block ends with the read or before it
-  stops : (c : reconcile-lts.Joined1 (called t) (at-measure t) reconcile.Post Inv-loop μ-loop)
-      → (c .if1 .stop ≤ c .before .before .args .t .0)
-      × (c .if1 .stop ≤ (c .before .before .args .looking .next .0 + 64) * c .before .before .args .w .0)
-      × (c .if1 .stop < c .before .before .args .t .0 → c .if1 .stop ≡ (c .before .before .args .looking .next .0 + 64) * c .before .before .args .w .0)
+  abbrev Stops : reconcile-lts.Start (called t) (at-measure t) reconcile.Post Inv-loop μ-loop → ℕ → Type 0
+  Stops s stop =
+      (stop ≤ s .args .t .0) × (stop ≤ (s .args .looking .next .0 + block) * s .args .w .0)
+      × (stop < s .args .t .0 → stop ≡ (s .args .looking .next .0 + block) * s .args .w .0)
+
+  stops : (c : reconcile-lts.Joined1 (called t) (at-measure t) reconcile.Post Inv-loop μ-loop) → Stops (c .before .before) (c .if1 .stop)
   stops c =
-      ⊎-elim (λ came. (omega arith, omega arith, λ h. omega arith)) (λ came. (omega arith, omega arith, λ h. absurd (omega arith))) (c .if1 .came)
+      ⊎-elim
+      (λ came. (omega arith, omega arith, λ h. omega arith))
+      (λ came. (omega arith, omega arith, λ h. absurd (omega arith)))
+      (c .if1 .came)
 
   look-on-requires : reconcile-lts.Need-look-on-requires (called t) (at-measure t) reconcile.Post Inv-loop μ-loop
   look-on-requires c κs =
@@ -93,13 +102,13 @@ module _ (t : ℕ) where
       let d = c .before .before .before in
       let s = d .before .before .before in
       let before : d .loop .at .end .0 < s .args .t .0 = omega (arith, c .before .if2 .taken, stops (d .before) .0) in
-      let start : d .loop .at .next .0 * s .args .w .0 < (s .args .looking .next .0 + 64) * s .args .w .0 =
+      let start : d .loop .at .next .0 * s .args .w .0 < (s .args .looking .next .0 + block) * s .args .w .0 =
       omega (arith, c .before .if2 .taken, d .loop .inv .0, stops (d .before) .1) in (
         c .look-on .ensures .2,
         omega (
           arith,
           c .look-on .ensures .2,
-          ends-by (s .args .w .0) (d .loop .at .next .0) (s .args .looking .next .0 + 64) (c .look-on .result .next .0) start (c .look-on .ensures .1),
+          ends-by (s .args .w .0) (d .loop .at .next .0) (s .args .looking .next .0 + block) (c .look-on .result .next .0) start (c .look-on .ensures .1),
         ),
         way-on _ _ _ _ _ _ _ _ _ _ (d .loop .inv .2) (there s _ _ (d .loop .inv .0) before) (d .loop .inv .0) before
             (c .look-on .ensures .0) (c .look-on .ensures .1),
@@ -139,7 +148,8 @@ module _ (t : ℕ) where
   returns : reconcile-lts.Need-returns (called t) (at-measure t) reconcile.Post Inv-loop μ-loop
   returns c =
       let d = c .before .before .before .before in
-      way-again _ _ _ _ _ _ _ _ _ _ (d .loop .inv .2) (d .loop .inv .0) (goes-on (c .before)) (c .reconcile .ensures .0) (c .reconcile .ensures .1)
+      way-again _ _ _ _ _ _ _ _ _ _ (d .loop .inv .2) (d .loop .inv .0) (goes-on (c .before))
+      (c .reconcile .ensures .0) (c .reconcile .ensures .1)
 
   leave-requires : reconcile-lts.Need-leave-requires (called t) (at-measure t) reconcile.Post Inv-loop μ-loop
   leave-requires c κs =

@@ -24,13 +24,18 @@ there s k start e begun = in-wave (s .args .w .0) (length (s .args .wave .now)) 
 takes : (s : tie.Start) (k : ℕ) → cycleStart (s .args .w .0) k < cycleStart (s .args .w .0) (suc k)
 takes s k = omega (arith, cycle-least (s .args .w .0) (s .pre .0))
 
-look-first-requires : tie.Need-look-first-requires
-look-first-requires c κs = (c .before .pre .0, c .before .pre .1, there (c .before) _ _ refl (c .before .pre .2))
+shared-slice-read-level : tie.Need-shared-slice-read-level
+shared-slice-read-level c = there (c .before .before) _ _ refl (c .before .before .pre .2)
 
-one : (c : tie.After-look-first) → Way (c .before .before) (c .look-first .result .level) (c .look-first .result .next .0)
-one c =
+up-to-requires : tie.Need-up-to-requires
+up-to-requires c κs =
     let s = c .before .before in
-    way-first _ _ _ _ _ _ (there s _ _ refl (s .pre .2)) (s .pre .2) (c .look-first .ensures .0) (c .look-first .ensures .1)
+    (s .pre .0, omega (arith, s .pre .1, there s _ _ refl (s .pre .2)))
+
+one : (c : tie.After-up-to) → Way (c .before .before .before) (c .up-to .result .level) (c .up-to .result .next .0)
+one c =
+    let s = c .before .before .before in
+    way-first _ _ _ _ _ _ (there s _ _ refl (s .pre .2)) (s .pre .2) (c .up-to .ensures .0) (c .up-to .ensures .1)
 
 leave-requires : tie.Need-leave-requires
 leave-requires c κs = omega arith
@@ -38,20 +43,20 @@ leave-requires c κs = omega arith
 returns : tie.Need-returns
 returns c =
     let d = c .before .before .before in
-    way-ends _ _ _ _ _ _ _ _ _ _ (one d) (d .look-first .ensures .2) (c .before .if1 .taken) (takes (d .before .before) _)
+    way-ends _ _ _ _ _ _ _ _ _ _ (one d) (d .up-to .ensures .2) (c .before .if1 .taken) (takes (d .before .before .before) _)
     (c .leave .ensures .0) (c .leave .ensures .1)
 
 look-on-requires : tie.Need-look-on-requires
 look-on-requires c κs =
     let d = c .before .before in
-    let s = d .before .before in
-    (s .pre .0, s .pre .1, there s _ _ (d .look-first .ensures .2) (c .if1 .left))
+    let s = d .before .before .before in
+    (s .pre .0, s .pre .1, there s _ _ (d .up-to .ensures .2) (c .if1 .left))
 
-two : (c : tie.After-look-on) → Way (c .before .before .before .before .before) (c .look-on .result .level) (c .look-on .result .next .0)
+two : (c : tie.After-look-on) → Way (c .before .before .before .before .before .before) (c .look-on .result .level) (c .look-on .result .next .0)
 two c =
     let d = c .before .before .before in
-    way-on _ _ _ _ _ _ _ _ _ _ (one d) (there (d .before .before) _ _ (d .look-first .ensures .2) (c .before .if1 .left))
-    (d .look-first .ensures .2) (c .before .if1 .left) (c .look-on .ensures .0) (c .look-on .ensures .1)
+    way-on _ _ _ _ _ _ _ _ _ _ (one d) (there (d .before .before .before) _ _ (d .up-to .ensures .2) (c .before .if1 .left))
+    (d .up-to .ensures .2) (c .before .if1 .left) (c .look-on .ensures .0) (c .look-on .ensures .1)
 
 leave-requires-2 : tie.Need-leave-requires-2
 leave-requires-2 c κs = omega arith
@@ -59,21 +64,21 @@ leave-requires-2 c κs = omega arith
 returns-2 : tie.Need-returns-2
 returns-2 c =
     let d = c .before .before .before in
-    way-ends _ _ _ _ _ _ _ _ _ _ (two d) (d .look-on .ensures .2) (c .before .if2 .taken) (takes (d .before .before .before .before .before) _)
+    way-ends _ _ _ _ _ _ _ _ _ _ (two d) (d .look-on .ensures .2) (c .before .if2 .taken) (takes (d .before .before .before .before .before .before) _)
     (c .leave2 .ensures .0) (c .leave2 .ensures .1)
 
 look-on-requires-2 : tie.Need-look-on-requires-2
 look-on-requires-2 c κs =
     let d = c .before .before in
-    let s = d .before .before .before .before .before in
+    let s = d .before .before .before .before .before .before in
     (s .pre .0, s .pre .1, there s _ _ (d .look-on .ensures .2) (c .if2 .left))
 
 three : (c : tie.After-look-on2)
-    → Way (c .before .before .before .before .before .before .before .before) (c .look-on2 .result .level) (c .look-on2 .result .next .0)
+    → Way (c .before .before .before .before .before .before .before .before .before) (c .look-on2 .result .level) (c .look-on2 .result .next .0)
 three c =
     let d = c .before .before .before in
     way-on _ _ _ _ _ _ _ _ _ _ (two d)
-    (there (d .before .before .before .before .before) _ _ (d .look-on .ensures .2) (c .before .if2 .left))
+    (there (d .before .before .before .before .before .before) _ _ (d .look-on .ensures .2) (c .before .if2 .left))
     (d .look-on .ensures .2) (c .before .if2 .left) (c .look-on2 .ensures .0) (c .look-on2 .ensures .1)
 
 leave-requires-3 : tie.Need-leave-requires-3
@@ -83,12 +88,12 @@ returns-3 : tie.Need-returns-3
 returns-3 c =
     let d = c .before .before .before in
     way-ends _ _ _ _ _ _ _ _ _ _ (three d) (d .look-on2 .ensures .2) (c .before .if3 .taken)
-    (takes (d .before .before .before .before .before .before .before .before) _) (c .leave3 .ensures .0) (c .leave3 .ensures .1)
+    (takes (d .before .before .before .before .before .before .before .before .before) _) (c .leave3 .ensures .0) (c .leave3 .ensures .1)
 
 reconcile-requires : tie.Need-reconcile-requires
 reconcile-requires c κs =
     let d = c .before .before in
-    let s = d .before .before .before .before .before .before .before .before in
+    let s = d .before .before .before .before .before .before .before .before .before in
     (s .pre .0, s .pre .1, d .look-on2 .ensures .2, c .if3 .left, s .pre .3)
 
 returns-4 : tie.Need-returns-4
@@ -100,7 +105,8 @@ pub one-read-spec : {M : Type 1} → statement M
 one-read-spec =
     tie.close
     (tie.spec
-    look-first-requires
+    shared-slice-read-level
+    up-to-requires
     leave-requires
     returns
     look-on-requires

@@ -1,10 +1,17 @@
 -- `settle` meets its contract: each test that led to a return is one of the definition's, in its order.
+use mathlib.Core.Path.{_≡_, _∙_}
 use borrow.Author.Needs.{needs}
 use borrow.Author.Tests.{lt-ltb, le-ltb}
+use Rattle.measure.specs.Refusals.{lent}
+use Rattle.line.specs.Settle.{settle}
 use Rattle.line.specs.Refusals.{settled}
 use Rattle.line.proofs.SettleLaws.{length-settle}
 use Rattle.line.proofs.settle.Statement.{statement}
 use Rattle.line.proofs.settle.Tie as tie
+
+abbrev Judged : tie.Start → Type 0
+Judged s =
+    settled (s .args .reads .now) (s .args .choices .now) (s .args .out .now) ≡ lent (settle (s .args .reads .now) (s .args .choices .now)) (s .args .out .now)
 
 returns : tie.Need-returns
 unfolding settled
@@ -43,20 +50,22 @@ returns-4 c =
       lt-ltb _ _ (c .if4 .taken),
     )
 
-returns-5 : tie.Need-returns-5
+-- past the judging of the lists, the answer is that of the lent output
+judged : (c : tie.Else4) → Judged (c .before .before .before .before .before .before .before .before .before)
 unfolding settled
-returns-5 c =
-    let d = c .before .before .before in
+judged c =
+    let d = c .before .before in
     simp (
-      length-settle,
       le-ltb _ _ (d .before .before .before .if1 .left),
       le-ltb _ _ (d .before .before .if2 .left),
       ← d .before .first-above .ensures,
       le-ltb _ _ (d .if3 .left),
-      ← c .before .before .first-above2 .ensures,
-      le-ltb _ _ (c .before .if4 .left),
-      lt-ltb _ _ (c .if5 .taken),
+      ← c .before .first-above2 .ensures,
+      le-ltb _ _ (c .if4 .left),
     )
+
+returns-5 : tie.Need-returns-5
+returns-5 c = judged (c .before) ∙ simp (length-settle, lt-ltb _ _ (c .if5 .taken))
 
 settle-into-requires : tie.Need-settle-into-requires
 settle-into-requires c κs = search needs
@@ -65,21 +74,9 @@ same-length : tie.Need-same-length
 same-length c = search needs
 
 returns-6 : tie.Need-returns-6
-unfolding settled
 returns-6 c =
-    let e = c .before .before .before .before in
-    let d = e .before .before .before in
-    simp (
-      length-settle,
-      le-ltb _ _ (d .before .before .before .if1 .left),
-      le-ltb _ _ (d .before .before .if2 .left),
-      ← d .before .first-above .ensures,
-      le-ltb _ _ (d .if3 .left),
-      ← e .before .before .first-above2 .ensures,
-      le-ltb _ _ (e .before .if4 .left),
-      le-ltb _ _ (e .if5 .left),
-      ← c .before .before .settle-into .ensures,
-    )
+    let d = c .before .before .before .before in
+    judged (d .before) ∙ simp (length-settle, le-ltb _ _ (d .if5 .left), ← c .before .before .settle-into .ensures)
 
 pub settle-spec : {M : Type 1} → statement M
 settle-spec =

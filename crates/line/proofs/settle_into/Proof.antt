@@ -1,5 +1,5 @@
 -- `settle_into` meets its contract: what is written, followed by the reads left settled by the choices left, is the whole stream settled.
-use mathlib.Core.Path.{_≡_, sym}
+use mathlib.Core.Path.{sym}
 use mathlib.Core.Logic.{⊎-elim}
 use Prim.Native.Nat.{_≤_, _-_}
 use native.Mathlib.Omega.{arith}

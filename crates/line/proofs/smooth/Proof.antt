@@ -1,11 +1,16 @@
 -- `smooth` meets its contract: each test that led to a return is one of the definition's, in its order.
-use mathlib.Core.Path.{_≡_}
+use mathlib.Core.Path.{_≡_, _∙_}
 use borrow.Author.Needs.{needs}
 use borrow.Author.Tests.{lt-ltb, le-ltb}
+use Rattle.measure.specs.Refusals.{lent}
+use Rattle.line.specs.Smooth.{smooth}
 use Rattle.line.specs.Refusals.{smoothed}
 use Rattle.line.proofs.SmoothLaws.{length-smooth}
 use Rattle.line.proofs.smooth.Statement.{statement}
 use Rattle.line.proofs.smooth.Tie as tie
+
+abbrev Judged : tie.Start → Type 0
+Judged s = smoothed (s .args .wave .now) (s .args .out .now) ≡ lent (smooth (s .args .wave .now)) (s .args .out .now)
 
 returns : tie.Need-returns
 unfolding smoothed
@@ -19,16 +24,14 @@ unfolding smoothed
 returns-2 c =
     simp (le-ltb _ _ (c .before .before .if1 .left), ← c .before .first-above .ensures, lt-ltb _ _ (c .if2 .taken))
 
-returns-3 : tie.Need-returns-3
+-- past the judging of the wave, the answer is that of the lent output
+judged : (c : tie.Else2) → Judged (c .before .before .before .before .before)
 unfolding smoothed
-returns-3 c =
-    simp (
-      length-smooth,
-      le-ltb _ _ (c .before .before .before .if1 .left),
-      ← c .before .before .first-above .ensures,
-      le-ltb _ _ (c .before .if2 .left),
-      lt-ltb _ _ (c .if3 .taken),
-    )
+judged c =
+    simp (le-ltb _ _ (c .before .before .if1 .left), ← c .before .first-above .ensures, le-ltb _ _ (c .if2 .left))
+
+returns-3 : tie.Need-returns-3
+returns-3 c = judged (c .before) ∙ simp (length-smooth, lt-ltb _ _ (c .if3 .taken))
 
 smooth-into-requires : tie.Need-smooth-into-requires
 smooth-into-requires c κs = search needs
@@ -37,17 +40,9 @@ same-length : tie.Need-same-length
 same-length c = search needs
 
 returns-4 : tie.Need-returns-4
-unfolding smoothed
 returns-4 c =
     let d = c .before .before .before .before in
-    simp (
-      length-smooth,
-      le-ltb _ _ (d .before .before .before .if1 .left),
-      ← d .before .before .first-above .ensures,
-      le-ltb _ _ (d .before .if2 .left),
-      le-ltb _ _ (d .if3 .left),
-      ← c .before .before .smooth-into .ensures,
-    )
+    judged (d .before) ∙ simp (length-smooth, le-ltb _ _ (d .if3 .left), ← c .before .before .smooth-into .ensures)
 
 pub smooth-spec : {M : Type 1} → statement M
 smooth-spec =

@@ -1,5 +1,5 @@
 -- `smooth_into` meets its contract: what is written, followed by the smoothing of the cycles left, is the smoothing of the wave.
-use mathlib.Core.Path.{_≡_, sym}
+use mathlib.Core.Path.{sym}
 use Prim.Native.Nat.{_≤_, _-_}
 use native.Mathlib.Omega.{arith}
 use borrow.Author.Needs.{needs}

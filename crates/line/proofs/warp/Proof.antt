@@ -1,11 +1,12 @@
 -- `warp` meets its contract: each test that led to a return is one of the definition's, in its order, and the reads are as many as were counted.
-use mathlib.Core.Path.{_≡_, sym, _∙_}
+use mathlib.Core.Path.{_≡_, _∙_}
 use mathlib.Core.Bool.{true}
-use Prim.Native.Nat.{_<_}
+use Prim.Native.Nat.{ℕ}
 use native.Mathlib.Omega.{arith}
 use borrow.Author.Needs.{needs}
 use borrow.Author.Tests.{lt-ltb, le-ltb, not-true, not-false}
 use lib.ListN.{length}
+use Rattle.measure.specs.Refusals.{lent}
 use Rattle.line.specs.Warp.{warp as warping}
 use Rattle.line.specs.Refusals.{warped, timed}
 use Rattle.line.proofs.Times.{timed-r, timed-p, cycle-least}
@@ -21,7 +22,10 @@ unfolding warped
 returns c = simp (c .before .timed .ensures ∙ not-true _ (c .if1 .taken))
 
 -- past the first test the times are in range
-in-range : (c : tie.Else1) → timed (c .before .before .before .before .args .w .0) (c .before .before .before .before .args .r .0) (c .before .before .before .before .args .p .0) ≡ true
+abbrev InRange : tie.Start → Type 0
+InRange s = timed (s .args .w .0) (s .args .r .0) (s .args .p .0) ≡ true
+
+in-range : (c : tie.Else1) → InRange (c .before .before .before .before)
 in-range c = c .before .timed .ensures ∙ not-false _ (c .if1 .left)
 
 returns-2 : tie.Need-returns-2
@@ -32,9 +36,10 @@ count-requires : tie.Need-count-requires
 count-requires c κs = (in-range (c .before), search needs)
 
 -- the reads are as many as were counted
-counted : (c : tie.After-count)
-    → length (warping (c .before .before .before .before .before .before .args .w .0) (c .before .before .before .before .before .before .args .r .0) (c .before .before .before .before .before .before .args .p .0) (c .before .before .before .before .before .before .args .wave .now))
-    ≡ c .count .result .0
+abbrev Counted : tie.Start → ℕ → Type 0
+Counted s n = length (warping (s .args .w .0) (s .args .r .0) (s .args .p .0) (s .args .wave .now)) ≡ n
+
+counted : (c : tie.After-count) → Counted (c .before .before .before .before .before .before) (c .count .result .0)
 counted c =
     let d = c .before .before in
     let s = d .before .before .before .before in
@@ -65,45 +70,42 @@ returns-4 c =
       lt-ltb _ _ (c .if4 .taken),
     )
 
-returns-5 : tie.Need-returns-5
+-- past the judging of the times and the wave, the answer is that of the lent output
+abbrev Judged : tie.Start → Type 0
+Judged s =
+    warped (s .args .w .0) (s .args .r .0) (s .args .p .0) (s .args .wave .now) (s .args .out .now)
+    ≡ lent (warping (s .args .w .0) (s .args .r .0) (s .args .p .0) (s .args .wave .now)) (s .args .out .now)
+
+judged : (c : tie.Else4) → Judged (c .before .before .before .before .before .before .before .before .before .before)
 unfolding warped
-returns-5 c =
-    let d = c .before .before .before .before in
-    let e = d .before .before in
+judged c =
+    let e = c .before .before .before .before in
     simp (
       in-range (e .before .before),
       le-ltb _ _ (e .before .if2 .left),
-      counted e,
-      le-ltb _ _ (d .if3 .left),
-      ← c .before .before .before .first-above .ensures,
-      le-ltb _ _ (c .before .before .if4 .left),
-      lt-ltb _ _ (c .if5 .taken),
+      le-ltb _ _ (rw (← counted e) at (c .before .before .if3 .left)),
+      ← c .before .first-above .ensures,
+      le-ltb _ _ (c .if4 .left),
     )
+
+returns-5 : tie.Need-returns-5
+returns-5 c =
+    let d = c .before .before in
+    judged d ∙ simp (counted (d .before .before .before .before), lt-ltb _ _ (c .if5 .taken))
 
 warp-into-requires : tie.Need-warp-into-requires
 warp-into-requires c κs =
     let e = c .before .before .before .before .before .before .before in
-    (in-range (e .before .before), omega arith, e .count .ensures, omega arith, omega arith)
+    (in-range (e .before .before), omega arith, e .count .ensures, omega arith)
 
 same-length : tie.Need-same-length
 same-length c = search needs
 
 returns-6 : tie.Need-returns-6
-unfolding warped
 returns-6 c =
-    let f = c .before .before .before .before in
-    let d = f .before .before .before .before in
-    let e = d .before .before in
-    simp (
-      in-range (e .before .before),
-      le-ltb _ _ (e .before .if2 .left),
-      ← c .before .before .warp-into .ensures,
-      counted e,
-      le-ltb _ _ (d .if3 .left),
-      ← f .before .before .before .first-above .ensures,
-      le-ltb _ _ (f .before .before .if4 .left),
-      le-ltb _ _ (f .if5 .left),
-    )
+    let e = c .before .before .before .before in
+    let d = e .before .before in
+    judged d ∙ simp (← c .before .before .warp-into .ensures, counted (d .before .before .before .before), le-ltb _ _ (e .if5 .left))
 
 pub warp-spec : {M : Type 1} → statement M
 warp-spec =

@@ -35,7 +35,7 @@ ends s j h =
     )
 
 -- so that its end fits
-fits : (s : tie.Start Inv-loop μ-loop) → length (s .args .wave .now) * s .args .w .0 ≤ 68722622400
+fits : (s : tie.Start Inv-loop μ-loop) → length (s .args .wave .now) * s .args .w .0 ≤ 137436856320
 fits s =
     product-most (length (s .args .wave .now)) (s .args .w .0) (omega (arith, s .pre .1))
     (timed-w (s .args .w .0) (s .args .r .0) (s .args .p .0) (s .pre .0))
