@@ -2,5 +2,6 @@ pub mod Numbers
 pub mod Capture
 pub mod Writing
 pub mod Refusals
+pub mod Held
 pub mod RoundTrips
 pub mod Cases

@@ -10,6 +10,9 @@ use measure::ReadCycles;
 use measure::Refusal;
 use measure::SAMPLING_LEAST;
 use measure::SAMPLING_MOST;
+
+pub mod held;
+
 use measure::between;
 use measure::first_above;
 ghost use mathlib.Core.Path.{_≡_};

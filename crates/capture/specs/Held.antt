@@ -1,0 +1,21 @@
+-- 01, "Capture file": the capture reader holds the lent bytes and remembers its place.
+use Prim.Native.Nat.{ℕ}
+use mathlib.Core.List.{List}
+use denote.Ref.{RefT, now}
+use Rattle.measure.specs.Refusals.{Answer, given, refused, refusedAfter}
+use Rattle.capture.specs.Numbers.{Numeral, numberAt}
+use Rattle.capture.specs.declared.held.CaptureReader.{CaptureReader}
+
+-- a reader of lent bytes, at their first
+abbrev pub begun : RefT (List ℕ) → CaptureReader
+begun src = record { src = src; at = 0 }
+
+-- the place after a number that was had, and the place itself where it was refused
+abbrev pub placeAfter : ℕ → Answer Numeral → ℕ
+placeAfter at (given n) = n .after
+placeAfter at (refused number place) = at
+placeAfter at (refusedAfter number place count) = at
+
+-- the reader past the number at its place
+abbrev pub advanced : CaptureReader → CaptureReader
+advanced r = record { src = r .src; at = placeAfter (r .at) (numberAt (now (r .src)) (r .at)) }
