@@ -9,7 +9,7 @@ use lib.ListN.{length, drop}
 use borrow.Author.Tests.{lt-ltb, le-ltb}
 use Rattle.measure.specs.Choose.{choose}
 use Rattle.measure.specs.Ranges.{captureMost}
-use Rattle.measure.specs.Refusals.{Answer, given, refused}
+use Rattle.measure.specs.Refusals.{given, refused}
 use Rattle.capture.specs.Capture.{Heading, Capture, heading, then, runsFrom, withRuns, capture}
 use Rattle.capture.proofs.Headings.{then-given}
 

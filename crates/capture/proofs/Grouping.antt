@@ -3,11 +3,10 @@ use Prim.Native.Nat.{ℕ, suc, _+_, _-_, _≤_, _<_}
 use mathlib.Core.Path.{_≡_, refl, sym, ap, _∙_}
 use mathlib.Core.List.{List, [], _∷_, _++_}
 use native.Mathlib.Omega.{arith}
-use native.Mathlib.Numerals.{add-one}
 use lib.ListN.{length, drop, getD, length-append, drop-of-length-le}
-use lib.Seq.{sets, drop-cons}
+use lib.Seq.{sets}
 use borrow.Author.Tests.{eq-eqb, ne-eqb}
-use Rattle.capture.specs.Numbers.{further, grouped, spelled}
+use Rattle.capture.specs.Numbers.{further, spelled}
 use Rattle.capture.specs.Writing.{runsAfter, runsOf, numbers}
 use Rattle.capture.proofs.Groups.{from-byte}
 use Rattle.capture.proofs.Spelling.{size-run}

@@ -1,5 +1,5 @@
 -- What stands at the front of bytes follows from the first byte and what stands behind it, and is as small as its bytes allow.
-use Prim.Native.Nat.{ℕ, zero, suc, _+_, _-_, _*_, _≤_, _<_, _^_}
+use Prim.Native.Nat.{ℕ, zero, suc, _+_, _-_, _*_, _≤_, _<_}
 use mathlib.Core.Path.{_≡_, refl}
 use mathlib.Core.List.{List, [], _∷_}
 use mathlib.Core.Bool.{Bool, true, false}
@@ -7,11 +7,11 @@ use native.Mathlib.Numerals.{add-one}
 use native.Mathlib.Nat.{pow-succ', one-le-pow, pow-le-pow-right}
 use native.Mathlib.Omega.{arith}
 use lib.Dec.{ltb, leb, eqb}
-use lib.ListN.{length, drop, getD, drop-of-length-le}
+use lib.ListN.{length, drop, getD}
 use lib.Seq.{drop-cons}
-use borrow.Author.Tests.{lt-ltb, le-ltb, le-leb, lt-leb, eq-eqb, ne-eqb, leb-true, ltb-true, ltb-false}
+use borrow.Author.Tests.{lt-ltb, le-ltb, le-leb, lt-leb, eq-eqb, ne-eqb, leb-true, ltb-true}
 use Rattle.measure.specs.Choose.{choose}
-use Rattle.capture.specs.Numbers.{Group, value, cut, long, before, following, group, further, lastMost, bound}
+use Rattle.capture.specs.Numbers.{Group, value, cut, long, before, following, group, lastMost, bound}
 
 -- what holds of both of a choice holds of the choice
 pub either : {A : Type 0} (P : A → Type 0) (test : Bool) {one other : A} → (test ≡ true → P one) → (test ≡ false → P other) → P (choose test one other)

@@ -1,15 +1,15 @@
 -- Numbers at a place of bytes: what the code was told of one is small, and ends within the bytes.
-use Prim.Native.Nat.{ℕ, zero, suc, _+_, _-_, _≤_, _<_}
-use mathlib.Core.Path.{_≡_, refl, sym, ap, _∙_}
-use mathlib.Core.List.{List, [], _∷_}
+use Prim.Native.Nat.{ℕ, _+_, _-_, _≤_, _<_}
+use mathlib.Core.Path.{_≡_, ap, _∙_}
+use mathlib.Core.List.{List}
 use native.Mathlib.Omega.{arith}
-use lib.ListN.{length, drop, getD, length-drop}
+use lib.ListN.{length, drop, length-drop}
 use lib.Seq.{getD-drop}
-use Rattle.measure.specs.Refusals.{Answer, given, refused}
+use Rattle.measure.specs.Refusals.{given}
 use Rattle.capture.specs.Numbers.{Group, value, cut, long, following, group, further, bound, Numeral, placed, numberAt}
 use Rattle.capture.specs.Refusals.{frontTold}
 use Rattle.capture.specs.declared.Front.{Front}
-use Rattle.capture.specs.declared.Front.the-variants.{Value, Cut, Long}
+use Rattle.capture.specs.declared.Front.the-variants.{Value}
 use Rattle.capture.proofs.Groups.{Bytes, Within, bound-le, following-within, group-within}
 
 pub bytes-from : (s : List ℕ) (at : ℕ) → Bytes s → Bytes (drop at s)

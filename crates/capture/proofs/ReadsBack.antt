@@ -1,19 +1,18 @@
 -- Each number of a capture that was written is read back where it stands, so the whole is; and the reads are those of their runs.
-use Prim.Native.Nat.{ℕ, zero, suc, _+_, _-_, _≤_, _<_, _^_}
+use Prim.Native.Nat.{ℕ, suc, _+_, _-_, _≤_, _<_}
 use mathlib.Core.Path.{_≡_, refl, sym, ap, _∙_}
 use mathlib.Core.List.{List, [], _∷_, _++_, append-assoc}
 use mathlib.Core.Bool.{Bool, true, false, _&&_}
 use native.Mathlib.Omega.{arith}
-use native.Mathlib.Decide.{decLe}
 use lib.Dec.{eqb}
-use lib.ListN.{length, drop, getD, replicate, length-append, replicate-append-replicate}
+use lib.ListN.{length, drop, replicate, length-append, replicate-append-replicate}
 use lib.Seq.{drop-at}
-use borrow.Author.Tests.{eq-eqb, ne-eqb, eqb-true, eqb-false, le-leb, le-ltb}
+use borrow.Author.Tests.{eqb-true, eqb-false, le-leb}
 use Rattle.measure.specs.Choose.{choose, between}
 use Rattle.measure.specs.Ranges.{sampling, rowBits, quiet, entriesMost, captureMost}
-use Rattle.measure.specs.Refusals.{Answer, given, refused}
-use Rattle.capture.specs.Numbers.{Numeral, value, group, further, bound, numberAt, spelled}
-use Rattle.capture.specs.Capture.{Heading, Capture, heading, fittingAt, joined, runsFrom, totalMost, withRuns, capture, readsOf}
+use Rattle.measure.specs.Refusals.{given, refused}
+use Rattle.capture.specs.Numbers.{value, group, further, bound, spelled}
+use Rattle.capture.specs.Capture.{Heading, heading, fittingAt, joined, runsFrom, totalMost, withRuns, capture, readsOf}
 use Rattle.capture.specs.Writing.{runsAfter, runsOf, firstLevel, numbers, captureOf}
 use Rattle.capture.proofs.Groups.{either}
 use Rattle.capture.proofs.Headings.{in-range, fitting-in, heading-is}
@@ -21,7 +20,6 @@ use Rattle.capture.proofs.Captures.{capture-found}
 use Rattle.capture.proofs.Reading.{captured}
 use Rattle.capture.proofs.Runs.{sum, runs-skip}
 use Rattle.capture.proofs.Spelling.{size-some, size-run, size-groups}
-use Rattle.capture.proofs.Grouping.{numbers-one}
 use Rattle.capture.proofs.Respelling.{group-back, number-back}
 use Rattle.capture.proofs.Writing.{InRange, all-in, capture-length}
 

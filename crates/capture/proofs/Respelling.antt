@@ -7,8 +7,8 @@ use native.Mathlib.Decide.{decLe}
 use lib.Dec.{ltb, leb, eqb}
 use lib.ListN.{length, take, drop, take-append-drop}
 use lib.Seq.{drop-at, drop-drop}
-use borrow.Author.Tests.{le-leb, ltb-true, ltb-false, leb-true, eqb-false}
-use Rattle.measure.specs.Refusals.{Answer, given, refused}
+use borrow.Author.Tests.{le-leb, ltb-true, ltb-false, eqb-false}
+use Rattle.measure.specs.Refusals.{given}
 use Rattle.capture.specs.Numbers.{Group, value, cut, long, before, following, group, further, lastMost, bound, Numeral, placed, numberAt, grouped, spelled}
 use Rattle.capture.proofs.Groups.{Bytes, either, following-last, following-one, following-on, group-one, group-on, bound-suc}
 use Rattle.capture.proofs.Places.{bytes-from}

@@ -14,15 +14,15 @@ use Rattle.measure.specs.Ranges.{sampling, rowBits, quiet, entriesMost}
 use Rattle.measure.specs.Lists.{firstAbove, someAbove, onto}
 use Rattle.measure.specs.Refusals.{Answer, given, refused, refusedAfter}
 use Rattle.measure.proofs.Above.{above-none}
-use Rattle.capture.specs.Capture.{Capture, capture, readsOf, totalMost}
+use Rattle.capture.specs.Capture.{Capture, capture, readsOf}
 use Rattle.capture.specs.Writing.{runsOf, firstLevel, captureOf}
 use Rattle.capture.specs.Refusals.{summary, unrolled, readBack, written}
-use Rattle.capture.specs.RoundTrips.{ReadsAs, ReadsBack, WritesBack, WrittenReadsBack, ReadWritesBack}
+use Rattle.capture.specs.RoundTrips.{ReadsBack, WritesBack, WrittenReadsBack, ReadWritesBack}
 use Rattle.capture.specs.declared.Summary.{Summary}
 use Rattle.capture.proofs.Groups.{Bytes}
-use Rattle.capture.proofs.Runs.{sum, length-reads}
+use Rattle.capture.proofs.Runs.{length-reads}
 use Rattle.capture.proofs.ReadsBack.{Levels, reads-back, capture-back}
-use Rattle.capture.proofs.WritesBack.{Accepted, accepted, capture-again}
+use Rattle.capture.proofs.WritesBack.{accepted, capture-again}
 use Rattle.capture.proofs.Writing.{InRange, write-whole}
 
 -- a list none of whose entries is above 255 has bytes, and one none of whose entries is above 1 has levels

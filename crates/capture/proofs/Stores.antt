@@ -1,11 +1,11 @@
 -- A list that is stored from a place on, part by part: what has been stored and what is still to come make the whole.
-use Prim.Native.Nat.{ℕ, zero, suc, _+_, _-_, _≤_, _<_}
+use Prim.Native.Nat.{ℕ, suc, _+_, _-_, _≤_, _<_}
 use mathlib.Core.Path.{_≡_, refl, sym, ap, _∙_}
 use mathlib.Core.List.{List, [], _∷_, _++_}
 use native.Mathlib.Omega.{arith}
 use native.Mathlib.Nat.{add-zero, add-suc, suc-add}
 use native.Mathlib.Numerals.{add-one}
-use lib.ListN.{length, drop, set, replicate, length-set, length-append}
+use lib.ListN.{length, set, replicate, length-set, length-append}
 use lib.Seq.{sets, sets-eq, length-sets}
 use Rattle.measure.specs.Lists.{onto}
 

@@ -10,15 +10,15 @@ use lib.ListN.{length, drop, replicate, drop-of-length-le}
 use borrow.Author.Tests.{eq-eqb, eqb-false}
 use Rattle.measure.specs.Ranges.{sampling, rowBits, quiet}
 use Rattle.measure.specs.Choose.{between}
-use Rattle.measure.specs.Refusals.{Answer, given, refused}
+use Rattle.measure.specs.Refusals.{given}
 use Rattle.capture.specs.Numbers.{Group, value, cut, long, group, further, Numeral, placed, numberAt, spelled}
-use Rattle.capture.specs.Capture.{Heading, Capture, heading, then, runsFrom, totalMost, withRuns, capture, readsOf}
+use Rattle.capture.specs.Capture.{Heading, Capture, runsFrom, totalMost, withRuns, capture, readsOf}
 use Rattle.capture.specs.Writing.{runsAfter, runsOf, firstLevel, numbers, captureOf}
 use Rattle.capture.proofs.Groups.{Bytes}
 use Rattle.capture.proofs.Headings.{then-given, fitting-given, in-range, Four, heading-given}
 use Rattle.capture.proofs.Captures.{capture-given}
 use Rattle.capture.proofs.Reading.{captured, with-given}
-use Rattle.capture.proofs.Runs.{sum, Next, next-refused, next-is, runs-end}
+use Rattle.capture.proofs.Runs.{sum, next-refused, next-is, runs-end}
 use Rattle.capture.proofs.Grouping.{after-other}
 use Rattle.capture.proofs.ReadsBack.{Some}
 use Rattle.capture.proofs.Respelling.{number-again}

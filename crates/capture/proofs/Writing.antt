@@ -1,16 +1,14 @@
 -- A capture is its four numbers and its runs, one behind another; what writing answers goes by the tests in their order.
 use Prim.Native.Nat.{ℕ, _+_, _≤_, _<_}
-use mathlib.Core.Path.{_≡_, refl, sym, ap, _∙_}
+use mathlib.Core.Path.{_≡_, refl, ap, _∙_}
 use mathlib.Core.List.{List, _++_}
 use mathlib.Core.Bool.{Bool, true, false, _&&_}
 use native.Mathlib.Omega.{arith}
-use lib.Dec.{ltb}
 use lib.ListN.{length, length-append}
 use borrow.Author.Tests.{lt-ltb, le-ltb}
-use Rattle.measure.specs.Choose.{choose}
 use Rattle.measure.specs.Ranges.{sampling, rowBits, quiet, entriesMost}
 use Rattle.measure.specs.Lists.{firstAbove, onto}
-use Rattle.measure.specs.Refusals.{Answer, given, refused}
+use Rattle.measure.specs.Refusals.{given, refused}
 use Rattle.capture.specs.Numbers.{further, bound, spelled}
 use Rattle.capture.specs.Writing.{firstLevel, runsOf, numbers, captureOf}
 use Rattle.capture.specs.Refusals.{written}

@@ -1,7 +1,7 @@
 -- 01, "Capture file" and "Refusal numbers": what the operations on captures answer and leave in the lent output, for all input, and what each case of the code says.
-use Prim.Native.Nat.{ℕ, _+_}
-use mathlib.Core.Bool.{Bool, _&&_}
-use mathlib.Core.List.{List, [], _∷_}
+use Prim.Native.Nat.{ℕ}
+use mathlib.Core.Bool.{_&&_}
+use mathlib.Core.List.{List}
 use lib.ListN.{length}
 use lib.Dec.{ltb}
 use Rattle.measure.specs.Choose.{choose}

@@ -1,11 +1,10 @@
 -- `following_at` meets its contract, by recursion on how many bytes may follow: each way out is one case of `following` at the byte read.
 use Prim.Native.Nat.{ℕ, _+_, _-_, _<_}
-use mathlib.Core.Path.{_≡_, sym, ap, _∙_}
+use mathlib.Core.Path.{ap, _∙_}
 use native.Mathlib.Omega.{arith}
 use borrow.Author.Needs.{needs}
-use lib.ListN.{length, drop, drop-of-length-le}
-use Rattle.capture.specs.Numbers.{following, before}
-use Rattle.capture.specs.Refusals.{frontTold}
+use lib.ListN.{drop-of-length-le}
+use Rattle.capture.specs.Numbers.{before}
 use Rattle.capture.proofs.Groups.{Bytes, from-byte, following-none, following-zero, following-last, following-over, following-one, following-on}
 use Rattle.capture.proofs.Places.{following-small}
 use borrow.Fn.Kinds.{In}

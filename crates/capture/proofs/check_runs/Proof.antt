@@ -1,5 +1,5 @@
 -- `check_runs` meets its contract: what is counted and what is still to come give the summary, and a run that is refused is the refusal.
-use Prim.Native.Nat.{_-_, _<_}
+use Prim.Native.Nat.{_-_}
 use mathlib.Core.Path.{sym, ap, _∙_}
 use native.Mathlib.Omega.{arith}
 use borrow.Author.Needs.{needs}

@@ -1,9 +1,8 @@
 -- `read_capture` meets its contract: each refusal leaves the output, and an accepted capture's reads are laid onto it.
-use mathlib.Core.Path.{_≡_, sym, ap, _∙_}
+use mathlib.Core.Path.{sym, ap, _∙_}
 use native.Mathlib.Omega.{arith}
 use borrow.Author.Needs.{needs}
 use Rattle.measure.specs.Refusals.{denied}
-use Rattle.capture.specs.Capture.{heading}
 use Rattle.capture.specs.Refusals.{headTold, headed, told}
 use Rattle.capture.proofs.Headings.{heading-level}
 use Rattle.capture.proofs.Captures.{capture-long, capture-refused, capture-found}

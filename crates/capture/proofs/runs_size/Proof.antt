@@ -1,6 +1,5 @@
 -- `runs_size` meets its contract: each turn counts one run's bytes, and those of the runs behind it are still to come.
 use Prim.Native.Nat.{_-_}
-use mathlib.Core.Path.{_≡_, refl}
 use native.Mathlib.Omega.{arith}
 use lib.ListN.{length}
 use Rattle.capture.specs.Numbers.{further}

@@ -1,9 +1,8 @@
 -- `write_capture` meets its contract: the tests in their order, then the capture laid onto the output.
-use mathlib.Core.Path.{_≡_, sym, ap, _∙_}
-use native.Mathlib.Omega.{arith}
+use mathlib.Core.Path.{sym, ap, _∙_}
 use borrow.Author.Needs.{needs}
 use borrow.Author.Tests.{not-true, not-false}
-use Rattle.measure.specs.Refusals.{refused, given}
+use Rattle.measure.specs.Refusals.{refused}
 use Rattle.capture.proofs.Writing.{write-setting, write-limit, write-entry, write-room, write-whole}
 use Rattle.capture.proofs.write_capture.Statement.{statement}
 use Rattle.capture.proofs.write_capture.Tie as tie
