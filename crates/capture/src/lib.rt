@@ -1,4 +1,6 @@
 // The capture file: numbers in groups of seven bits, a header of four numbers, and the runs of equal reads.
+pub mod held;
+
 use measure::BITS_LEAST;
 use measure::BITS_MOST;
 use measure::CAPTURE_MOST;
@@ -10,9 +12,6 @@ use measure::ReadCycles;
 use measure::Refusal;
 use measure::SAMPLING_LEAST;
 use measure::SAMPLING_MOST;
-
-pub mod held;
-
 use measure::between;
 use measure::first_above;
 ghost use mathlib.Core.Path.{_≡_};
@@ -90,8 +89,8 @@ pub enum Written {
     Refused(Refusal),
 }
 
-// What stands at the front of bytes: a number and how many bytes it has; a number that is cut off by the end; or no
-// number, for a long form or too many bytes.
+// What stands at the front of bytes, whatever their place: a number and how many bytes it has; a number that is cut off by
+// the end; or no number, for a long form or too many bytes.
 enum Front {
     Value(usize, usize),
     Cut,
@@ -116,8 +115,8 @@ fn prefixed(byte: usize, rest: Front) -> Front
     let low = byte - TOP_BIT;
     let high = TOP_BIT * v;
     let whole = low + high;
-    let bytes = size + 1;
-    Front::Value(whole, bytes)
+    let sizes = size + 1;
+    Front::Value(whole, sizes)
 }
 
 // A byte that follows another of its number, and at most `more` after it. A last byte of 0 is not the shortest form.
@@ -192,7 +191,7 @@ fn fitting_at(bytes: &[u8], at: usize, least: usize, most: usize) -> Number
     Number::Refused(Refusal::Range(at))
 }
 
-// The refusal of a number that cannot be had, handed on as it came.
+// The refusal of a number that cannot be had, handed on as it came. It is asked of no other.
 fn number_refusal(number: Number) -> Refusal
     ensures { λ x. ⌜ ((refusal : Refusal) → number ≡ Number.Refused refusal → x ≡ refusal) ⌝ }
 {
@@ -233,7 +232,7 @@ pub fn read_heading(bytes: &[u8]) -> Head
     })
 }
 
-// The refusal of a heading that cannot be had, handed on as it came.
+// The refusal of a heading that cannot be had, handed on as it came. It is asked of no other.
 fn head_refusal(head: Head) -> Refusal
     ensures { λ x. ⌜ ((refusal : Refusal) → head ≡ Head.Refused refusal → x ≡ refusal) ⌝ }
 {
@@ -470,12 +469,12 @@ fn capture_size(k: usize, n: usize, q: usize, reads: &[u8]) -> usize
     ensures { λ x. ⌜ x ≡ length (captureOf k n q (now (reads .entry))) ⌝ }
 {
     let level = first_level(reads);
-    let a = spelled_size(k);
-    let b = spelled_size(n);
-    let c = spelled_size(q);
-    let d = spelled_size(level);
-    let runs = runs_size(reads);
-    a + b + c + d + runs
+    let k_size = spelled_size(k);
+    let n_size = spelled_size(n);
+    let q_size = spelled_size(q);
+    let level_size = spelled_size(level);
+    let size = runs_size(reads);
+    k_size + n_size + q_size + level_size + size
 }
 
 // Writes the capture of settings and reads at the front of an output that has room for it.
@@ -485,11 +484,11 @@ fn write_into(k: usize, n: usize, q: usize, reads: &[u8], out: &mut [u8])
     ensures { λ _. ⌜ now (out .exit) ≡ onto (captureOf k n q (now (reads .entry))) (now (out .entry)) ⌝ }
 {
     let level = first_level(reads);
-    let a = put_number(k, out, 0);
-    let b = put_number(n, out, a);
-    let c = put_number(q, out, b);
-    let d = put_number(level, out, c);
-    put_runs(reads, out, d);
+    let n_at = put_number(k, out, 0);
+    let q_at = put_number(n, out, n_at);
+    let level_at = put_number(q, out, q_at);
+    let after = put_number(level, out, level_at);
+    put_runs(reads, out, after);
 }
 
 // Writes k, n, Q and reads as a capture at the front of the lent output, and gives how many bytes it has. Refuses with 1

@@ -38,12 +38,12 @@ mul-high c = omega (arith, c .before .before .before .pre .1 _ _ (c .before .res
 add-whole : tie.Need-add-whole
 add-whole c = omega (arith, c .before .before .before .pre .1 _ _ (c .before .rest .given .1))
 
-add-bytes : tie.Need-add-bytes
-add-bytes c = omega (arith, c .before .before .before .pre .1 _ _ (c .before .rest .given .1))
+add-sizes : tie.Need-add-sizes
+add-sizes c = omega (arith, c .before .before .before .pre .1 _ _ (c .before .rest .given .1))
 
 returns-2 : tie.Need-returns-2
 returns-2 c = rw (c .before .rest .given .1, add-one)
 
 pub prefixed-spec : {M : Type 1} → statement M
 prefixed-spec =
-    tie.close (tie.spec enum-known-rest returns sub-low mul-high add-whole add-bytes returns-2)
+    tie.close (tie.spec enum-known-rest returns sub-low mul-high add-whole add-sizes returns-2)
