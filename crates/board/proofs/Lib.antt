@@ -7,3 +7,4 @@ pub mod ListeningLaws
 pub mod KeepingLaws
 pub mod CellLaws
 pub mod ListenedLaws
+pub mod WellFormedStays

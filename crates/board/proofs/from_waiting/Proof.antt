@@ -1,15 +1,18 @@
 -- `from_waiting` meets its contract: the mark that it finds is a cell's, from which counting goes on.
-use Prim.Native.Nat.{_<_, _≤_}
+use Prim.Native.Nat.{ℕ, _<_, _≤_}
 use mathlib.Core.Path.{_≡_, refl, _∙_, ap}
+use mathlib.Core.List.{List}
 use native.Mathlib.Omega.{arith}
 use borrow.Author.Needs.{needs}
 use denote.Ref.{now}
 use lib.ListN.{length}
 use Rattle.board.specs.declared.Mode.the-variants.{Waiting}
 use Rattle.board.specs.declared.Receiver.{Receiver}
+use Rattle.board.specs.declared.Sought.{Sought}
 use Rattle.board.specs.declared.Sought.the-variants.{Found}
 use Rattle.board.specs.Rows.{Settings, State, waiting, marked}
 use Rattle.board.specs.Packed.{stateOf}
+use Rattle.board.specs.Refusals.{Outcome}
 use Rattle.board.specs.Listening.{settings, keeping, heardFrom, soughtTold, Lands}
 use Rattle.board.proofs.RowRules.{Ranged, Fitting}
 use Rattle.board.proofs.KeepingLaws.{bitsIn, kept-valid, kept-length, kept-bytes, waiting-fits, waiting-kept}
@@ -29,32 +32,39 @@ range c = kept-valid (g c) (c .args .start) (now (c .args .bits)) (c .pre .0) .r
 to-mark-requires : tie.Need-to-mark-requires
 to-mark-requires c κs = (omega arith, fits (c .before) .0, range (c .before) .Q-most)
 
+abbrev so-far : tie.Start → List ℕ
+so-far s = bitsIn (s .args .start) (now (s .args .bits))
+
+abbrev mark-told : tie.Start → Receiver → Sought → Outcome × ℕ
+mark-told s x sought =
+    soughtTold x (g s) (λ run read. marked (g s) (waiting (s .args .start .level) (s .args .start .run) (so-far s)) run read) (so-far s) (now (s .args .reads)) sought
+
 waited : (c : tie.After-to-mark) (x : Receiver)
     → heardFrom x (g (c .before .before)) (stateOf (keeping (g (c .before .before)) (c .before .before .args .start) (now (c .before .before .args .bits)))) 0 (now (c .before .before .args .reads))
-    ≡ soughtTold x (g (c .before .before))
-    (λ run read. marked (g (c .before .before)) (waiting (c .before .before .args .start .level) (c .before .before .args .start .run) (bitsIn (c .before .before .args .start) (now (c .before .before .args .bits)))) run read)
-    (bitsIn (c .before .before .args .start) (now (c .before .before .args .bits))) (now (c .before .before .args .reads)) (c .to-mark .result)
+    ≡ mark-told (c .before .before) x (c .to-mark .result)
 waited c x =
     let s = c .before .before in
     ap (λ (t : State). heardFrom x (g s) t 0 (now (s .args .reads))) (waiting-kept (g s) (s .args .start) (now (s .args .bits)) (s .pre .0) (s .pre .1))
-    ∙ c .to-mark .ensures .1 x (s .args .k) (s .args .n) (bitsIn (s .args .start) (now (s .args .bits))) (kept-length (g s) (s .args .start) (now (s .args .bits)) (s .pre .0))
+    ∙ c .to-mark .ensures .1 x (s .args .k) (s .args .n) (so-far s) (kept-length (g s) (s .args .start) (now (s .args .bits)) (s .pre .0))
 
 landed : (c : tie.After-mark2)
     → Lands 0 (length (now (c .before .before .before .before .args .reads))) (c .before .before .before .before .args .q)
     (Found (c .mark2 .given .0 .0) (c .mark2 .given .0 .1 .0) (c .mark2 .given .0 .1 .1 .0))
 landed c = rw (c .mark2 .given .1) at (c .before .before .to-mark .ensures .0)
 
-marked-here : (c : tie.After-mark2)
-    → Marked (g (c .before .before .before .before)) (c .mark2 .given .0 .1 .0) (c .mark2 .given .0 .1 .1 .0) (c .before .before .before .before .args .start .found)
-    (bitsIn (c .before .before .before .before .args .start) (now (c .before .before .before .before .args .bits))) (now (c .before .before .before .before .args .bits))
-marked-here c =
-    let s = c .before .before .before .before in
+abbrev start : tie.After-mark2 → tie.Start
+start m = m .before .before .before .before
+
+at-mark : (m : tie.After-mark2)
+    → Marked (g (start m)) (m .mark2 .given .0 .1 .0) (m .mark2 .given .0 .1 .1 .0) (start m .args .start .found) (so-far (start m)) (now (start m .args .bits))
+at-mark m =
+    let s = start m in
     let n = s .args .start in
     let b = now (s .args .bits) in
     record {
       range = range s;
-      below = landed c .2;
-      level = landed c .3;
+      below = landed m .2;
+      level = landed m .3;
       fewer = fits s .2;
       binary = kept-valid (g s) n b (s .pre .0) .binary;
       size = kept-length (g s) n b (s .pre .0);
@@ -68,17 +78,18 @@ enum-known-mark-2 : tie.Need-enum-known-mark-2
 enum-known-mark-2 c = search needs
 
 from-counting-requires : tie.Need-from-counting-requires
-from-counting-requires c κs = (mark-keeps (marked-here (c .before .before)), (refl, landed (c .before .before) .1))
+from-counting-requires c κs = let m = c .before .before in (mark-keeps (at-mark m), (refl, landed m .1))
 
 returns : tie.Need-returns
 returns c = λ x.
-    let s = c .before .before .before .before .before in
-    rw (c .before .mark .given .1) at (waited (c .before .before .before) x) ∙ rw (kept-bytes (g s) (s .args .start) (now (s .args .bits)) (s .pre .0))
+    let t = c .before .before .before in
+    let s = t .before .before in
+    waited t x ∙ ap (mark-told s x) (c .before .mark .given .1) ∙ rw (kept-bytes (g s) (s .args .start) (now (s .args .bits)) (s .pre .0))
 
 returns-2 : tie.Need-returns-2
 returns-2 c = λ x.
     let m = c .before .before .before in
-    rw (m .mark2 .given .1) at (waited (m .before .before) x) ∙ mark-heard (marked-here m) x _ _ ∙ c .from-counting .ensures x
+    waited (m .before .before) x ∙ ap (mark-told (start m) x) (m .mark2 .given .1) ∙ mark-heard (at-mark m) x _ _ ∙ c .from-counting .ensures x
 
 pub from-waiting-spec : {M : Type 1} → statement M
 from-waiting-spec =

@@ -1,44 +1,33 @@
+-- `left_fits` meets its contract: in each mode its test is the definition's.
 use mathlib.Core.Path.{sym}
 use borrow.Author.Needs.{needs}
 use Rattle.board.proofs.left_fits.Statement.{statement}
 use Rattle.board.proofs.left_fits.Tie as tie
-use Rattle.board.proofs.left_fits.Reads as reads
-use Rattle.board.proofs.left_fits.Lts as lts
-use Rattle.measure.proofs.between.Reads as between-reads
 
--- src/lib.rt:153:26
 enum-told : tie.Need-enum-told
 enum-told c = search needs
 
--- src/lib.rt:154:24
 enum-told-2 : tie.Need-enum-told-2
 enum-told-2 c = search needs
 
--- src/lib.rt:155:27
 enum-told-3 : tie.Need-enum-told-3
 enum-told-3 c = search needs
 
--- src/lib.rt:155:27
 between-requires : tie.Need-between-requires
 between-requires c κs = search needs
 
--- src/lib.rt:156:26
 enum-told-4 : tie.Need-enum-told-4
 enum-told-4 c = search needs
 
--- src/lib.rt:149:1
 returns : tie.Need-returns
 returns c = rw (c .enum-told .given .1)
 
--- src/lib.rt:149:1
 returns-2 : tie.Need-returns-2
 returns-2 c = rw (c .enum-told2 .given .1)
 
--- src/lib.rt:149:1
 returns-3 : tie.Need-returns-3
 returns-3 c = rw (c .before .enum-told3 .given .1) (sym (c .between .ensures))
 
--- src/lib.rt:149:1
 returns-4 : tie.Need-returns-4
 returns-4 c = rw (c .enum-told4 .given .1)
 

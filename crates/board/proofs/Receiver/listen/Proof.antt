@@ -1,5 +1,6 @@
 -- `listen` meets its contract: the state and the length are judged in the definition's order, and the rest is what was heard read by read.
-use mathlib.Core.Path.{_≡_, sym, _∙_}
+use Prim.Native.Nat.{ℕ}
+use mathlib.Core.Path.{_≡_, sym, _∙_, ap}
 use mathlib.Core.Bool.{true, false}
 use borrow.Author.Needs.{needs}
 use borrow.Author.Tests.{not-true, not-false, lt-ltb, le-ltb}
@@ -7,10 +8,11 @@ use denote.Ref.{now}
 use lib.ListN.{length, getD}
 use mir.Syntax.{w8}
 use mir.Val.{Fits}
+use Rattle.board.specs.declared.Heard.{Heard}
 use Rattle.board.specs.Packed.{settingsOf, stateOf}
 use Rattle.board.specs.WellFormed.{wellFormed}
-use Rattle.board.specs.Refusals.{listened}
-use Rattle.board.specs.Listening.{heardFrom}
+use Rattle.board.specs.Refusals.{Outcome, listened}
+use Rattle.board.specs.Listening.{heardFrom, heardTold}
 use Rattle.board.proofs.PackedBits.{Words}
 use Rattle.board.proofs.Standing.{receiver-of-state}
 use Rattle.board.proofs.ListenedLaws.{listened-is}
@@ -78,29 +80,29 @@ enum-known-heard-3 c = search needs
 enum-known-heard-4 : tie.Need-enum-known-heard-4
 enum-known-heard-4 c = search needs
 
+-- what was heard, beside the bytes that it leaves
+abbrev told : tie.After-hear → Heard → Outcome × ℕ
+told c heard =
+    let a = c .before .before .before .before .before .before .before .before .args in
+    heardTold (a .self) (settingsOf (a .self)) (length (now (a .reads))) (c .hear .last .1 .0) heard
+
+heard-is : (c : tie.After-hear)
+    → listened (c .before .before .before .before .before .before .before .before .args .self) (now (c .before .before .before .before .before .before .before .before .args .reads))
+    ≡ told c (c .hear .result)
+heard-is c =
+    judged (c .before .before .before .before) ∙ c .hear .ensures (c .before .before .before .before .before .before .before .before .args .self)
+
 returns-3 : tie.Need-returns-3
-returns-3 c =
-    let h = c .before .before .before .before in
-    let x = h .before .before .before .before .before .before .before .before .args .self in
-    judged (h .before .before .before .before) ∙ rw (c .before .before .heard .given .1) at (h .hear .ensures x) ∙ c .refused3 .ensures
+returns-3 c = let h = c .before .before .before .before in heard-is h ∙ ap (told h) (c .before .before .heard .given .1) ∙ c .refused3 .ensures
 
 returns-4 : tie.Need-returns-4
-returns-4 c =
-    let h = c .before .before .before in
-    let x = h .before .before .before .before .before .before .before .before .args .self in
-    judged (h .before .before .before .before) ∙ rw (c .before .heard2 .given .1) at (h .hear .ensures x) ∙ rw (h .before .before .none .ensures)
+returns-4 c = let h = c .before .before .before in heard-is h ∙ ap (told h) (c .before .heard2 .given .1) ∙ rw (h .before .before .none .ensures)
 
 returns-5 : tie.Need-returns-5
-returns-5 c =
-    let h = c .before .before .before in
-    let x = h .before .before .before .before .before .before .before .before .args .self in
-    judged (h .before .before .before .before) ∙ rw (c .before .heard3 .given .1) at (h .hear .ensures x) ∙ rw (h .before .before .none .ensures)
+returns-5 c = let h = c .before .before .before in heard-is h ∙ ap (told h) (c .before .heard3 .given .1) ∙ rw (h .before .before .none .ensures)
 
 returns-6 : tie.Need-returns-6
-returns-6 c =
-    let h = c .before .before .before in
-    let x = h .before .before .before .before .before .before .before .before .args .self in
-    judged (h .before .before .before .before) ∙ rw (c .before .heard4 .given .1) at (h .hear .ensures x) ∙ rw (h .before .before .none .ensures)
+returns-6 c = let h = c .before .before .before in heard-is h ∙ ap (told h) (c .before .heard4 .given .1) ∙ rw (h .before .before .none .ensures)
 
 pub listen-spec : {M : Type 1} → statement M
 listen-spec =
