@@ -1,0 +1,4 @@
+pub mod Decimal
+pub mod Stored
+pub mod Bits
+pub mod Putting
