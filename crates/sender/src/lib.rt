@@ -270,17 +270,17 @@ pub fn send_plan(
     if leads.len() > ROWS_MOST {
         return Sent::Refused(Refusal::Limit);
     }
-    let cycles = plan_cycles(mark, code, n, leads, trails);
-    if cycles > ENTRIES_MOST {
+    let total = plan_cycles(mark, code, n, leads, trails);
+    if total > ENTRIES_MOST {
         return Sent::Refused(Refusal::Limit);
     }
-    let bad = measure::first_above(bits, HIGH);
-    if bad < bits.len() {
-        return Sent::Refused(Refusal::Entry(bad));
+    let place = measure::first_above(bits, HIGH);
+    if place < bits.len() {
+        return Sent::Refused(Refusal::Entry(place));
     }
-    if out.len() < cycles {
+    if out.len() < total {
         return Sent::Refused(Refusal::Room);
     }
     plan_into(mark, code, n, leads, trails, bits, out);
-    Sent::Wave(WriterCycles(cycles))
+    Sent::Wave(WriterCycles(total))
 }
