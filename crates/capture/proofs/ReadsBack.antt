@@ -16,7 +16,7 @@ use Rattle.capture.specs.Capture.{Heading, heading, fittingAt, joined, r
 use Rattle.capture.specs.Writing.{runsAfter, runsOf, firstLevel, numbers, captureOf}
 use Rattle.capture.proofs.Groups.{either}
 use Rattle.capture.proofs.Headings.{in-range, fitting-in, heading-is}
-use Rattle.capture.proofs.Captures.{capture-found}
+use Rattle.capture.proofs.Captures.{capture-found, heading-short}
 use Rattle.capture.proofs.Reading.{captured}
 use Rattle.capture.proofs.Runs.{sum, runs-skip}
 use Rattle.capture.proofs.Spelling.{size-some, size-run, size-groups}
@@ -189,5 +189,6 @@ unfolding captureOf numbers
 capture-back k n Q reads r h l =
     let level = firstLevel reads in
     let runs = runsOf reads in
-    capture-found (whole k n Q level runs) (capture-short k n Q reads r h l) (front k n Q level runs) (heading-back k n Q level runs r (first-low reads l))
+    capture-found (whole k n Q level runs) (front k n Q level runs)
+    (heading-short (whole k n Q level runs) (capture-short k n Q reads r h l) ∙ heading-back k n Q level runs r (first-low reads l))
     ∙ rw (tail-back k n Q level runs, runs-back runs 0 (runs-at k n Q level runs) (runs-some reads) (omega (arith, runs-sum reads))) (with-back k n Q level runs (first-none reads))

@@ -18,13 +18,13 @@ ghost use mathlib.Core.Path.{_≡_};
 ghost use mathlib.Core.Bool.{_&&_, true};
 ghost use mathlib.Core.List.{_∷_};
 ghost use Prim.Native.Nat.{ℕ, _+_, _-_, _≤_, _<_};
-ghost use lib.Dec.{leb};
+ghost use lib.Dec.{leb, ltb};
 ghost use lib.ListN.{drop, length, replicate};
 ghost use lib.Seq.{sets};
-ghost use Rattle.measure.specs.Choose.{between as isBetween};
+ghost use Rattle.measure.specs.Choose.{between as isBetween, choose};
 ghost use Rattle.measure.specs.Lists.{onto};
-ghost use Rattle.measure.specs.Ranges.{entriesMost, quiet, rowBits, sampling};
-ghost use Rattle.measure.specs.Refusals.{given};
+ghost use Rattle.measure.specs.Ranges.{captureMost, entriesMost, quiet, rowBits, sampling};
+ghost use Rattle.measure.specs.Refusals.{given, refused};
 ghost use Rattle.capture.specs.Numbers.{before, bound, following, further, group, numberAt, spelled};
 ghost use Rattle.capture.specs.Capture.{fittingAt, heading, readsOf, runsFrom, then, withRuns};
 ghost use Rattle.capture.specs.Writing.{captureOf, firstLevel, numbers, runsOf};
@@ -242,6 +242,16 @@ fn head_refusal(head: Head) -> Refusal
     }
 }
 
+// The heading of bytes that are to be a capture: refusal 3 for too many bytes comes before the heading's own.
+fn heading_of(bytes: &[u8]) -> Head
+    ensures { λ x. ⌜ choose (ltb captureMost (length (now (bytes .entry)))) (refused 3 0) (heading (now (bytes .entry))) ≡ headTold x ⌝ }
+{
+    if CAPTURE_MOST < bytes.len() {
+        return Head::Refused(Refusal::Limit);
+    }
+    read_heading(bytes)
+}
+
 // Walks the runs behind a heading to the end of the file and sums the capture up. Refuses with 6 or 7 where a run cannot
 // be had, with 8 for a run of 0 and for the first with which the total is too large, and with 8 at the level's byte where
 // the first level is 0 and there is no run.
@@ -252,8 +262,8 @@ fn check_runs(bytes: &[u8], head: Header) -> Checked
     let q = head.q;
     let level_at = head.level_at;
     let mut at = head.after;
-    let mut reads = 0;
-    let mut runs = 0;
+    let mut reads: usize = 0;
+    let mut runs: usize = 0;
     while at < bytes.len() {
         let number = number_at(bytes, at);
         let Number::Is(run, next) = number else {
@@ -289,10 +299,7 @@ fn check_runs(bytes: &[u8], head: Header) -> Checked
 pub fn check(bytes: &[u8]) -> Checked
     ensures { λ x. ⌜ checked (now (bytes .entry)) ≡ told x ⌝ }
 {
-    if CAPTURE_MOST < bytes.len() {
-        return Checked::Refused(Refusal::Limit);
-    }
-    let head = read_heading(bytes);
+    let head = heading_of(bytes);
     let Head::Found(h) = head else {
         return Checked::Refused(head_refusal(head));
     };
@@ -339,10 +346,7 @@ fn unroll_into(bytes: &[u8], from: usize, level: u8, out: &mut [u8])
 pub fn read_capture(bytes: &[u8], out: &mut [u8]) -> Checked
     ensures { λ x. ⌜ readBack (now (bytes .entry)) (now (out .entry)) ≡ (told x, now (out .exit)) ⌝ }
 {
-    if CAPTURE_MOST < bytes.len() {
-        return Checked::Refused(Refusal::Limit);
-    }
-    let head = read_heading(bytes);
+    let head = heading_of(bytes);
     let Head::Found(h) = head else {
         return Checked::Refused(head_refusal(head));
     };

@@ -48,7 +48,7 @@ add-done c =
     omega (arith, c .before .before .before .before .before .before .before .before .before .before .before .before .good, unrolled-room (c .before .before .before .before .before .before .before .before .before .loop .inv) _ (all-bytes (c .before .before .before .before .before .before .before .before .before)) (c .before .before .before .before .before .before .before .before .loop-test .taken) (c .before .before .before .before .before .before .before .number-at .ensures ∙ ap numberTold (c .before .before .before .before .before .number .given .1)))
 
 sub-current : tie.Need-sub-current Inv-loop μ-loop
-sub-current c = c .before .before .before .before .before .before .before .before .before .loop .inv .bit
+sub-current c = omega (arith, c .before .before .before .before .before .before .before .before .before .loop .inv .bit, c .before .before .before .before .before .before .before .before .before .before .before .before .pre .0)
 
 loop-less : tie.Need-loop-less Inv-loop μ-loop
 loop-less c =
