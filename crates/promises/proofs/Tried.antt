@@ -20,7 +20,7 @@ fitting : Fitting p10
 unfolding m1 m2 m3 m4 m5
 fitting = record {
   phase = omega arith;
-  choices = (omega arith, (omega arith, (omega arith, (omega arith, tt))));
+  choices = (omega arith, (omega arith, (omega arith, (omega arith, (omega arith, (omega arith, tt))))));
   some-bits = omega arith;
   rows = (refl, (omega arith, (omega arith, tt)), refl, (refl, (omega arith, (omega arith, tt)), refl, tt));
   m1 = refl;
@@ -29,19 +29,19 @@ fitting = record {
   m4 = refl;
 }
 
-after-the-trail : WhollyAfter p10 (cyclesOf p10 (first ∷ [])) second 62
+wholly-after : WhollyAfter p10 (cyclesOf p10 (first ∷ [])) second 58
 unfolding planWave wave cells
-after-the-trail i read lo hi here shares = omega (arith, shares .before-the-end)
+wholly-after i read lo hi here shares = omega (arith, shares .before-the-end)
 
 pub tried : Tried
 unfolding readsOf settle warp warpFrom look dropped smoothFrom planWave wave cells next reportsBy fromMark passing numbered withinLead heard markPlace samplePlace lastSample deliveries reportsAt moved
 tried = record {
   fits = fitting;
   demand = demand-3 p10 fitting;
-  wholly = after-the-trail;
+  wholly = wholly-after;
   samples = refl;
   hears = refl;
   reports = refl;
-  before = demand-3 p10 fitting .before 58 62 false-quiet (omega arith) (omega arith);
-  after = demand-3 p10 fitting .after 58 62 false-quiet (omega arith) (omega arith) (first ∷ []) second [] refl after-the-trail;
+  before = demand-3 p10 fitting .before 54 58 false-quiet (omega arith) (omega arith);
+  after = demand-3 p10 fitting .after 54 58 false-quiet (omega arith) (omega arith) (first ∷ []) second [] refl wholly-after;
 }

@@ -17,10 +17,10 @@ use Rattle.promises.specs.Demand3.{Demand3}
 use Rattle.promises.specs.Tried.{p10}
 use Rattle.promises.specs.Useless.{ShutOut}
 
-too-few : (step : Step) → length (below 121 (reportsBy step fresh 0 (damaged p10 121 121 []))) < 2 → Demand3 p10 step → ⊥
+too-few : (step : Step) → length (below 117 (reportsBy step fresh 0 (damaged p10 117 117 []))) < 2 → Demand3 p10 step → ⊥
 unfolding readsOf settle warp warpFrom look dropped smoothFrom planWave wave cells fromMark passing numbered withinLead heard markPlace samplePlace lastSample deliveries reportsAt
 too-few step few demand =
-    let two = ap (λ (l : List Report). length l) (demand .before 121 121 [] (omega arith) (omega arith)) in
+    let two = ap (λ (l : List Report). length l) (demand .before 117 117 [] (omega arith) (omega arith)) in
     omega arith
 
 pub shut-out : ShutOut

@@ -1,4 +1,4 @@
--- Demand 3 tried at P10's settings: two rows, and four reads of the pads between them replaced by a false quiet with a false mark behind it.
+-- Demand 3 tried at P10's settings: two rows, and four reads between their last samples replaced by a false quiet with a false mark behind it.
 use Prim.Native.Nat.{ℕ}
 use mathlib.Core.Path.{_≡_}
 use mathlib.Core.List.{List, [], _∷_, _++_}
@@ -11,12 +11,12 @@ use Rattle.promises.specs.Replaced.{WhollyAfter, damaged, below, above}
 use Rattle.promises.specs.Demand3.{Fitting, Demand3, settings}
 
 abbrev pub first : Row
-first = record { lead = 23; trail = 4; bits = 1 ∷ 0 ∷ [] }
+first = record { lead = 23; trail = 0; bits = 1 ∷ 0 ∷ [] }
 
 abbrev pub second : Row
 second = record { lead = 23; trail = 0; bits = 0 ∷ 1 ∷ [] }
 
--- M4 and both M5 are 0; each read shares time with two cycles, and unknown reads fall both ways
+-- M4 and both M5 are 0. Each read shares time with two cycles; unknown reads fall both ways, and low where the second row's lead begins.
 abbrev pub p10 : Link
 p10 = record {
   a = 5;
@@ -28,16 +28,16 @@ p10 = record {
   r = 100;
   p = 40;
   rows = first ∷ second ∷ [];
-  choices = 1 ∷ 0 ∷ 0 ∷ 1 ∷ [];
+  choices = 1 ∷ 0 ∷ 0 ∷ 1 ∷ 1 ∷ 0 ∷ [];
 }
 
 -- Q high reads, then a mark
 abbrev pub false-quiet : List ℕ
 false-quiet = replicate 21 1 ++ replicate 3 0
 
--- reads 58 up to 62 replaced; read 62 is the first that shares time with the second row's lead
+-- reads 54 up to 58 replaced; read 58 is the first that shares time with the second row's lead
 abbrev pub told : List Report
-told = reportsBy (next (settings p10)) fresh 0 (damaged p10 58 62 false-quiet)
+told = reportsBy (next (settings p10)) fresh 0 (damaged p10 54 58 false-quiet)
 
 abbrev at : ℕ → Happening → Report
 at place event = record { place = place; event = event }
@@ -46,11 +46,11 @@ pub record Tried : Type 0 where
   -- the hypotheses are met, so demand 3 holds here
   pub fits : Fitting p10
   pub demand : Demand3 p10 (next (settings p10))
-  pub wholly : WhollyAfter p10 (cyclesOf p10 (first ∷ [])) second 62
-  -- the places that it speaks of: the last samples, and the read with which the second lead quiet is heard
-  pub samples : deliveries p10 0 (first ∷ second ∷ []) ≡ at 50 (row (1 ∷ 0 ∷ [])) ∷ at 115 (row (0 ∷ 1 ∷ [])) ∷ []
-  pub hears : heard p10 (cyclesOf p10 (first ∷ [])) second ≡ 84
-  -- the reports: the false row is broken by the second lead quiet, before that has been heard at 58 + 24 + (84 - 62)
-  pub reports : told ≡ at 50 (row (1 ∷ 0 ∷ [])) ∷ at 102 (broken 1) ∷ at 135 (row (0 ∷ 1 ∷ [])) ∷ []
-  pub before : below 58 told ≡ at 50 (row (1 ∷ 0 ∷ [])) ∷ []
-  pub after : above 104 told ≡ at 135 (row (0 ∷ 1 ∷ [])) ∷ []
+  pub wholly : WhollyAfter p10 (cyclesOf p10 (first ∷ [])) second 58
+  -- the places that it speaks of: the last samples, and the read with which the second lead quiet has been heard
+  pub samples : deliveries p10 0 (first ∷ second ∷ []) ≡ at 51 (row (1 ∷ 0 ∷ [])) ∷ at 111 (row (0 ∷ 1 ∷ [])) ∷ []
+  pub hears : heard p10 (cyclesOf p10 (first ∷ [])) second ≡ 80
+  -- The reports. The false row is broken with the very read that the second lead quiet is heard with, now at 54 + 24 + (80 - 58): its own report comes before.
+  pub reports : told ≡ at 51 (row (1 ∷ 0 ∷ [])) ∷ at 100 (broken 1) ∷ at 131 (row (0 ∷ 1 ∷ [])) ∷ []
+  pub before : below 54 told ≡ at 51 (row (1 ∷ 0 ∷ [])) ∷ []
+  pub after : above 100 told ≡ at 131 (row (0 ∷ 1 ∷ [])) ∷ []

@@ -46,4 +46,4 @@ pub record ShutOut : Type 0 where
   pub refusing : Demand3 p10 refusesAll → ⊥
   pub leaving : Demand3 p10 (leavesState (settings p10)) → ⊥
   pub once : Demand3 p10 (deliversOnce (settings p10)) → ⊥
-  pub once-is : reportsBy (deliversOnce (settings p10)) fresh 0 (readsOf p10) ≡ record { place = 50; event = row (1 ∷ 0 ∷ []) } ∷ []
+  pub once-is : reportsBy (deliversOnce (settings p10)) fresh 0 (readsOf p10) ≡ record { place = 51; event = row (1 ∷ 0 ∷ []) } ∷ []
