@@ -4,7 +4,7 @@ use mathlib.Core.Path.{_≡_, refl, sym, _∙_, ap}
 use mathlib.Core.List.{List, [], _∷_, _++_, map}
 use native.Mathlib.Omega.{arith}
 use native.Mathlib.Numerals.{add-one}
-use lib.ListN.{length}
+use lib.ListN.{length, getD}
 use Rattle.board.specs.Rows.{State, Happening, nothing, row, broken}
 use Rattle.board.specs.Feeding.{Report, noted, Step, afterBy, reportsBy, usedOf}
 
@@ -27,6 +27,14 @@ reports-append step s place (read ∷ a) b =
     rw (reports-append step (step s read .state) (suc place) a b, e)
     (noted-append place (step s read .event) (reportsBy step (step s read .state) (suc place) a)
     (reportsBy step (afterBy step (step s read .state) a) (suc place + length a) b))
+
+-- what every read that is a level keeps, a list of levels keeps
+pub after-keeps : (step : Step) (P : State → Type 0) → ((s : State) (read : ℕ) → P s → read ≤ 1 → P (step s read .state))
+    → (s : State) (reads : List ℕ) → P s → ((i : ℕ) → getD reads i 0 ≤ 1) → P (afterBy step s reads)
+unfolding afterBy
+after-keeps step P keeps s [] h levels = h
+after-keeps step P keeps s (read ∷ reads) h levels =
+    after-keeps step P keeps (step s read .state) reads (keeps s read h (levels 0)) (λ i. levels (suc i))
 
 -- a report so many places later
 abbrev pub later : ℕ → Report → Report

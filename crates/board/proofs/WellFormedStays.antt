@@ -7,16 +7,17 @@ use native.Mathlib.Omega.{arith}
 use native.Mathlib.Decide.{decLe, decLt}
 use borrow.Author.Tests.{le-leb, lt-leb, lt-ltb, le-ltb}
 use lib.Dec.{leb, ltb}
-use lib.ListN.{length}
+use lib.ListN.{length, getD}
 use Rattle.measure.specs.Choose.{choose}
 use Rattle.measure.specs.Ranges.{entriesMost}
 use Rattle.board.specs.declared.Receiver.{Receiver}
 use Rattle.board.specs.Rows.{Settings, State, Happening, nothing, row, broken, fresh, next}
-use Rattle.board.specs.Feeding.{afterBy, after}
+use Rattle.board.specs.Feeding.{after}
 use Rattle.board.specs.Packed.{settingsOf, stateOf, receiverOf}
 use Rattle.board.specs.WellFormed.{settingsFit, wellFormed}
 use Rattle.board.specs.Refusals.{begun, stepped, listened, refusing}
 use Rattle.board.specs.Listening.{heardFrom, onward}
+use Rattle.board.proofs.FeedingLaws.{after-keeps}
 use Rattle.board.proofs.RowRules.{Valid, valid-fresh, valid-next}
 use Rattle.board.proofs.Standing.{ranged-of, valid-of, well-formed-of}
 use Rattle.board.proofs.ListenedLaws.{listened-is}
@@ -30,6 +31,13 @@ pub next-well-formed : (x : Receiver) (read : ℕ) → wellFormed x ≡ true →
     → wellFormed (receiverOf (settingsOf x) (next (settingsOf x) (stateOf x) read .state)) ≡ true
 next-well-formed x read h p =
     well-formed-of (settingsOf x) (next (settingsOf x) (stateOf x) read .state) (valid-next (settingsOf x) (stateOf x) read (valid-of x h) p)
+
+pub after-well-formed : (x : Receiver) (reads : List ℕ) → wellFormed x ≡ true → ((i : ℕ) → getD reads i 0 ≤ 1)
+    → wellFormed (receiverOf (settingsOf x) (after (settingsOf x) (stateOf x) reads)) ≡ true
+after-well-formed x reads h levels =
+    let g = settingsOf x in
+    well-formed-of g (after g (stateOf x) reads)
+    (after-keeps (next g) (Valid g) (λ s read v p. valid-next g s read v p) (stateOf x) reads (valid-of x h) levels)
 
 -- the operations
 

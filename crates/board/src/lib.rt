@@ -7,7 +7,7 @@ ghost use lib.ListN.{length, getD, set, drop};
 ghost use Rattle.board.specs.declared.Mode.the-variants.{Counting as CountingMode, Waiting as WaitingMode};
 ghost use Rattle.board.specs.declared.Receiver.{Receiver as AnyReceiver};
 ghost use Rattle.board.specs.Rows.{hunting, ready, counting, waiting, bitOf, collected, marked};
-ghost use Rattle.board.specs.Packed.{kept, stateOf};
+ghost use Rattle.board.specs.Packed.{kept, stateOf, receiverOf};
 ghost use Rattle.board.specs.WellFormed.{settingsFit, runFits, leftFits, foundFits, levelFits, unusedZero, wellFormed};
 ghost use Rattle.measure.specs.Refusals.{numberOf, placeOf};
 ghost use Rattle.board.specs.Refusals.{begun, startTold, stepped, stepTold, listened, listenTold, refusing};
@@ -122,6 +122,24 @@ fn none() -> [u8; 128]
     ensures { λ x. ⌜ kept [] ≡ x ⌝ }
 {
     [0u8; 128]
+}
+
+// A receiver in hunting or ready, which keep no bits.
+fn idle(mode: Mode, run: usize, k: usize, n: usize, q: usize) -> Receiver
+    ensures { λ x. ⌜ receiverOf (settings k n q) (record { mode = mode; left = 0; level = 1; run = run; bits = [] }) ≡ x ⌝ }
+{
+    let zeros = none();
+    Receiver {
+        k: ReadCycles(k),
+        n: n,
+        q: ReadCycles(q),
+        mode: mode,
+        run: ReadCycles(run),
+        left: ReadCycles(0),
+        level: HIGH,
+        found: 0,
+        bits: zeros,
+    }
 }
 
 fn settings_fit(k: usize, n: usize, q: usize) -> bool
@@ -488,43 +506,23 @@ impl Receiver {
     pub fn fresh(k: ReadCycles, n: usize, q: ReadCycles) -> Started
         ensures { λ x. ⌜ begun (k .0) n (q .0) ≡ (startTold (x .start), x .receiver) ⌝ }
     {
-        let zeros = none();
-        if !settings_fit(k.0, n, q.0) {
-            let receiver = Receiver {
-                k: ReadCycles(0),
-                n: 0,
-                q: ReadCycles(0),
-                mode: Mode::Hunting,
-                run: ReadCycles(0),
-                left: ReadCycles(0),
-                level: 0,
-                found: 0,
-                bits: zeros,
-            };
+        if settings_fit(k.0, n, q.0) {
+            let receiver = idle(Mode::Hunting, 0, k.0, n, q.0);
             return Started {
                 receiver: receiver,
-                start: Start::Refused(Refusal::Setting),
+                start: Start::Fresh,
             };
         }
-        let receiver = Receiver {
-            k: k,
-            n: n,
-            q: q,
-            mode: Mode::Hunting,
-            run: ReadCycles(0),
-            left: ReadCycles(0),
-            level: HIGH,
-            found: 0,
-            bits: zeros,
-        };
+        let mut receiver = idle(Mode::Hunting, 0, 0, 0, 0);
+        receiver.level = 0;
         Started {
             receiver: receiver,
-            start: Start::Fresh,
+            start: Start::Refused(Refusal::Setting),
         }
     }
 
-    // Tells whether the state is well formed: every receiver that was handed back, and every one that was not changed since,
-    // is. Refuses nothing.
+    // Tells whether the state is well formed. Refuses nothing. The operations refuse any other state, and hand back a well
+    // formed one for a well formed one.
     pub fn well_formed(self) -> bool
         ensures { λ x. ⌜ x ≡ wellFormed self ⌝ }
     {
@@ -588,44 +586,31 @@ impl Receiver {
             level: self.level,
             found: self.found,
         };
-        let zeros = none();
         let heard = hear(reads, &mut bits, start, k, n, q);
         match heard {
             Heard::Bad(place) => self.refused(Refusal::Entry(place)),
-            Heard::Full(run, used) => Listened {
-                receiver: Receiver {
-                    k: ReadCycles(k),
-                    n: n,
-                    q: ReadCycles(q),
-                    mode: Mode::Hunting,
-                    run: ReadCycles(run),
-                    left: ReadCycles(0),
-                    level: HIGH,
-                    found: 0,
-                    bits: zeros,
-                },
-                event: Event::Row,
-                row: bits,
-                used: ReadCycles(used),
-            },
-            Heard::Broken(found, used) => Listened {
-                receiver: Receiver {
-                    k: ReadCycles(k),
-                    n: n,
-                    q: ReadCycles(q),
-                    mode: Mode::Ready,
-                    run: ReadCycles(q),
-                    left: ReadCycles(0),
-                    level: HIGH,
-                    found: 0,
-                    bits: zeros,
-                },
-                event: Event::Broken(found),
-                row: zeros,
-                used: ReadCycles(used),
-            },
+            Heard::Full(run, used) => {
+                let receiver = idle(Mode::Hunting, run, k, n, q);
+                Listened {
+                    receiver: receiver,
+                    event: Event::Row,
+                    row: bits,
+                    used: ReadCycles(used),
+                }
+            }
+            Heard::Broken(found, used) => {
+                let receiver = idle(Mode::Ready, q, k, n, q);
+                let zeros = none();
+                Listened {
+                    receiver: receiver,
+                    event: Event::Broken(found),
+                    row: zeros,
+                    used: ReadCycles(used),
+                }
+            }
             Heard::Ended(numbers) => {
                 let mode = numbers.mode;
+                let zeros = none();
                 Listened {
                     receiver: Receiver {
                         k: ReadCycles(k),

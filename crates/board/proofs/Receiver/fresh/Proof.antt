@@ -1,32 +1,35 @@
--- `fresh` meets its contract: the settings are judged, and no bits are 128 bytes of 0.
-use mathlib.Core.Path.{_≡_, sym, _∙_}
+-- `fresh` meets its contract: the settings are judged, and what comes back keeps no bits.
+use mathlib.Core.Path.{_≡_, _∙_}
 use mathlib.Core.Bool.{true, false}
 use borrow.Author.Needs.{needs}
-use borrow.Author.Tests.{not-true, not-false}
 use Rattle.board.specs.WellFormed.{settingsFit}
 use Rattle.board.specs.Refusals.{begun}
 use Rattle.board.proofs.Receiver.fresh.Statement.{statement}
 use Rattle.board.proofs.Receiver.fresh.Tie as tie
 
-none-requires : tie.Need-none-requires
-none-requires c κs = search needs
-
 settings-fit-requires : tie.Need-settings-fit-requires
 settings-fit-requires c κs = search needs
+
+idle-requires : tie.Need-idle-requires
+idle-requires c κs = search needs
 
 returns : tie.Need-returns
 unfolding begun
 returns c =
     let a = c .before .before .before .args in
-    let e : settingsFit (a .k .0) (a .n) (a .q .0) ≡ false = c .before .settings-fit .ensures ∙ not-true _ (c .if1 .taken) in
-    simp (e, ← c .before .before .none .ensures)
+    let e : settingsFit (a .k .0) (a .n) (a .q .0) ≡ true = c .before .before .settings-fit .ensures ∙ c .before .if1 .taken in
+    rw (e, ← c .idle .ensures)
+
+idle-requires-2 : tie.Need-idle-requires-2
+idle-requires-2 c κs = search needs
 
 returns-2 : tie.Need-returns-2
 unfolding begun
 returns-2 c =
     let a = c .before .before .before .args in
-    let e : settingsFit (a .k .0) (a .n) (a .q .0) ≡ true = c .before .settings-fit .ensures ∙ not-false _ (c .if1 .left) in
-    simp (e, ← c .before .before .none .ensures)
+    let e : settingsFit (a .k .0) (a .n) (a .q .0) ≡ false = c .before .before .settings-fit .ensures ∙ c .before .if1 .left in
+    rw (e, ← c .idle2 .ensures)
 
 pub fresh-spec : {M : Type 1} → statement M
-fresh-spec = tie.close (tie.spec none-requires settings-fit-requires returns returns-2)
+fresh-spec =
+    tie.close (tie.spec settings-fit-requires idle-requires returns idle-requires-2 returns-2)

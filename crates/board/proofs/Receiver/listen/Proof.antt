@@ -56,12 +56,9 @@ returns-2 c =
     let a = c .before .before .before .before .before .args in
     listened-is (a .self) (now (a .reads)) ∙ rw (well (c .before .before), lt-ltb 1048576 (length (now (a .reads))) (c .before .if2 .taken)) (c .refused2 .ensures)
 
-none-requires : tie.Need-none-requires
-none-requires c κs = search needs
-
 hear-requires : tie.Need-hear-requires
 hear-requires c κs =
-    let e = c .before .before .before in
+    let e = c .before .before in
     let s = e .before .before .before .before in
     record { well = well (e .before); whole = receiver-of-state (s .args .self) (long s) (bytes s) (well (e .before)) }
 
@@ -74,35 +71,49 @@ refused-requires-3 c κs = search needs
 enum-known-heard-2 : tie.Need-enum-known-heard-2
 enum-known-heard-2 c = search needs
 
+idle-requires : tie.Need-idle-requires
+idle-requires c κs = search needs
+
 enum-known-heard-3 : tie.Need-enum-known-heard-3
 enum-known-heard-3 c = search needs
+
+idle-requires-2 : tie.Need-idle-requires-2
+idle-requires-2 c κs = search needs
+
+none-requires : tie.Need-none-requires
+none-requires c κs = search needs
 
 enum-known-heard-4 : tie.Need-enum-known-heard-4
 enum-known-heard-4 c = search needs
 
+none-requires-2 : tie.Need-none-requires-2
+none-requires-2 c κs = search needs
+
 -- what was heard, beside the bytes that it leaves
+abbrev start : tie.After-hear → tie.Start
+start c = c .before .before .before .before .before .before .before
+
 abbrev told : tie.After-hear → Heard → Outcome × ℕ
 told c heard =
-    let a = c .before .before .before .before .before .before .before .before .args in
+    let a = start c .args in
     heardTold (a .self) (settingsOf (a .self)) (length (now (a .reads))) (c .hear .last .1 .0) heard
 
-heard-is : (c : tie.After-hear)
-    → listened (c .before .before .before .before .before .before .before .before .args .self) (now (c .before .before .before .before .before .before .before .before .args .reads))
-    ≡ told c (c .hear .result)
-heard-is c =
-    judged (c .before .before .before .before) ∙ c .hear .ensures (c .before .before .before .before .before .before .before .before .args .self)
+heard-is : (c : tie.After-hear) → listened (start c .args .self) (now (start c .args .reads)) ≡ told c (c .hear .result)
+heard-is c = judged (c .before .before .before) ∙ c .hear .ensures (start c .args .self)
 
 returns-3 : tie.Need-returns-3
 returns-3 c = let h = c .before .before .before .before in heard-is h ∙ ap (told h) (c .before .before .heard .given .1) ∙ c .refused3 .ensures
 
 returns-4 : tie.Need-returns-4
-returns-4 c = let h = c .before .before .before in heard-is h ∙ ap (told h) (c .before .heard2 .given .1) ∙ rw (h .before .before .none .ensures)
+returns-4 c = let h = c .before .before .before .before in heard-is h ∙ ap (told h) (c .before .before .heard2 .given .1) ∙ rw (← c .idle .ensures)
 
 returns-5 : tie.Need-returns-5
-returns-5 c = let h = c .before .before .before in heard-is h ∙ ap (told h) (c .before .heard3 .given .1) ∙ rw (h .before .before .none .ensures)
+returns-5 c =
+    let h = c .before .before .before .before .before in
+    heard-is h ∙ ap (told h) (c .before .before .before .heard3 .given .1) ∙ rw (c .before .idle2 .ensures, c .none .ensures)
 
 returns-6 : tie.Need-returns-6
-returns-6 c = let h = c .before .before .before in heard-is h ∙ ap (told h) (c .before .heard4 .given .1) ∙ rw (h .before .before .none .ensures)
+returns-6 c = let h = c .before .before .before .before in heard-is h ∙ ap (told h) (c .before .before .heard4 .given .1) ∙ rw (c .none2 .ensures)
 
 pub listen-spec : {M : Type 1} → statement M
 listen-spec =
@@ -113,13 +124,16 @@ listen-spec =
     returns
     refused-requires-2
     returns-2
-    none-requires
     hear-requires
     enum-known-heard
     refused-requires-3
     enum-known-heard-2
+    idle-requires
     enum-known-heard-3
+    idle-requires-2
+    none-requires
     enum-known-heard-4
+    none-requires-2
     returns-3
     returns-4
     returns-5
