@@ -14,55 +14,69 @@ fn refused(refusal: Refusal) -> String {
 mod judging {
     use super::*;
 
-    fn verdict(margins: &[i64], accepted: bool) -> String {
-        let margins: String = margins.iter().map(|m| format!(" {}", m)).collect();
-        format!("{} {}", margins, if accepted { "yes" } else { "no" })
+    fn margins(margins: &[i64], wanted: &[i64], accepted: bool) -> String {
+        let mut told = String::new();
+        for (margin, wanted) in margins.iter().zip(wanted) {
+            told += if margin == wanted {
+                " as wanted"
+            } else {
+                " DIFFERS"
+            };
+        }
+        told + if accepted { " yes" } else { " no" }
     }
 
-    fn case(name: &str, a: usize, b: usize, k: usize, w: u64, r: u64) {
+    fn case(name: &str, settings: [usize; 3], w: u64, r: u64, wanted: [i64; 3]) {
+        let [a, b, k] = settings;
         let told = match settings::judge(a, b, k, w, r) {
-            Ok(v) => verdict(&v.margins, v.accepted),
+            Ok(v) => margins(&v.margins, &wanted, v.accepted),
             Err(refusal) => refused(refusal),
         };
         println!("{}{}", name, told);
     }
 
-    fn quiet(name: &str, w: u64, r: u64, q: usize, p1: usize) {
+    fn outside(name: &str, settings: [usize; 3], w: u64, r: u64) {
+        case(name, settings, w, r, [0; 3]);
+    }
+
+    fn quiet(name: &str, w: u64, r: u64, q: usize, p1: usize, wanted: [i64; 2]) {
         let told = match settings::judge_quiet(5, 13, 10, w, r, q, p1) {
-            Ok(v) => verdict(&v.margins, v.accepted),
+            Ok(v) => margins(&v.margins[3..], &wanted, v.accepted),
             Err(refusal) => refused(refusal),
         };
         println!("{}{}", name, told);
     }
 
     pub fn run() {
-        case("P8 r 141", 5, 13, 10, 100, 141);
-        case("P8 r 142", 5, 13, 10, 100, 142);
-        case("P8 r 67", 5, 13, 10, 100, 67);
-        case("P8 r 66", 5, 13, 10, 100, 66);
-        case("P9 w 12 r 17", 5, 13, 10, 12, 17);
-        case("P9 w 3 r 2", 5, 13, 10, 3, 2);
-        case("greatest", 255, 255, 511, 65535, 65535);
-        case("least", 1, 1, 1, 1, 1);
-        case("a 0", 0, 13, 10, 100, 100);
-        case("a 256", 256, 13, 10, 100, 100);
-        case("b 0", 5, 0, 10, 100, 100);
-        case("b 256", 5, 256, 10, 100, 100);
-        case("k 0", 5, 13, 0, 100, 100);
-        case("k 512", 5, 13, 512, 100, 100);
-        case("w 0", 5, 13, 10, 0, 100);
-        case("w 65536", 5, 13, 10, 65536, 100);
-        case("r 0", 5, 13, 10, 100, 0);
-        case("r 65536", 5, 13, 10, 100, 65536);
-        quiet("P10 Q 21 p1 23", 100, 100, 21, 23);
-        quiet("P10 Q 20 p1 23", 100, 100, 20, 23);
-        quiet("P10 Q 21 p1 22", 100, 100, 21, 22);
-        quiet("p1 0", 100, 100, 21, 0);
-        quiet("Q and p1 greatest", 65535, 65535, 8191, 65535);
-        quiet("Q 1", 100, 100, 1, 23);
-        quiet("Q 8192", 100, 100, 8192, 23);
-        quiet("p1 65536", 100, 100, 21, 65536);
-        quiet("w 0 in the quiet judge", 0, 100, 21, 23);
+        case("P8 r 141", [5, 13, 10], 100, 141, [118, 669, 8]);
+        case("P8 r 142", [5, 13, 10], 100, 142, [116, 678, -4]);
+        case("P8 r 67", [5, 13, 10], 100, 67, [266, 3, 896]);
+        case("P8 r 66", [5, 13, 10], 100, 66, [268, -6, 908]);
+        case("P9 w 12 r 17", [5, 13, 10], 12, 17, [14, 81, 0]);
+        case("P9 w 3 r 2", [5, 13, 10], 3, 2, [8, 0, 27]);
+        let greatest = [16514820, 16645890, -262140];
+        case("greatest", [255, 255, 511], 65535, 65535, greatest);
+        case("least", [1, 1, 1], 1, 1, [-2, -2, -2]);
+        outside("a 0", [0, 13, 10], 100, 100);
+        outside("a 256", [256, 13, 10], 100, 100);
+        outside("b 0", [5, 0, 10], 100, 100);
+        outside("b 256", [5, 256, 10], 100, 100);
+        outside("k 0", [5, 13, 0], 100, 100);
+        outside("k 512", [5, 13, 512], 100, 100);
+        outside("w 0", [5, 13, 10], 0, 100);
+        outside("w 65536", [5, 13, 10], 65536, 100);
+        outside("r 0", [5, 13, 10], 100, 0);
+        outside("r 65536", [5, 13, 10], 100, 65536);
+        quiet("P10 Q 21 p1 23", 100, 100, 21, 23, [0, 0]);
+        quiet("P10 Q 20 p1 23", 100, 100, 20, 23, [-100, 100]);
+        quiet("P10 Q 21 p1 22", 100, 100, 21, 22, [0, -100]);
+        quiet("p1 0", 100, 100, 21, 0, [0, -2300]);
+        let most = [535420950, 3757907970];
+        quiet("Q and p1 greatest", 65535, 65535, 8191, 65535, most);
+        quiet("Q 1", 100, 100, 1, 23, [0, 0]);
+        quiet("Q 8192", 100, 100, 8192, 23, [0, 0]);
+        quiet("p1 65536", 100, 100, 21, 65536, [0, 0]);
+        quiet("w 0 in the quiet judge", 0, 100, 21, 23, [0, 0]);
     }
 }
 
