@@ -1,9 +1,8 @@
 -- Feeding reads in two parts is feeding them in one: the second part starts from the state that the first leaves, at the place after it.
-use Prim.Native.Nat.{ℕ, suc, _+_, _≤_, _<_}
-use mathlib.Core.Path.{_≡_, refl, sym, _∙_, ap}
+use Prim.Native.Nat.{ℕ, suc, _+_, _≤_}
+use mathlib.Core.Path.{_≡_, refl}
 use mathlib.Core.List.{List, [], _∷_, _++_, map}
 use native.Mathlib.Omega.{arith}
-use native.Mathlib.Numerals.{add-one}
 use lib.ListN.{length, getD}
 use Rattle.board.specs.Rows.{State, Happening, nothing, row, broken}
 use Rattle.board.specs.Feeding.{Report, noted, Step, afterBy, reportsBy, usedOf}

@@ -1,10 +1,9 @@
 -- Numbers and bytes that make a well formed receiver: the bits that they keep, and how one bit more is kept.
-use Prim.Native.Nat.{ℕ, suc, _+_, _*_, _/_, _%_, _^_, _≤_, _<_}
+use Prim.Native.Nat.{ℕ, _+_, _*_, _/_, _%_, _^_, _≤_, _<_}
 use mathlib.Core.Path.{_≡_, refl, sym, _∙_, ap}
 use mathlib.Core.List.{List, [], _∷_, _++_}
-use mathlib.Core.Bool.{true}
 use native.Mathlib.Omega.{arith}
-use lib.ListN.{length, getD, take, drop, set, length-append}
+use lib.ListN.{length, getD, take, set, length-append}
 use Rattle.board.specs.declared.Mode.{Mode}
 use Rattle.board.specs.declared.Mode.the-variants.{Hunting, Ready, Counting, Waiting}
 use Rattle.board.specs.declared.Receiver.{Receiver}
@@ -15,7 +14,7 @@ use Rattle.board.specs.WellFormed.{wellFormed}
 use Rattle.board.specs.Listening.{keeping, Keeps}
 use Rattle.board.proofs.PackedBits.{Binary, binary-snoc}
 use Rattle.board.proofs.RowRules.{Fitting, Valid}
-use Rattle.board.proofs.Standing.{Facts, facts, valid-of, state-of-receiver, well-formed-of, one-more, room-for-one}
+use Rattle.board.proofs.Standing.{facts, valid-of, state-of-receiver, well-formed-of, one-more, room-for-one}
 
 -- the bits that numbers and bytes keep
 abbrev pub bitsIn : Numbers → List ℕ → List ℕ

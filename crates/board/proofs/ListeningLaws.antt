@@ -1,6 +1,6 @@
 -- Listening goes read by read: each law says what the outcome from a place becomes of the read that stands there.
-use Prim.Native.Nat.{ℕ, suc, _+_, _-_, _≤_, _<_, min}
-use mathlib.Core.Path.{_≡_, refl, sym, _∙_, ap}
+use Prim.Native.Nat.{ℕ, _+_, _-_, _≤_, _<_, min}
+use mathlib.Core.Path.{_≡_, refl, _∙_}
 use mathlib.Core.List.{List, [], _∷_, _++_}
 use mathlib.Core.Bool.{Bool, true, false}
 use native.Mathlib.Numerals.{add-one}
@@ -11,7 +11,7 @@ use lib.ListN.{length, getD, drop, drop-of-length-le}
 use lib.Seq.{drop-cons}
 use Rattle.measure.specs.Choose.{choose}
 use Rattle.board.specs.declared.Receiver.{Receiver}
-use Rattle.board.specs.Rows.{Settings, State, nothing, Moved, runAfter, hunting, ready, counting, waiting, bitOf, stays, quietened, marked, collected, listening, next}
+use Rattle.board.specs.Rows.{Settings, State, nothing, Moved, runAfter, ready, counting, waiting, bitOf, quietened, marked, collected, listening, next}
 use Rattle.board.specs.Refusals.{reached, refusing}
 use Rattle.board.specs.Listening.{longer, heardFrom, movedFrom}
 use Rattle.board.proofs.RowRules.{run-most, run-full}

@@ -5,7 +5,7 @@ use mathlib.Core.List.{List, [], _∷_, _++_, append-nil, append-assoc}
 use native.Mathlib.Nat.{mul-left-comm, pow-succ', mul-one, zero-mul, suc-mul}
 use native.Mathlib.Omega.{arith}
 use native.Mathlib.Decide.{decLt}
-use lib.ListN.{length, getD, take, drop, set, replicate, length-append, length-drop, length-take, length-replicate, drop-of-length-le, take-append-drop, replicate-append-replicate}
+use lib.ListN.{length, getD, take, drop, set, replicate, length-append, length-drop, drop-of-length-le, take-append-drop, replicate-append-replicate}
 use lib.Pow.{pow-pos}
 use lib.Seq.{drop-at, drop-append-le, getD-drop, take-all, take-nil}
 use Rattle.board.specs.Packed.{number, digits, packed, unpacked}

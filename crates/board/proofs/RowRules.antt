@@ -1,5 +1,5 @@
 -- A read takes a well formed state to a well formed one: each rule sets exactly the numbers that its mode asks for.
-use Prim.Native.Nat.{ℕ, suc, _+_, _-_, _≤_, _<_, min}
+use Prim.Native.Nat.{ℕ, _+_, _-_, _≤_, _<_, min}
 use mathlib.Core.Path.{_≡_, refl}
 use mathlib.Core.List.{List, [], _∷_, _++_}
 use mathlib.Core.Bool.{Bool, true, false}
@@ -10,7 +10,7 @@ use lib.ListN.{length, length-append}
 use Rattle.measure.specs.Choose.{choose}
 use Rattle.board.specs.declared.Mode.{Mode}
 use Rattle.board.specs.declared.Mode.the-variants.{Hunting, Ready, Counting, Waiting}
-use Rattle.board.specs.Rows.{Settings, State, Moved, runAfter, bitOf, hunting, ready, counting, waiting, fresh, stays, marked, collected, listening, next}
+use Rattle.board.specs.Rows.{Settings, State, Moved, runAfter, bitOf, hunting, ready, counting, waiting, fresh, collected, listening, next}
 use Rattle.board.proofs.PackedBits.{Binary, binary-none, binary-snoc}
 
 -- the settings are in range

@@ -1,25 +1,25 @@
 -- A receiver stands for a state: well formed, each is had back from the other, since packing and unpacking undo each other.
-use Prim.Native.Nat.{ℕ, suc, _+_, _-_, _*_, _/_, _%_, _^_, _≤_, _<_}
-use mathlib.Core.Path.{_≡_, refl, sym, _∙_, ap}
+use Prim.Native.Nat.{ℕ, _+_, _-_, _*_, _/_, _%_, _^_, _≤_, _<_}
+use mathlib.Core.Path.{_≡_, refl, sym, _∙_}
 use mathlib.Core.List.{List, [], _∷_, _++_}
-use mathlib.Core.Bool.{Bool, true, false, _&&_}
+use mathlib.Core.Bool.{true, _&&_}
 use native.Mathlib.Omega.{arith}
 use native.Mathlib.Decide.{decLt}
 use borrow.Author.Tests.{lt-ltb, le-leb, eq-eqb, ltb-true, leb-true, eqb-true}
-use lib.Dec.{eqb, ltb, leb}
-use lib.ListN.{length, getD, take, drop, set, replicate, length-take, length-append, List·getD-eq-default}
+use lib.Dec.{leb}
+use lib.ListN.{length, getD, take, drop, set, replicate, length-take, List·getD-eq-default}
 use lib.Seq.{getD-take, getD-drop, take-at}
 use Rattle.measure.specs.Choose.{between}
 use Rattle.measure.specs.Ranges.{sampling, rowBits, quiet}
 use Rattle.board.specs.declared.Mode.{Mode}
 use Rattle.board.specs.declared.Mode.the-variants.{Hunting, Ready, Counting, Waiting}
 use Rattle.board.specs.declared.Receiver.{Receiver}
-use Rattle.board.specs.Rows.{Settings, State, next}
-use Rattle.board.specs.Packed.{packed, unpacked, kept, settingsOf, stateOf, receiverOf}
-use Rattle.board.specs.WellFormed.{settingsFit, runFits, leftFits, foundFits, levelFits, allZero, unusedZero, wellFormed}
-use Rattle.board.proofs.PackedBits.{Binary, Words, binary-take, unpacked-binary, length-unpacked, length-packed, packed-words, packed-snoc, packed-low, packed-cong, packed-unpacked, unpacked-packed}
+use Rattle.board.specs.Rows.{Settings, State}
+use Rattle.board.specs.Packed.{unpacked, kept, settingsOf, stateOf, receiverOf}
+use Rattle.board.specs.WellFormed.{settingsFit, runFits, leftFits, foundFits, levelFits, unusedZero, wellFormed}
+use Rattle.board.proofs.PackedBits.{Binary, Words, binary-take, unpacked-binary, length-unpacked, packed-snoc, packed-low, packed-cong, packed-unpacked, unpacked-packed}
 use Rattle.board.proofs.UnusedBits.{and-left, and-right, zero-at, unused-packed}
-use Rattle.board.proofs.RowRules.{Ranged, Fitting, Valid, valid-next}
+use Rattle.board.proofs.RowRules.{Ranged, Fitting, Valid}
 
 -- the tests and what they say
 

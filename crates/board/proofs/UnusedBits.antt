@@ -4,13 +4,12 @@ use mathlib.Core.Path.{_≡_, refl, sym, _∙_, ap}
 use mathlib.Core.List.{List, [], _∷_, _++_}
 use mathlib.Core.Bool.{Bool, true, false, _&&_, and-assoc}
 use native.Mathlib.Nat.{pow-succ', zero-mul, suc-mul}
-use native.Mathlib.Numerals.{add-one}
 use native.Mathlib.Omega.{arith}
 use native.Mathlib.Decide.{decLt, decLe}
 use borrow.Author.Tests.{lt-ltb, le-ltb, le-leb, lt-leb, eq-eqb, ne-eqb, eqb-true}
 use lib.Dec.{eqb, ltb, eqb·suc-suc, eqb·zero-suc}
-use lib.ListN.{length, getD, take, drop, replicate}
-use lib.Seq.{drop-append-le, drop-append-add, drop-at, getD-drop, drop-cons}
+use lib.ListN.{length, getD, drop, replicate}
+use lib.Seq.{drop-append-le, drop-append-add, drop-at, drop-cons}
 use Rattle.measure.specs.Lists.{firstAbove}
 use Rattle.board.specs.Packed.{digits, packed, unpacked}
 use Rattle.board.specs.WellFormed.{allZero, unusedZero}

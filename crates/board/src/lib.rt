@@ -4,11 +4,11 @@ ghost use mathlib.Core.Bool.{true};
 ghost use mathlib.Core.List.{List, [], _∷_, _++_};
 ghost use Prim.Native.Nat.{ℕ, _+_, _*_, _/_, _%_, _^_, _≤_, _<_};
 ghost use lib.ListN.{length, getD, set, drop};
-ghost use Rattle.board.specs.declared.Mode.the-variants.{Counting as CountingMode, Waiting as WaitingMode};
-ghost use Rattle.board.specs.declared.Receiver.{Receiver as AnyReceiver};
+ghost use Rattle.board.specs.declared.Receiver.{Receiver};
 ghost use Rattle.board.specs.Rows.{hunting, ready, counting, waiting, bitOf, collected, marked};
 ghost use Rattle.board.specs.Packed.{kept, stateOf, receiverOf};
 ghost use Rattle.board.specs.WellFormed.{settingsFit, runFits, leftFits, foundFits, levelFits, unusedZero, wellFormed};
+ghost use Rattle.measure.specs.Ranges.{bitsMost};
 ghost use Rattle.measure.specs.Refusals.{numberOf, placeOf};
 ghost use Rattle.board.specs.Refusals.{begun, startTold, stepped, stepTold, listened, listenTold, refusing};
 ghost use Rattle.board.specs.Listening.{settings, keeping, Keeps, longer as longerRun, heardFrom, heardTold, soughtTold, Lands};
@@ -209,7 +209,7 @@ fn weight(place: usize) -> u8
 // Whether the places from the number found on hold 0: those of the byte that the next bit falls in, and whole bytes by their
 // greatest, which has no early way out and so is done many at a time.
 fn unused_zero(bits: &[u8], found: usize) -> bool
-    requires { ⌜ (found < 1024) × (length (now bits) ≡ 128) ⌝ }
+    requires { ⌜ (found < bitsMost) × (length (now bits) ≡ 128) ⌝ }
     ensures { λ x. ⌜ unusedZero found (now (bits .entry)) ≡ x ⌝ }
 {
     let at = found / 8;
@@ -222,9 +222,9 @@ fn unused_zero(bits: &[u8], found: usize) -> bool
     measure::first_above(rest, 0) == rest.len()
 }
 
-// The run after a read, where it was below q before.
+// The run after a read, where it was below Q before and so cannot pass it.
 fn longer(run: usize, read: u8) -> usize
-    requires { ⌜ run < 8191 ⌝ }
+    requires { ⌜ run + 1 < 2 ^ 64 ⌝ }
     ensures { λ x. ⌜ longerRun run read ≡ x ⌝ }
 {
     if read == HIGH { run + 1 } else { 0 }
@@ -232,7 +232,7 @@ fn longer(run: usize, read: u8) -> usize
 
 // Puts the bit of a cell, by its mark and its sample, in a place that holds 0, as do all later ones.
 fn put(bits: &mut [u8; 128], at: usize, mark: u8, sample: u8)
-    requires { ⌜ (at < 1024) × (getD (now bits) (at / 8) 0 < 2 ^ (at % 8)) ⌝ }
+    requires { ⌜ (at < bitsMost) × (getD (now bits) (at / 8) 0 < 2 ^ (at % 8)) ⌝ }
     ensures { λ x. ⌜ set (now (bits .entry)) (at / 8) (getD (now (bits .entry)) (at / 8) 0 + bitOf mark sample * 2 ^ (at % 8)) ≡ now (bits .exit) ⌝ }
 {
     if sample != mark {
@@ -244,9 +244,9 @@ fn put(bits: &mut [u8; 128], at: usize, mark: u8, sample: u8)
 
 // Counting: searches for the sample.
 fn to_sample(reads: &[u8], from: usize, start: Numbers, q: usize) -> Sought
-    requires { ⌜ (from ≤ length (now reads)) × (start .run < q) × (q ≤ 8191) × (1 ≤ start .left) ⌝ }
+    requires { ⌜ (from ≤ length (now reads)) × (start .run < q) × (1 ≤ start .left) ⌝ }
     ensures { λ x. ⌜ Lands from (length (now (reads .entry))) q x ⌝ }
-    ensures { λ x. ⌜ ((any : AnyReceiver) (k n : ℕ) (l : List ℕ) → length l ≡ start .found →
+    ensures { λ x. ⌜ ((any : Receiver) (k n : ℕ) (l : List ℕ) → length l ≡ start .found →
         heardFrom any (settings k n q) (counting (start .left) (start .level) (start .run) l) from (drop from (now (reads .entry)))
         ≡ soughtTold any (settings k n q) (λ run read. collected (settings k n q) run read (l ++ bitOf (start .level) read ∷ [])) l (now (reads .entry)) x) ⌝ }
 {
@@ -281,9 +281,9 @@ fn to_sample(reads: &[u8], from: usize, start: Numbers, q: usize) -> Sought
 
 // Waiting: searches for the mark.
 fn to_mark(reads: &[u8], from: usize, start: Numbers, q: usize) -> Sought
-    requires { ⌜ (from ≤ length (now reads)) × (start .run < q) × (q ≤ 8191) ⌝ }
+    requires { ⌜ (from ≤ length (now reads)) × (start .run < q) ⌝ }
     ensures { λ x. ⌜ Lands from (length (now (reads .entry))) q x ⌝ }
-    ensures { λ x. ⌜ ((any : AnyReceiver) (k n : ℕ) (l : List ℕ) → length l ≡ start .found →
+    ensures { λ x. ⌜ ((any : Receiver) (k n : ℕ) (l : List ℕ) → length l ≡ start .found →
         heardFrom any (settings k n q) (waiting (start .level) (start .run) l) from (drop from (now (reads .entry)))
         ≡ soughtTold any (settings k n q) (λ run read. marked (settings k n q) (waiting (start .level) (start .run) l) run read) l (now (reads .entry)) x) ⌝ }
 {
@@ -325,21 +325,22 @@ fn from_counting(
     q: usize,
 ) -> Heard
     requires { ⌜ Keeps (settings k n q) start (now bits) ⌝ }
-    requires { ⌜ (start .mode ≡ CountingMode) × (from ≤ length (now reads)) ⌝ }
-    ensures { λ x. ⌜ ((any : AnyReceiver) →
+    requires { ⌜ (start .mode ≡ Mode.Counting) × (from ≤ length (now reads)) ⌝ }
+    ensures { λ x. ⌜ ((any : Receiver) →
         heardFrom any (settings k n q) (stateOf (keeping (settings k n q) start (now (bits .entry)))) from (drop from (now (reads .entry)))
         ≡ heardTold any (settings k n q) (length (now (reads .entry))) (now (bits .exit)) x) ⌝ }
 {
     let mut i = from;
     let mut numbers = start;
     loop {
-        let sample = to_sample(reads, i, numbers, q);
-        match sample {
+        let sampled = to_sample(reads, i, numbers, q);
+        match sampled {
             Sought::Stopped(heard) => {
                 return heard;
             }
-            Sought::Found(used, run, read) => {
-                put(bits, numbers.found, numbers.level, read);
+            Sought::Found(used, run, sample) => {
+                let mark = numbers.level;
+                put(bits, numbers.found, mark, sample);
                 let found = numbers.found + 1;
                 if found == n {
                     return Heard::Full(run, used);
@@ -349,24 +350,24 @@ fn from_counting(
                     mode: Mode::Waiting,
                     run: run,
                     left: 0,
-                    level: read,
+                    level: sample,
                     found: found,
                 };
             }
         }
-        let mark = to_mark(reads, i, numbers, q);
-        match mark {
+        let marked = to_mark(reads, i, numbers, q);
+        match marked {
             Sought::Stopped(heard) => {
                 return heard;
             }
-            Sought::Found(used, run, read) => {
+            Sought::Found(used, run, mark) => {
                 let found = numbers.found;
                 i = used;
                 numbers = Numbers {
                     mode: Mode::Counting,
                     run: run,
                     left: k,
-                    level: read,
+                    level: mark,
                     found: found,
                 };
             }
@@ -384,21 +385,21 @@ fn from_waiting(
     q: usize,
 ) -> Heard
     requires { ⌜ Keeps (settings k n q) start (now bits) ⌝ }
-    requires { ⌜ start .mode ≡ WaitingMode ⌝ }
-    ensures { λ x. ⌜ ((any : AnyReceiver) →
+    requires { ⌜ start .mode ≡ Mode.Waiting ⌝ }
+    ensures { λ x. ⌜ ((any : Receiver) →
         heardFrom any (settings k n q) (stateOf (keeping (settings k n q) start (now (bits .entry)))) 0 (now (reads .entry))
         ≡ heardTold any (settings k n q) (length (now (reads .entry))) (now (bits .exit)) x) ⌝ }
 {
-    let mark = to_mark(reads, 0, start, q);
-    match mark {
+    let marked = to_mark(reads, 0, start, q);
+    match marked {
         Sought::Stopped(heard) => heard,
-        Sought::Found(used, run, read) => {
+        Sought::Found(used, run, mark) => {
             let found = start.found;
             let numbers = Numbers {
                 mode: Mode::Counting,
                 run: run,
                 left: k,
-                level: read,
+                level: mark,
                 found: found,
             };
             from_counting(reads, used, bits, numbers, k, n, q)
@@ -416,7 +417,7 @@ fn from_ready(
     q: usize,
 ) -> Heard
     requires { ⌜ (settingsFit k n q ≡ true) × (kept [] ≡ now bits) × (from ≤ length (now reads)) ⌝ }
-    ensures { λ x. ⌜ ((any : AnyReceiver) →
+    ensures { λ x. ⌜ ((any : Receiver) →
         heardFrom any (settings k n q) (ready q) from (drop from (now (reads .entry)))
         ≡ heardTold any (settings k n q) (length (now (reads .entry))) (now (bits .exit)) x) ⌝ }
 {
@@ -451,32 +452,32 @@ fn from_ready(
 fn from_hunting(
     reads: &[u8],
     bits: &mut [u8; 128],
-    start: usize,
+    run: usize,
     k: usize,
     n: usize,
     q: usize,
 ) -> Heard
-    requires { ⌜ (settingsFit k n q ≡ true) × (kept [] ≡ now bits) × (start < q) ⌝ }
-    ensures { λ x. ⌜ ((any : AnyReceiver) →
-        heardFrom any (settings k n q) (hunting start) 0 (now (reads .entry))
+    requires { ⌜ (settingsFit k n q ≡ true) × (kept [] ≡ now bits) × (run < q) ⌝ }
+    ensures { λ x. ⌜ ((any : Receiver) →
+        heardFrom any (settings k n q) (hunting run) 0 (now (reads .entry))
         ≡ heardTold any (settings k n q) (length (now (reads .entry))) (now (bits .exit)) x) ⌝ }
 {
     let mut i = 0;
-    let mut run = start;
+    let mut high = run;
     while i < reads.len() {
         let read = reads[i];
         if HIGH < read {
             return Heard::Bad(i);
         }
         i += 1;
-        run = longer(run, read);
-        if run == q {
+        high = longer(high, read);
+        if high == q {
             return from_ready(reads, i, bits, k, n, q);
         }
     }
     Heard::Ended(Numbers {
         mode: Mode::Hunting,
-        run: run,
+        run: high,
         left: 0,
         level: HIGH,
         found: 0,
@@ -486,7 +487,7 @@ fn from_hunting(
 // Listens to reads until the first event, the first read that is no level, or the end.
 fn hear(reads: &[u8], bits: &mut [u8; 128], start: Numbers, k: usize, n: usize, q: usize) -> Heard
     requires { ⌜ Keeps (settings k n q) start (now bits) ⌝ }
-    ensures { λ x. ⌜ ((any : AnyReceiver) →
+    ensures { λ x. ⌜ ((any : Receiver) →
         heardFrom any (settings k n q) (stateOf (keeping (settings k n q) start (now (bits .entry)))) 0 (now (reads .entry))
         ≡ heardTold any (settings k n q) (length (now (reads .entry))) (now (bits .exit)) x) ⌝ }
 {

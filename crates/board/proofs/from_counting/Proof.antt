@@ -65,7 +65,7 @@ loop-holds c = (omega arith, c .before .pre .1 .0, c .before .pre .0, λ x. refl
 -- to the sample
 
 to-sample-requires : tie.Need-to-sample-requires Inv-loop μ-loop
-to-sample-requires c κs = (c .loop .inv .0, fits c .0, range c .Q-most, fits c .1)
+to-sample-requires c κs = (c .loop .inv .0, fits c .0, fits c .1)
 
 abbrev sample-told : tie.At-loop Inv-loop μ-loop → Receiver → Sought → Outcome × ℕ
 sample-told h x sought =
@@ -80,17 +80,17 @@ sampled c x =
     (counting-kept (g s) (h .loop .numbers) (h .loop .bits) (h .loop .inv .2) (h .loop .inv .1))
     ∙ c .to-sample .ensures .1 x (s .args .k) (s .args .n) (so-far h) (kept-length (g s) (h .loop .numbers) (h .loop .bits) (h .loop .inv .2))
 
-enum-known-sample : tie.Need-enum-known-sample Inv-loop μ-loop
-enum-known-sample c = search needs
+enum-known-sampled : tie.Need-enum-known-sampled Inv-loop μ-loop
+enum-known-sampled c = search needs
 
 returns : tie.Need-returns Inv-loop μ-loop
 returns c = λ x.
     let t = c .before .before .before in
     let h = t .before in
-    sampled t x ∙ ap (sample-told h x) (c .before .sample .given .1) ∙ rw (kept-bytes (g (start h)) (h .loop .numbers) (h .loop .bits) (h .loop .inv .2))
+    sampled t x ∙ ap (sample-told h x) (c .before .sampled .given .1) ∙ rw (kept-bytes (g (start h)) (h .loop .numbers) (h .loop .bits) (h .loop .inv .2))
 
-enum-known-sample-2 : tie.Need-enum-known-sample-2 Inv-loop μ-loop
-enum-known-sample-2 c = search needs
+enum-known-sampled-2 : tie.Need-enum-known-sampled-2 Inv-loop μ-loop
+enum-known-sampled-2 c = search needs
 
 -- its bit is put
 
@@ -103,13 +103,13 @@ abbrev head : tie.After-put Inv-loop μ-loop → tie.At-loop Inv-loop μ-loop
 head p = p .before .before .before .before .before .before
 
 abbrev used : tie.After-put Inv-loop μ-loop → ℕ
-used p = p .before .before .before .sample2 .given .0 .0
+used p = p .before .before .before .sampled2 .given .0 .0
 
 abbrev run : tie.After-put Inv-loop μ-loop → ℕ
-run p = p .before .before .before .sample2 .given .0 .1 .0
+run p = p .before .before .before .sampled2 .given .0 .1 .0
 
 abbrev read : tie.After-put Inv-loop μ-loop → ℕ
-read p = p .before .before .before .sample2 .given .0 .1 .1 .0
+read p = p .before .before .before .sampled2 .given .0 .1 .1 .0
 
 abbrev more : tie.After-put Inv-loop μ-loop → List ℕ
 more p = with-bit (head p) (read p)
@@ -130,7 +130,7 @@ more-bits p =
 
 landed : (p : tie.After-put Inv-loop μ-loop)
     → Lands (head p .loop .i) (length (now (start (head p) .args .reads))) (start (head p) .args .q) (Found (used p) (run p) (read p))
-landed p = rw (p .before .before .before .sample2 .given .1) at (p .before .before .before .before .before .to-sample .ensures .0)
+landed p = rw (p .before .before .before .sampled2 .given .1) at (p .before .before .before .before .before .to-sample .ensures .0)
 
 add-found : tie.Need-add-found Inv-loop μ-loop
 add-found c = omega (arith, room (head (c .before)))
@@ -140,14 +140,14 @@ returns-2 c = λ x.
     let p = c .before .before in
     let h = head p in
     sampled (p .before .before .before .before .before) x
-    ∙ ap (sample-told h x) (p .before .before .before .sample2 .given .1)
+    ∙ ap (sample-told h x) (p .before .before .before .sampled2 .given .1)
     ∙ row-full x (g (start h)) (run p) (read p) (used p) (length (now (start h .args .reads))) (more p) _ _ (more-bits p) (more-found p ∙ c .if1 .taken)
     (range h .n-most) (more-kept p)
 
 -- on to the mark
 
 to-mark-requires : tie.Need-to-mark-requires Inv-loop μ-loop
-to-mark-requires c κs = let p = c .before .before in (landed p .1, landed p .2, range (head p) .Q-most)
+to-mark-requires c κs = let p = c .before .before in (landed p .1, landed p .2)
 
 abbrev put-of : tie.After-to-mark Inv-loop μ-loop → tie.After-put Inv-loop μ-loop
 put-of c = c .before .before .before
@@ -162,31 +162,31 @@ waited c x =
     let p = put-of c in
     let s = start (head p) in
     sampled (p .before .before .before .before .before) x
-    ∙ ap (sample-told (head p) x) (p .before .before .before .sample2 .given .1)
+    ∙ ap (sample-told (head p) x) (p .before .before .before .sampled2 .given .1)
     ∙ row-on x (g s) (run p) (read p) (used p) (more p) _ (λ e. c .before .if1 .left (sym (more-found p) ∙ e))
     ∙ c .to-mark .ensures .1 x (s .args .k) (s .args .n) (more p) (more-found p)
 
-enum-known-mark : tie.Need-enum-known-mark Inv-loop μ-loop
-enum-known-mark c = search needs
+enum-known-marked : tie.Need-enum-known-marked Inv-loop μ-loop
+enum-known-marked c = search needs
 
 returns-3 : tie.Need-returns-3 Inv-loop μ-loop
 returns-3 c = λ x.
     let t = c .before .before .before in
-    waited t x ∙ ap (mark-told (put-of t) x) (c .before .mark .given .1) ∙ rw (more-kept (put-of t))
+    waited t x ∙ ap (mark-told (put-of t) x) (c .before .marked .given .1) ∙ rw (more-kept (put-of t))
 
-enum-known-mark-2 : tie.Need-enum-known-mark-2 Inv-loop μ-loop
-enum-known-mark-2 c = search needs
+enum-known-marked-2 : tie.Need-enum-known-marked-2 Inv-loop μ-loop
+enum-known-marked-2 c = search needs
 
-abbrev put-before : tie.After-mark2 Inv-loop μ-loop → tie.After-put Inv-loop μ-loop
+abbrev put-before : tie.After-marked2 Inv-loop μ-loop → tie.After-put Inv-loop μ-loop
 put-before m = put-of (m .before .before)
 
-mark-landed : (m : tie.After-mark2 Inv-loop μ-loop)
+mark-landed : (m : tie.After-marked2 Inv-loop μ-loop)
     → Lands (used (put-before m)) (length (now (start (head (put-before m)) .args .reads))) (start (head (put-before m)) .args .q)
-    (Found (m .mark2 .given .0 .0) (m .mark2 .given .0 .1 .0) (m .mark2 .given .0 .1 .1 .0))
-mark-landed m = rw (m .mark2 .given .1) at (m .before .before .to-mark .ensures .0)
+    (Found (m .marked2 .given .0 .0) (m .marked2 .given .0 .1 .0) (m .marked2 .given .0 .1 .1 .0))
+mark-landed m = rw (m .marked2 .given .1) at (m .before .before .to-mark .ensures .0)
 
-at-mark : (m : tie.After-mark2 Inv-loop μ-loop)
-    → Marked (g (start (head (put-before m)))) (m .mark2 .given .0 .1 .0) (m .mark2 .given .0 .1 .1 .0) (head (put-before m) .loop .numbers .found + 1)
+at-mark : (m : tie.After-marked2 Inv-loop μ-loop)
+    → Marked (g (start (head (put-before m)))) (m .marked2 .given .0 .1 .0) (m .marked2 .given .0 .1 .1 .0) (head (put-before m) .loop .numbers .found + 1)
     (more (put-before m)) (put-before m .put .last .0)
 at-mark m =
     let p = put-before m in
@@ -209,7 +209,7 @@ loop-again c =
       mark-landed m .1,
       refl,
       mark-keeps (at-mark m),
-      λ x. waited (m .before .before) x ∙ ap (mark-told (put-before m) x) (m .mark2 .given .1) ∙ mark-heard (at-mark m) x _ _,
+      λ x. waited (m .before .before) x ∙ ap (mark-told (put-before m) x) (m .marked2 .given .1) ∙ mark-heard (at-mark m) x _ _,
     )
 
 pub from-counting-spec : {M : Type 1} → statement M
@@ -220,15 +220,15 @@ from-counting-spec =
     μ-loop
     loop-holds
     to-sample-requires
-    enum-known-sample
+    enum-known-sampled
     returns
-    enum-known-sample-2
+    enum-known-sampled-2
     put-requires
     add-found
     returns-2
     to-mark-requires
-    enum-known-mark
+    enum-known-marked
     returns-3
-    enum-known-mark-2
+    enum-known-marked-2
     loop-less
     loop-again)

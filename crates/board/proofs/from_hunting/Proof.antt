@@ -1,5 +1,5 @@
 -- `from_hunting` meets its contract: until the run is q a read changes the run alone, and with that read the mode is ready.
-use Prim.Native.Nat.{_+_, _-_, _<_, _≤_}
+use Prim.Native.Nat.{_-_, _<_, _≤_}
 use mathlib.Core.Path.{_≡_, refl, sym, _∙_}
 use mathlib.Core.List.{[]}
 use native.Mathlib.Omega.{arith}
@@ -16,12 +16,12 @@ use Rattle.board.proofs.from_hunting.Statement.{statement}
 use Rattle.board.proofs.from_hunting.Tie as tie
 
 abbrev Inv-loop : tie.InvT-loop
-Inv-loop reads bits₀ start k n q i₀ run₀ bits i run =
-    (i ≤ length reads) × (run < q) × (kept [] ≡ bits)
-    × ((x : Receiver) → heardFrom x (settings k n q) (hunting start) 0 reads ≡ heardFrom x (settings k n q) (hunting run) i (drop i reads))
+Inv-loop reads bits₀ run k n q i₀ high₀ bits i high =
+    (i ≤ length reads) × (high < q) × (kept [] ≡ bits)
+    × ((x : Receiver) → heardFrom x (settings k n q) (hunting run) 0 reads ≡ heardFrom x (settings k n q) (hunting high) i (drop i reads))
 
 abbrev μ-loop : tie.MeasureT-loop
-μ-loop reads bits₀ start k n q i₀ run₀ bits i run = length reads - i
+μ-loop reads bits₀ run k n q i₀ high₀ bits i high = length reads - i
 
 abbrev g : tie.Start Inv-loop μ-loop → Settings
 g c = settings (c .args .k) (c .args .n) (c .args .q)
@@ -60,7 +60,7 @@ returns-2 c = λ x.
     let l = c .before .before .before .before .before .before .before .loop in
     l .inv .3 x
     ∙ heard-move x (g s) _ _ (l .i) (now (s .args .reads)) (c .before .before .before .before .before .before .loop-test .taken) (c .before .before .before .before .if1 .left)
-    (next-quiet (g s) (hunting (l .run)) _ (l .inv .1) (c .before .before .before .longer .ensures ∙ c .before .before .if2 .taken))
+    (next-quiet (g s) (hunting (l .high)) _ (l .inv .1) (c .before .before .before .longer .ensures ∙ c .before .before .if2 .taken))
     ∙ c .from-ready .ensures x
 
 loop-less : tie.Need-loop-less Inv-loop μ-loop
@@ -72,14 +72,14 @@ loop-again c =
     let l = c .before .before .before .before .before .loop in
     let read = getD (now (s .args .reads)) (l .i) 0 in
     let e = c .before .longer .ensures in
-    let on : longer (l .run) read ≡ s .args .q → ⊥ = λ d. c .if2 .left (sym e ∙ d) in
+    let on : longer (l .high) read ≡ s .args .q → ⊥ = λ d. c .if2 .left (sym e ∙ d) in
     rw (← e) (
       omega arith,
-      omega (arith, longer-most (s .args .q) (l .run) read (l .inv .1), on),
+      omega (arith, longer-most (s .args .q) (l .high) read (l .inv .1), on),
       l .inv .2,
       λ x. l .inv .3 x
           ∙ heard-move x (g s) _ _ (l .i) (now (s .args .reads)) (c .before .before .before .before .loop-test .taken) (c .before .before .if1 .left)
-          (next-on (g s) (hunting (l .run)) read (l .inv .1) on),
+          (next-on (g s) (hunting (l .high)) read (l .inv .1) on),
     )
 
 returns-3 : tie.Need-returns-3 Inv-loop μ-loop

@@ -1,5 +1,5 @@
 -- `from_waiting` meets its contract: the mark that it finds is a cell's, from which counting goes on.
-use Prim.Native.Nat.{ℕ, _<_, _≤_}
+use Prim.Native.Nat.{ℕ}
 use mathlib.Core.Path.{_≡_, refl, _∙_, ap}
 use mathlib.Core.List.{List}
 use native.Mathlib.Omega.{arith}
@@ -30,7 +30,7 @@ range : (c : tie.Start) → Ranged (g c)
 range c = kept-valid (g c) (c .args .start) (now (c .args .bits)) (c .pre .0) .range
 
 to-mark-requires : tie.Need-to-mark-requires
-to-mark-requires c κs = (omega arith, fits (c .before) .0, range (c .before) .Q-most)
+to-mark-requires c κs = (omega arith, fits (c .before) .0)
 
 abbrev so-far : tie.Start → List ℕ
 so-far s = bitsIn (s .args .start) (now (s .args .bits))
@@ -47,16 +47,16 @@ waited c x =
     ap (λ (t : State). heardFrom x (g s) t 0 (now (s .args .reads))) (waiting-kept (g s) (s .args .start) (now (s .args .bits)) (s .pre .0) (s .pre .1))
     ∙ c .to-mark .ensures .1 x (s .args .k) (s .args .n) (so-far s) (kept-length (g s) (s .args .start) (now (s .args .bits)) (s .pre .0))
 
-landed : (c : tie.After-mark2)
+landed : (c : tie.After-marked2)
     → Lands 0 (length (now (c .before .before .before .before .args .reads))) (c .before .before .before .before .args .q)
-    (Found (c .mark2 .given .0 .0) (c .mark2 .given .0 .1 .0) (c .mark2 .given .0 .1 .1 .0))
-landed c = rw (c .mark2 .given .1) at (c .before .before .to-mark .ensures .0)
+    (Found (c .marked2 .given .0 .0) (c .marked2 .given .0 .1 .0) (c .marked2 .given .0 .1 .1 .0))
+landed c = rw (c .marked2 .given .1) at (c .before .before .to-mark .ensures .0)
 
-abbrev start : tie.After-mark2 → tie.Start
+abbrev start : tie.After-marked2 → tie.Start
 start m = m .before .before .before .before
 
-at-mark : (m : tie.After-mark2)
-    → Marked (g (start m)) (m .mark2 .given .0 .1 .0) (m .mark2 .given .0 .1 .1 .0) (start m .args .start .found) (so-far (start m)) (now (start m .args .bits))
+at-mark : (m : tie.After-marked2)
+    → Marked (g (start m)) (m .marked2 .given .0 .1 .0) (m .marked2 .given .0 .1 .1 .0) (start m .args .start .found) (so-far (start m)) (now (start m .args .bits))
 at-mark m =
     let s = start m in
     let n = s .args .start in
@@ -71,11 +71,11 @@ at-mark m =
       same = kept-bytes (g s) n b (s .pre .0);
     }
 
-enum-known-mark : tie.Need-enum-known-mark
-enum-known-mark c = search needs
+enum-known-marked : tie.Need-enum-known-marked
+enum-known-marked c = search needs
 
-enum-known-mark-2 : tie.Need-enum-known-mark-2
-enum-known-mark-2 c = search needs
+enum-known-marked-2 : tie.Need-enum-known-marked-2
+enum-known-marked-2 c = search needs
 
 from-counting-requires : tie.Need-from-counting-requires
 from-counting-requires c κs = let m = c .before .before in (mark-keeps (at-mark m), (refl, landed m .1))
@@ -84,20 +84,20 @@ returns : tie.Need-returns
 returns c = λ x.
     let t = c .before .before .before in
     let s = t .before .before in
-    waited t x ∙ ap (mark-told s x) (c .before .mark .given .1) ∙ rw (kept-bytes (g s) (s .args .start) (now (s .args .bits)) (s .pre .0))
+    waited t x ∙ ap (mark-told s x) (c .before .marked .given .1) ∙ rw (kept-bytes (g s) (s .args .start) (now (s .args .bits)) (s .pre .0))
 
 returns-2 : tie.Need-returns-2
 returns-2 c = λ x.
     let m = c .before .before .before in
-    waited (m .before .before) x ∙ ap (mark-told (start m) x) (m .mark2 .given .1) ∙ mark-heard (at-mark m) x _ _ ∙ c .from-counting .ensures x
+    waited (m .before .before) x ∙ ap (mark-told (start m) x) (m .marked2 .given .1) ∙ mark-heard (at-mark m) x _ _ ∙ c .from-counting .ensures x
 
 pub from-waiting-spec : {M : Type 1} → statement M
 from-waiting-spec =
     tie.close
     (tie.spec
     to-mark-requires
-    enum-known-mark
-    enum-known-mark-2
+    enum-known-marked
+    enum-known-marked-2
     from-counting-requires
     returns
     returns-2)

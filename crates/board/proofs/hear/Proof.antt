@@ -1,5 +1,5 @@
 -- `hear` meets its contract: each mode has its function, and in hunting and ready no bits are kept.
-use mathlib.Core.Path.{_≡_, refl, _∙_, ap}
+use mathlib.Core.Path.{_≡_, _∙_, ap}
 use mathlib.Core.Bool.{true}
 use native.Mathlib.Omega.{arith}
 use borrow.Author.Needs.{needs}

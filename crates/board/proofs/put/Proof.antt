@@ -1,6 +1,5 @@
 -- `put` meets its contract: a bit of 1 is added at its weight, and a bit of 0 changes nothing.
 use Prim.Native.Nat.{_%_, _/_}
-use mathlib.Core.Path.{sym}
 use native.Mathlib.Nat.{one-mul, zero-mul, add-zero}
 use native.Mathlib.Omega.{arith}
 use borrow.Author.Needs.{needs}
