@@ -2,3 +2,8 @@ pub mod Decimal
 pub mod Stored
 pub mod Bits
 pub mod Putting
+pub mod Firsts
+pub mod Turns
+pub mod Accepted
+pub mod WholeOutput
+pub mod CasesHold

@@ -1,3 +1,5 @@
 pub mod Text
 pub mod Lines
 pub mod Refusals
+pub mod Walk
+pub mod Cases

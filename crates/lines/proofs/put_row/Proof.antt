@@ -1,6 +1,6 @@
 -- `put_row` meets its contract: the four pieces of its line stand one behind another, the bits among them that there are.
 use denote.Ref.{now}
-use mathlib.Core.Path.{_≡_, _∙_}
+use mathlib.Core.Path.{_≡_}
 use mathlib.Core.List.{_++_}
 use native.Mathlib.Omega.{arith}
 use lib.ListN.{take}
@@ -77,7 +77,7 @@ returns-3 c =
     (stands-more (decimal (a .place .0)) rowText _ _ _ _ _
     (stands-first (decimal (a .place .0)) _ _ _ (c .before .before .before .before .before .before .before .before .before .before .before .before .before .before .before .before .put-number .ensures))
     (c .before .before .before .before .before .before .before .before .before .before .before .put-text .ensures))
-    (omega (arith, c .before .before .before .before .before .before .before .put-bits .ensures .0, count .ensures, text-length bits), c .before .before .before .before .before .before .before .put-bits .ensures .1 ∙ rw e))
+    (omega (arith, c .before .before .before .before .before .before .before .put-bits .ensures .0, count .ensures, text-length bits), rw e at (c .before .before .before .before .before .before .before .put-bits .ensures .1)))
     (c .before .before .put-text2 .ensures))
 
 pub put-row-spec : {M : Type 1} → statement M
