@@ -13,3 +13,4 @@ pub mod AgreeLaws
 pub mod UnderWay
 pub mod Times
 pub mod WarpRun
+pub mod LineLaws

@@ -108,7 +108,8 @@ module _ (t : ℕ) where
         omega (
           arith,
           c .look-on .ensures .2,
-          ends-by (s .args .w .0) (d .loop .at .next .0) (s .args .looking .next .0 + block) (c .look-on .result .next .0) start (c .look-on .ensures .1),
+          ends-by (s .args .w .0) (d .loop .at .next .0) (s .args .looking .next .0 + block) (c .look-on .result .next .0) start
+              (c .look-on .ensures .1),
         ),
         way-on _ _ _ _ _ _ _ _ _ _ (d .loop .inv .2) (there s _ _ (d .loop .inv .0) before) (d .loop .inv .0) before
             (c .look-on .ensures .0) (c .look-on .ensures .1),
@@ -119,7 +120,7 @@ module _ (t : ℕ) where
       → c .before .before .before .loop .at .end .0 < c .before .before .before .before .before .before .args .t .0
   goes-on c =
       let d = c .before .before .before in
-      omega (arith, c .before .if2 .left, c .if3 .taken, d .loop .inv .1, stops (d .before) .2 (c .if3 .taken))
+      omega (arith, c .before .if2 .left, c .if3 .taken, d .loop .inv .1, stops (d .before) .2 (omega (arith, c .if3 .taken)))
 
   further : (c : reconcile-lts.Then3 (called t) (at-measure t) reconcile.Post Inv-loop μ-loop)
       → c .before .before .before .before .before .before .args .looking .next .0 < c .before .before .before .loop .at .next .0
@@ -133,7 +134,7 @@ module _ (t : ℕ) where
         c .if3 .taken,
         d .loop .inv .0,
         d .loop .inv .1,
-        stops (d .before) .2 (c .if3 .taken),
+        stops (d .before) .2 (omega (arith, c .if3 .taken)),
         cycle-least (s .args .w .0) (s .pre .1 .0),
       ))
 

@@ -43,20 +43,20 @@ leave-requires c κs = omega arith
 returns : tie.Need-returns
 returns c =
     let d = c .before .before .before in
-    way-ends _ _ _ _ _ _ _ _ _ _ (one d) (d .up-to .ensures .2) (c .before .if1 .taken) (takes (d .before .before .before) _)
+    way-ends _ _ _ _ _ _ _ _ _ _ (one d) (d .up-to .ensures .2) (omega (arith, c .before .if1 .taken)) (takes (d .before .before .before) _)
     (c .leave .ensures .0) (c .leave .ensures .1)
 
 look-on-requires : tie.Need-look-on-requires
 look-on-requires c κs =
     let d = c .before .before in
     let s = d .before .before .before in
-    (s .pre .0, s .pre .1, there s _ _ (d .up-to .ensures .2) (c .if1 .left))
+    (s .pre .0, s .pre .1, there s _ _ (d .up-to .ensures .2) (omega (arith, c .if1 .left)))
 
 two : (c : tie.After-look-on) → Way (c .before .before .before .before .before .before) (c .look-on .result .level) (c .look-on .result .next .0)
 two c =
     let d = c .before .before .before in
-    way-on _ _ _ _ _ _ _ _ _ _ (one d) (there (d .before .before .before) _ _ (d .up-to .ensures .2) (c .before .if1 .left))
-    (d .up-to .ensures .2) (c .before .if1 .left) (c .look-on .ensures .0) (c .look-on .ensures .1)
+    way-on _ _ _ _ _ _ _ _ _ _ (one d) (there (d .before .before .before) _ _ (d .up-to .ensures .2) (omega (arith, c .before .if1 .left)))
+    (d .up-to .ensures .2) (omega (arith, c .before .if1 .left)) (c .look-on .ensures .0) (c .look-on .ensures .1)
 
 leave-requires-2 : tie.Need-leave-requires-2
 leave-requires-2 c κs = omega arith
@@ -64,22 +64,23 @@ leave-requires-2 c κs = omega arith
 returns-2 : tie.Need-returns-2
 returns-2 c =
     let d = c .before .before .before in
-    way-ends _ _ _ _ _ _ _ _ _ _ (two d) (d .look-on .ensures .2) (c .before .if2 .taken) (takes (d .before .before .before .before .before .before) _)
+    way-ends _ _ _ _ _ _ _ _ _ _ (two d) (d .look-on .ensures .2) (omega (arith, c .before .if2 .taken))
+    (takes (d .before .before .before .before .before .before) _)
     (c .leave2 .ensures .0) (c .leave2 .ensures .1)
 
 look-on-requires-2 : tie.Need-look-on-requires-2
 look-on-requires-2 c κs =
     let d = c .before .before in
     let s = d .before .before .before .before .before .before in
-    (s .pre .0, s .pre .1, there s _ _ (d .look-on .ensures .2) (c .if2 .left))
+    (s .pre .0, s .pre .1, there s _ _ (d .look-on .ensures .2) (omega (arith, c .if2 .left)))
 
 three : (c : tie.After-look-on2)
     → Way (c .before .before .before .before .before .before .before .before .before) (c .look-on2 .result .level) (c .look-on2 .result .next .0)
 three c =
     let d = c .before .before .before in
     way-on _ _ _ _ _ _ _ _ _ _ (two d)
-    (there (d .before .before .before .before .before .before) _ _ (d .look-on .ensures .2) (c .before .if2 .left))
-    (d .look-on .ensures .2) (c .before .if2 .left) (c .look-on2 .ensures .0) (c .look-on2 .ensures .1)
+    (there (d .before .before .before .before .before .before) _ _ (d .look-on .ensures .2) (omega (arith, c .before .if2 .left)))
+    (d .look-on .ensures .2) (omega (arith, c .before .if2 .left)) (c .look-on2 .ensures .0) (c .look-on2 .ensures .1)
 
 leave-requires-3 : tie.Need-leave-requires-3
 leave-requires-3 c κs = omega arith
@@ -87,19 +88,20 @@ leave-requires-3 c κs = omega arith
 returns-3 : tie.Need-returns-3
 returns-3 c =
     let d = c .before .before .before in
-    way-ends _ _ _ _ _ _ _ _ _ _ (three d) (d .look-on2 .ensures .2) (c .before .if3 .taken)
+    way-ends _ _ _ _ _ _ _ _ _ _ (three d) (d .look-on2 .ensures .2) (omega (arith, c .before .if3 .taken))
     (takes (d .before .before .before .before .before .before .before .before .before) _) (c .leave3 .ensures .0) (c .leave3 .ensures .1)
 
 reconcile-requires : tie.Need-reconcile-requires
 reconcile-requires c κs =
     let d = c .before .before in
     let s = d .before .before .before .before .before .before .before .before .before in
-    (s .pre .0, s .pre .1, d .look-on2 .ensures .2, c .if3 .left, s .pre .3)
+    (s .pre .0, s .pre .1, d .look-on2 .ensures .2, omega (arith, c .if3 .left), s .pre .3)
 
 returns-4 : tie.Need-returns-4
 returns-4 c =
     let d = c .before .before .before in
-    way-again _ _ _ _ _ _ _ _ _ _ (three d) (d .look-on2 .ensures .2) (c .before .if3 .left) (c .reconcile .ensures .0) (c .reconcile .ensures .1)
+    way-again _ _ _ _ _ _ _ _ _ _ (three d) (d .look-on2 .ensures .2) (omega (arith, c .before .if3 .left))
+    (c .reconcile .ensures .0) (c .reconcile .ensures .1)
 
 pub one-read-spec : {M : Type 1} → statement M
 one-read-spec =

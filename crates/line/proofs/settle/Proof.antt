@@ -1,7 +1,10 @@
 -- `settle` meets its contract: each test that led to a return is one of the definition's, in its order.
 use mathlib.Core.Path.{_≡_, _∙_}
+use native.Mathlib.Omega.{arith}
 use borrow.Author.Needs.{needs}
 use borrow.Author.Tests.{lt-ltb, le-ltb}
+use lib.ListN.{length}
+use Rattle.measure.specs.Ranges.{entriesMost}
 use Rattle.measure.specs.Refusals.{lent}
 use Rattle.line.specs.Settle.{settle}
 use Rattle.line.specs.Refusals.{settled}
@@ -11,11 +14,14 @@ use Rattle.line.proofs.settle.Tie as tie
 
 abbrev Judged : tie.Start → Type 0
 Judged s =
-    settled (s .args .reads .now) (s .args .choices .now) (s .args .out .now) ≡ lent (settle (s .args .reads .now) (s .args .choices .now)) (s .args .out .now)
+    settled (s .args .reads .now) (s .args .choices .now) (s .args .out .now)
+    ≡ lent (settle (s .args .reads .now) (s .args .choices .now)) (s .args .out .now)
 
 returns : tie.Need-returns
 unfolding settled
-returns c = simp (lt-ltb _ _ (c .if1 .taken))
+returns c =
+    let s = c .before .before .before .before in
+    simp (lt-ltb entriesMost (length (s .args .reads .now)) (omega (arith, c .if1 .taken)))
 
 returns-2 : tie.Need-returns-2
 unfolding settled
