@@ -32,3 +32,4 @@ pub mod Witness
 pub mod Exact
 pub mod WhatNoMeans
 pub mod Limits
+pub mod OneMeaning

@@ -8,3 +8,4 @@ pub mod Worked
 pub mod Levels
 pub mod CountedReturns
 pub mod WhatNoMeans
+pub mod OneMeaning
