@@ -33,3 +33,4 @@ pub mod Exact
 pub mod WhatNoMeans
 pub mod Limits
 pub mod OneMeaning
+pub mod Operations

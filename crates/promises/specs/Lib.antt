@@ -9,3 +9,4 @@ pub mod Levels
 pub mod CountedReturns
 pub mod WhatNoMeans
 pub mod OneMeaning
+pub mod Operations
