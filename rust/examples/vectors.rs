@@ -1,5 +1,6 @@
-//! Prints, from the plain implementation, what the program `vectors` has to print: the stored
-//! expected output is made by this one, so that it does not come from the code under test.
+//! Prints, from the plain implementation, what the program `vectors` has to print, so that the
+//! stored expected output does not come from the code under test; and behind it the failing run
+//! of source 002 and the longest lists, which `vectors` does not run yet.
 
 use siengulot_plain::{counted, line, sender, settings, Refusal};
 

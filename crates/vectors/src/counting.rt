@@ -1,4 +1,4 @@
-// The counted receiver: P7, the failing run of source 002, and its refusals.
+// The counted receiver: P7, and its refusals.
 use counted::Counted;
 use measure::ReadCycles;
 
