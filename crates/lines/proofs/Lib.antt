@@ -7,3 +7,5 @@ pub mod Turns
 pub mod Accepted
 pub mod WholeOutput
 pub mod CasesHold
+pub mod Heard
+pub mod Longest

@@ -20,7 +20,7 @@ use Rattle.board.specs.Refusals.{begun}
 use Rattle.board.proofs.RowRules.{valid-fresh}
 use Rattle.board.proofs.Standing.{of-ranged}
 use Rattle.lines.specs.Lines.{refusedLine, endLine, eventLines, rowsIn, settingsOf, readsIn, printed, output}
-use Rattle.lines.specs.Walk.{Whole, begin, linesFrom, wroteBy, wrote}
+use Rattle.lines.specs.Walk.{Whole, begin, linesOf, wroteBy, wrote}
 use Rattle.lines.proofs.Accepted.{Accepted, accepted}
 use Rattle.lines.proofs.Turns.{lines-from}
 
@@ -30,7 +30,7 @@ module _ (c : Capture) (good : Accepted c) where
   unfolding begun
   begin-fresh = rw (of-ranged (settingsOf c) (good .range))
 
-  page-lines : linesFrom (length (readsIn c) + 1) (begin (summary c)) (readsIn c)
+  page-lines : linesOf (begin (summary c)) (readsIn c)
       ≡ eventLines (reports (settingsOf c) fresh 0 (readsIn c)) ++ endLine (length (readsIn c)) (rowsIn (reports (settingsOf c) fresh 0 (readsIn c)))
   page-lines =
       rw begin-fresh

@@ -60,13 +60,17 @@ linesFrom (suc turns) w left =
     ++ choose (goesOn (listened (w .receiver) left .0 .answer))
     (linesFrom turns (onward w (listened (w .receiver) left)) (drop (listened (w .receiver) left .1) left)) []
 
+-- all of them, since a turn for each read that is left is enough
+abbrev pub linesOf : Walk → List ℕ → List ℕ
+linesOf w left = linesFrom (length left + 1) w left
+
 -- the way begins with a fresh receiver before the first read
 abbrev pub begin : Summary → Walk
 begin s = record { receiver = begun (s .k .0) (s .n) (s .q .0) .1; place = 0; rows = 0 }
 
--- a capture that was read into a lent list gives the heading and its lines, and a turn for each read is enough; a bad one gives only its refusal
+-- a capture that was read into a lent list gives the heading and its lines, a bad one only its refusal
 abbrev pub wroteBy : Answer Summary → List ℕ → List ℕ
-wroteBy (given s) reads = headingLine ++ linesFrom (s .reads + 1) (begin s) (take (s .reads) reads)
+wroteBy (given s) reads = headingLine ++ linesOf (begin s) (take (s .reads) reads)
 wroteBy (refused number place) reads = refusedLine number place
 wroteBy (refusedAfter number place count) reads = refusedLine number place
 
