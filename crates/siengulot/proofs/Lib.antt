@@ -1,0 +1,4 @@
+pub mod Across
+pub mod Levels
+pub mod Standing
+pub mod Brought

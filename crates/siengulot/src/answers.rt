@@ -1,0 +1,90 @@
+// How an answer crosses: the refusal's number is returned, and its place and the count are put behind lent numbers.
+ghost use mathlib.Core.Path.{_≡_};
+ghost use Rattle.measure.specs.Refusals.{given, denied};
+ghost use Rattle.sender.specs.Refusals.{told as sentTold};
+ghost use Rattle.line.specs.Refusals.{smoothTold, told as readTold};
+ghost use Rattle.counted.specs.Refusals.{told as countedTold};
+ghost use Rattle.capture.specs.Refusals.{writtenTold};
+ghost use Rattle.siengulot.specs.Crossing.{crossed};
+use capture::Written;
+use counted::Counted;
+use line::Read;
+use line::Smoothed;
+use measure::Refusal;
+use sender::Sent;
+
+// The number of refusal 5, which is no case of a refusal.
+const RAN_OUT: usize = 5;
+
+// A result of so many entries.
+fn gives(length: usize, place: &mut usize, count: &mut usize) -> usize
+    ensures { λ x. ⌜ crossed (given length) ≡ record { number = x; place = now (place .exit); count = now (count .exit) } ⌝ }
+{
+    *place = 0;
+    *count = length;
+    0
+}
+
+// A refusal.
+pub fn refuses(refusal: Refusal, place: &mut usize, count: &mut usize) -> usize
+    ensures { λ x. ⌜ crossed (denied refusal) ≡ record { number = x; place = now (place .exit); count = now (count .exit) } ⌝ }
+{
+    *place = measure::place(refusal);
+    *count = 0;
+    measure::number(refusal)
+}
+
+// What sending answers.
+pub fn of_sent(answer: Sent, place: &mut usize, count: &mut usize) -> usize
+    ensures { λ x. ⌜ crossed (sentTold answer) ≡ record { number = x; place = now (place .exit); count = now (count .exit) } ⌝ }
+{
+    match answer {
+        Sent::Wave(cycles) => gives(cycles.0, place, count),
+        Sent::Refused(refusal) => refuses(refusal, place, count),
+    }
+}
+
+// What smooth answers.
+pub fn of_smoothed(answer: Smoothed, place: &mut usize, count: &mut usize) -> usize
+    ensures { λ x. ⌜ crossed (smoothTold answer) ≡ record { number = x; place = now (place .exit); count = now (count .exit) } ⌝ }
+{
+    match answer {
+        Smoothed::Wave(cycles) => gives(cycles.0, place, count),
+        Smoothed::Refused(refusal) => refuses(refusal, place, count),
+    }
+}
+
+// What warp and settle answer.
+pub fn of_read(answer: Read, place: &mut usize, count: &mut usize) -> usize
+    ensures { λ x. ⌜ crossed (readTold answer) ≡ record { number = x; place = now (place .exit); count = now (count .exit) } ⌝ }
+{
+    match answer {
+        Read::Reads(reads) => gives(reads.0, place, count),
+        Read::Refused(refusal) => refuses(refusal, place, count),
+    }
+}
+
+// What the counted receiver answers: also after refusal 5 the count is of the bits found.
+pub fn of_counted(answer: Counted, place: &mut usize, count: &mut usize) -> usize
+    ensures { λ x. ⌜ crossed (countedTold answer) ≡ record { number = x; place = now (place .exit); count = now (count .exit) } ⌝ }
+{
+    match answer {
+        Counted::Bits(found) => gives(found, place, count),
+        Counted::RanOut(found) => {
+            *place = 0;
+            *count = found;
+            RAN_OUT
+        }
+        Counted::Refused(refusal) => refuses(refusal, place, count),
+    }
+}
+
+// What writing a capture answers.
+pub fn of_written(answer: Written, place: &mut usize, count: &mut usize) -> usize
+    ensures { λ x. ⌜ crossed (writtenTold answer) ≡ record { number = x; place = now (place .exit); count = now (count .exit) } ⌝ }
+{
+    match answer {
+        Written::Bytes(length) => gives(length, place, count),
+        Written::Refused(refusal) => refuses(refusal, place, count),
+    }
+}

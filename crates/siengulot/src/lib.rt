@@ -1,0 +1,24 @@
+// The way in from C: one entry point for each operation, thin over the proved rooms. Each returns the refusal's number, 0 for none; the lent numbers
+// are written with every answer. `include/siengulot.h` declares them.
+mod answers;
+mod captures;
+mod judging;
+mod link;
+mod receiver;
+mod state;
+
+pub use captures::siengulot_capture_check;
+pub use captures::siengulot_capture_read;
+pub use captures::siengulot_capture_write;
+pub use judging::siengulot_judge;
+pub use judging::siengulot_judge_quiet;
+pub use link::siengulot_counted;
+pub use link::siengulot_plan;
+pub use link::siengulot_send;
+pub use link::siengulot_settle;
+pub use link::siengulot_smooth;
+pub use link::siengulot_warp;
+pub use receiver::siengulot_fresh;
+pub use receiver::siengulot_listen;
+pub use receiver::siengulot_step;
+pub use receiver::siengulot_well_formed;
