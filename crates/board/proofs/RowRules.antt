@@ -8,9 +8,10 @@ use borrow.Author.Tests.{eq-eqb, eqb-true, eqb-false}
 use lib.Dec.{eqb}
 use lib.ListN.{length, length-append}
 use Rattle.measure.specs.Choose.{choose}
+use Rattle.measure.specs.Cells.{bitOf}
 use Rattle.board.specs.declared.Mode.{Mode}
 use Rattle.board.specs.declared.Mode.the-variants.{Hunting, Ready, Counting, Waiting}
-use Rattle.board.specs.Rows.{Settings, State, Moved, runAfter, bitOf, hunting, ready, counting, waiting, fresh, collected, listening, next}
+use Rattle.board.specs.Rows.{Settings, State, Moved, runAfter, hunting, ready, counting, waiting, fresh, collected, listening, next}
 use Rattle.board.proofs.PackedBits.{Binary, binary-none, binary-snoc}
 
 -- the settings are in range

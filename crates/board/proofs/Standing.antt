@@ -10,13 +10,13 @@ use lib.Dec.{leb}
 use lib.ListN.{length, getD, take, drop, set, replicate, length-take, List·getD-eq-default}
 use lib.Seq.{getD-take, getD-drop, take-at}
 use Rattle.measure.specs.Choose.{between}
-use Rattle.measure.specs.Ranges.{sampling, rowBits, quiet}
+use Rattle.measure.specs.Ranges.{sampling, rowBits, quiet, settingsFit}
 use Rattle.board.specs.declared.Mode.{Mode}
 use Rattle.board.specs.declared.Mode.the-variants.{Hunting, Ready, Counting, Waiting}
 use Rattle.board.specs.declared.Receiver.{Receiver}
 use Rattle.board.specs.Rows.{Settings, State}
 use Rattle.board.specs.Packed.{unpacked, kept, settingsOf, stateOf, receiverOf}
-use Rattle.board.specs.WellFormed.{settingsFit, runFits, leftFits, foundFits, levelFits, unusedZero, wellFormed}
+use Rattle.board.specs.WellFormed.{runFits, leftFits, foundFits, levelFits, unusedZero, wellFormed}
 use Rattle.board.proofs.PackedBits.{Binary, Words, binary-take, unpacked-binary, length-unpacked, packed-snoc, packed-low, packed-cong, packed-unpacked, unpacked-packed}
 use Rattle.board.proofs.UnusedBits.{and-left, and-right, zero-at, unused-packed}
 use Rattle.board.proofs.RowRules.{Ranged, Fitting, Valid}

@@ -9,12 +9,12 @@ use borrow.Author.Tests.{le-leb, lt-leb}
 use lib.Dec.{ltb}
 use lib.ListN.{length, getD}
 use Rattle.measure.specs.Choose.{choose}
-use Rattle.measure.specs.Ranges.{entriesMost}
+use Rattle.measure.specs.Ranges.{entriesMost, settingsFit}
 use Rattle.board.specs.declared.Receiver.{Receiver}
 use Rattle.board.specs.Rows.{Settings, State, Happening, nothing, row, broken, fresh, next}
 use Rattle.board.specs.Feeding.{after}
 use Rattle.board.specs.Packed.{settingsOf, stateOf, receiverOf}
-use Rattle.board.specs.WellFormed.{settingsFit, wellFormed}
+use Rattle.board.specs.WellFormed.{wellFormed}
 use Rattle.board.specs.Refusals.{begun, stepped, listened, refusing}
 use Rattle.board.specs.Listening.{heardFrom, onward}
 use Rattle.board.proofs.FeedingLaws.{after-keeps}

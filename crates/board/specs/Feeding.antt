@@ -1,7 +1,6 @@
 -- 01, "The row receiver": reads fed one behind another, and what is reported, each report with the place of its read.
 use Prim.Native.Nat.{ℕ, suc, _+_}
 use mathlib.Core.List.{List, [], _∷_}
-use lib.ListN.{length, take}
 use Rattle.board.specs.Rows.{Settings, State, Happening, nothing, row, broken, Moved, next}
 
 -- a read's place and what it brought

@@ -41,7 +41,7 @@ pub record Keeps (g : Settings) (now : Numbers) (bytes : List ℕ) : Type 0 wher
   pub well : wellFormed (keeping g now bytes) ≡ true
   pub whole : receiverOf g (stateOf (keeping g now bytes)) ≡ keeping g now bytes
 
--- a run below Q after a read: a high read adds one, a low one makes it 0
+-- a run that is still short of Q, one read later
 abbrev pub longer : ℕ → ℕ → ℕ
 longer run read = choose (eqb read 1) (run + 1) 0
 

@@ -1,17 +1,17 @@
 -- 01, "The row receiver" and "Refusal numbers": what starting, one read, and reads up to the first event answer, for all input; and what each case of the code says.
-use Prim.Native.Nat.{ℕ, _+_}
+use Prim.Native.Nat.{ℕ}
 use mathlib.Core.List.{List, [], _∷_}
 use mathlib.Core.Bool.{Bool, true, false, _&&_}
 use lib.ListN.{length, take}
 use lib.Dec.{leb, ltb}
 use Rattle.measure.specs.Choose.{choose}
-use Rattle.measure.specs.Ranges.{entriesMost}
+use Rattle.measure.specs.Ranges.{entriesMost, settingsFit}
 use Rattle.measure.specs.Lists.{firstAbove, someAbove}
 use Rattle.measure.specs.Refusals.{Answer, given, refused, denied}
-use Rattle.board.specs.Rows.{Settings, State, Happening, nothing, row, broken, Moved, next, fresh}
+use Rattle.board.specs.Rows.{Settings, State, Happening, nothing, row, broken, next, fresh}
 use Rattle.board.specs.Feeding.{Report, reports, after, firstEvent, usedOf}
 use Rattle.board.specs.Packed.{unpacked, kept, settingsOf, stateOf, receiverOf}
-use Rattle.board.specs.WellFormed.{settingsFit, wellFormed}
+use Rattle.board.specs.WellFormed.{wellFormed}
 use Rattle.board.specs.declared.Mode.the-variants.{Hunting}
 use Rattle.board.specs.declared.Receiver.{Receiver}
 use Rattle.board.specs.declared.Event.{Event}

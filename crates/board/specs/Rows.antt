@@ -5,6 +5,7 @@ use mathlib.Core.Bool.{Bool, true, false}
 use lib.ListN.{length}
 use lib.Dec.{eqb}
 use Rattle.measure.specs.Choose.{choose}
+use Rattle.measure.specs.Cells.{bitOf}
 use Rattle.board.specs.declared.Mode.{Mode}
 use Rattle.board.specs.declared.Mode.the-variants.{Hunting, Ready, Counting, Waiting}
 
@@ -73,10 +74,6 @@ quietened g s =
 -- 01, a mark was read: its level is kept, and its sample is k reads away
 abbrev pub marked : Settings → State → ℕ → ℕ → Moved
 marked g s run read = record { state = counting (g .k) read run (s .bits); event = nothing }
-
--- 01, a cell's bit: unequal mark and sample say 1, equal ones 0
-abbrev pub bitOf : ℕ → ℕ → ℕ
-bitOf mark sample = choose (eqb sample mark) 0 1
 
 -- 01, a sample has given one bit more: the n-th completes the row, which is handed over and leaves nothing behind but the run; before that the receiver waits, keeping the sample's level
 abbrev pub collected : Settings → ℕ → ℕ → List ℕ → Moved

@@ -1,19 +1,15 @@
 -- 01, "The row receiver": when a receiver's state is well formed.
 use Prim.Native.Nat.{ℕ}
 use mathlib.Core.List.{List, [], _∷_}
-use mathlib.Core.Bool.{Bool, true, false, _&&_}
+use mathlib.Core.Bool.{Bool, true, _&&_}
 use lib.ListN.{drop}
 use lib.Dec.{eqb, leb, ltb}
 use Rattle.measure.specs.Choose.{between}
-use Rattle.measure.specs.Ranges.{sampling, rowBits, quiet}
+use Rattle.measure.specs.Ranges.{settingsFit}
 use Rattle.board.specs.Packed.{unpacked}
 use Rattle.board.specs.declared.Mode.{Mode}
 use Rattle.board.specs.declared.Mode.the-variants.{Hunting, Ready, Counting, Waiting}
 use Rattle.board.specs.declared.Receiver.{Receiver}
-
--- k, n and Q are in range
-abbrev pub settingsFit : ℕ → ℕ → ℕ → Bool
-settingsFit k n Q = sampling k && rowBits n && quiet Q
 
 -- a full run and the mode ready come together; in every other mode the run is short of Q
 abbrev pub runFits : Mode → ℕ → ℕ → Bool
@@ -48,11 +44,11 @@ abbrev pub allZero : List ℕ → Bool
 allZero [] = true
 allZero (x ∷ xs) = eqb x 0 && allZero xs
 
--- unused bit places, all from the number found on, hold 0
+-- nothing stands in the places from the number found on
 unfoldable pub unusedZero : ℕ → List ℕ → Bool
 unusedZero found bytes = allZero (drop found (unpacked 8 bytes))
 
--- 01: a state is well formed if all of these hold
+-- 01, the whole of it: all of these
 unfoldable pub wellFormed : Receiver → Bool
 wellFormed x =
     settingsFit (x .k .0) (x .n) (x .q .0)

@@ -5,29 +5,24 @@ ghost use mathlib.Core.List.{List, [], _∷_, _++_};
 ghost use Prim.Native.Nat.{ℕ, _+_, _*_, _/_, _%_, _^_, _≤_, _<_};
 ghost use lib.ListN.{length, getD, set, drop};
 ghost use Rattle.board.specs.declared.Receiver.{Receiver};
-ghost use Rattle.board.specs.Rows.{hunting, ready, counting, waiting, bitOf, collected, marked};
+ghost use Rattle.board.specs.Rows.{hunting, ready, counting, waiting, collected, marked};
 ghost use Rattle.board.specs.Packed.{kept, stateOf, receiverOf};
-ghost use Rattle.board.specs.WellFormed.{settingsFit, runFits, leftFits, foundFits, levelFits, unusedZero, wellFormed};
-ghost use Rattle.measure.specs.Ranges.{bitsMost};
+ghost use Rattle.board.specs.WellFormed.{runFits, leftFits, foundFits, levelFits, unusedZero, wellFormed};
+ghost use Rattle.measure.specs.Ranges.{bitsMost, settingsFit};
 ghost use Rattle.measure.specs.Refusals.{numberOf, placeOf};
+ghost use Rattle.measure.specs.Cells.{bitOf};
 ghost use Rattle.board.specs.Refusals.{begun, startTold, stepped, stepTold, listened, listenTold, refusing};
 ghost use Rattle.board.specs.Listening.{settings, keeping, Keeps, longer as longerRun, heardFrom, heardTold, soughtTold, Lands};
-use measure::BITS_LEAST;
-use measure::BITS_MOST;
 use measure::ENTRIES_MOST;
 use measure::HIGH;
-use measure::QUIET_LEAST;
-use measure::QUIET_MOST;
 use measure::ReadCycles;
 use measure::Refusal;
-use measure::SAMPLING_LEAST;
-use measure::SAMPLING_MOST;
 
 // What the receiver is doing. A row is in progress in counting and in waiting.
 pub enum Mode {
     // Listening for quiet.
     Hunting,
-    // Quiet was heard, and a low read is a mark.
+    // Quiet was heard: the next low read marks the first cell.
     Ready,
     // Between a mark and its sample.
     Counting,
@@ -35,14 +30,14 @@ pub enum Mode {
     Waiting,
 }
 
-// A receiver: it goes in by value and comes back by value.
+// A receiver. An operation takes it whole and gives the next one back.
 pub struct Receiver {
     // The settings: sampling count, bits of a row, quiet count.
     pub k: ReadCycles,
     pub n: usize,
     pub q: ReadCycles,
     pub mode: Mode,
-    // The run of high reads, never above Q.
+    // How many of the last reads were high, counted up to Q.
     pub run: ReadCycles,
     // In counting, the reads left up to the sample.
     pub left: ReadCycles,
@@ -140,18 +135,6 @@ fn idle(mode: Mode, run: usize, k: usize, n: usize, q: usize) -> Receiver
         found: 0,
         bits: zeros,
     }
-}
-
-fn settings_fit(k: usize, n: usize, q: usize) -> bool
-    ensures { λ x. ⌜ settingsFit k n q ≡ x ⌝ }
-{
-    if !measure::between(SAMPLING_LEAST, SAMPLING_MOST, k) {
-        return false;
-    }
-    if !measure::between(BITS_LEAST, BITS_MOST, n) {
-        return false;
-    }
-    measure::between(QUIET_LEAST, QUIET_MOST, q)
 }
 
 fn run_fits(mode: Mode, run: usize, q: usize) -> bool
@@ -502,12 +485,12 @@ fn hear(reads: &[u8], bits: &mut [u8; 128], start: Numbers, k: usize, n: usize, 
 }
 
 impl Receiver {
-    // Gives a receiver with which to start: hunting, run 0, no bits. Refused with 1 where k, n or Q is out of range: the
+    // Gives a receiver that has read nothing yet. Refused with 1 where k, n or Q is out of range: the
     // receiver that comes back is then hunting with all numbers 0.
     pub fn fresh(k: ReadCycles, n: usize, q: ReadCycles) -> Started
         ensures { λ x. ⌜ begun (k .0) n (q .0) ≡ (startTold (x .start), x .receiver) ⌝ }
     {
-        if settings_fit(k.0, n, q.0) {
+        if measure::settings_fit(k.0, n, q.0) {
             let receiver = idle(Mode::Hunting, 0, k.0, n, q.0);
             return Started {
                 receiver: receiver,
@@ -530,7 +513,7 @@ impl Receiver {
         let mode = self.mode;
         let found = self.found;
         let bits = self.bits;
-        if !settings_fit(self.k.0, self.n, self.q.0) {
+        if !measure::settings_fit(self.k.0, self.n, self.q.0) {
             return false;
         }
         if !run_fits(mode, self.run.0, self.q.0) {

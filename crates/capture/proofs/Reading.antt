@@ -55,9 +55,9 @@ module _ (s out : List ℕ) where
       reads : List ℕ
       reads = readsOf (h .level) (good .0)
 
-      count : x .reads ≡ length reads
+      count : x .reads .0 ≡ length reads
       unfolding reads
-      count = ap (λ (y : Summary). y .reads) (sym (good .1 .1 .1))
+      count = ap (λ (y : Summary). y .reads .0) (sym (good .1 .1 .1))
 
       read-good : readBack s out ≡ choose (ltb (length out) (length reads)) (refused 4 0, out) (given x, onto reads out)
       unfolding readBack reads
@@ -65,10 +65,10 @@ module _ (s out : List ℕ) where
           ap (λ answer. unrolled answer out) (good .1 .1 .0)
           ∙ ap (λ (y : Summary). choose (ltb (length out) (length reads)) (refused 4 0, out) (given y, onto reads out)) (good .1 .1 .1)
 
-      pub read-short : length out < x .reads → readBack s out ≡ (refused 4 0, out)
+      pub read-short : length out < x .reads .0 → readBack s out ≡ (refused 4 0, out)
       read-short l = read-good ∙ rw (lt-ltb (length out) (length reads) (omega (arith, count)))
 
-      module _ (room : x .reads ≤ length out) where
+      module _ (room : x .reads .0 ≤ length out) where
         pub read-roomy : then (runsFrom 0 0 (h .after) (drop (h .after) s)) (λ runs. given (leb (length (readsOf (h .level) runs)) (length out))) ≡ given true
         unfolding reads
         read-roomy = rw (good .1 .0, le-leb (length reads) (length out) (omega (arith, count)))

@@ -2,7 +2,7 @@
 use Prim.Native.Nat.{ℕ, zero, suc, _-_, _≤_, _<_}
 use mathlib.Core.Path.{_≡_, refl, sym, ap, _∙_}
 use mathlib.Core.List.{List, [], _∷_, _++_}
-use mathlib.Core.Bool.{Bool, true, false, _&&_}
+use mathlib.Core.Bool.{Bool, true, false}
 use native.Mathlib.Omega.{arith}
 use native.Mathlib.Decide.{decLe}
 use lib.Dec.{ltb}
@@ -10,7 +10,7 @@ use lib.ListN.{length, take, drop, getD, replicate, List·getD-eq-default}
 use lib.Seq.{take-at}
 use borrow.Author.Tests.{le-ltb, ltb-false, le-leb}
 use Rattle.measure.specs.Choose.{choose}
-use Rattle.measure.specs.Ranges.{sampling, rowBits, quiet, entriesMost}
+use Rattle.measure.specs.Ranges.{entriesMost, settingsFit}
 use Rattle.measure.specs.Lists.{firstAbove, someAbove, onto}
 use Rattle.measure.specs.Refusals.{Answer, given, refused, refusedAfter}
 use Rattle.measure.proofs.Above.{above-none}
@@ -96,7 +96,7 @@ record Wrote (k n Q : ℕ) (reads out out′ : List ℕ) (size : ℕ) : Type 0 w
 wrote : (k n Q : ℕ) (reads out out′ : List ℕ) (size : ℕ) → written k n Q reads out ≡ (given size, out′) → Wrote k n Q reads out out′ size
 unfolding written
 wrote k n Q reads out out′ size e =
-    let fit = held 1 0 out out′ size (sampling k && rowBits n && quiet Q) _ e in
+    let fit = held 1 0 out out′ size (settingsFit k n Q) _ e in
     let few = failed 3 0 out out′ size (ltb entriesMost (length reads)) _ (fit .1) in
     let low = failed 2 (firstAbove 1 reads) out out′ size (someAbove 1 reads) _ (few .1) in
     let room = failed 4 0 out out′ size (ltb (length out) (length (captureOf k n Q reads))) _ (low .1) in

@@ -19,7 +19,7 @@ use Rattle.capture.proofs.Runs.{sum, length-reads, runs-end, runs-one}
 
 -- a capture of so many reads and runs
 abbrev counted : Heading → ℕ → ℕ → Summary
-counted h reads runs = record { k = record { 0 = h .k }; n = h .n; q = record { 0 = h .Q }; reads = reads; runs = runs }
+counted h reads runs = record { k = record { 0 = h .k }; n = h .n; q = record { 0 = h .Q }; reads = record { 0 = reads }; runs = runs }
 
 -- the same, unless its first level is 0 and it has no run
 abbrev judged : Heading → ℕ → ℕ → Answer Summary

@@ -49,6 +49,10 @@ heading bytes =
       after = level .after;
     })))))
 
+-- the header of bytes that are to be a capture: refusal 3 for too many bytes comes before any other
+abbrev pub header : List ℕ → Answer Heading
+header bytes = choose (ltb captureMost (length bytes)) (refused 3 0) (heading bytes)
+
 -- the greatest total of the runs
 abbrev pub totalMost : ℕ
 totalMost = entriesMost

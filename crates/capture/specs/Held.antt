@@ -1,4 +1,4 @@
--- 01, "Capture file": the capture reader holds the lent bytes and remembers its place.
+-- 01, "Capture file", on reading: the reader is the bytes lent to it and where it has got to.
 use Prim.Native.Nat.{ℕ}
 use mathlib.Core.List.{List}
 use denote.Ref.{RefT, now}

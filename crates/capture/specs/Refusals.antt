@@ -1,11 +1,10 @@
 -- 01, "Capture file" and "Refusal numbers": what the operations on captures answer and leave in the lent output, for all input, and what each case of the code says.
 use Prim.Native.Nat.{ℕ}
-use mathlib.Core.Bool.{_&&_}
 use mathlib.Core.List.{List}
 use lib.ListN.{length}
 use lib.Dec.{ltb}
 use Rattle.measure.specs.Choose.{choose}
-use Rattle.measure.specs.Ranges.{sampling, rowBits, quiet, entriesMost}
+use Rattle.measure.specs.Ranges.{entriesMost, settingsFit}
 use Rattle.measure.specs.Lists.{onto}
 use Rattle.measure.specs.Refusals.{Answer, given, refused, refusedAfter, denied, ranged, limited, entered, lent}
 use Rattle.capture.specs.Numbers.{Group, value, cut, long, Numeral}
@@ -31,7 +30,7 @@ summary c =
       k = record { 0 = c .k };
       n = c .n;
       q = record { 0 = c .Q };
-      reads = length (readsOf (c .level) (c .runs));
+      reads = record { 0 = length (readsOf (c .level) (c .runs)) };
       runs = length (c .runs);
     }
 
@@ -57,7 +56,7 @@ readBack bytes output = unrolled (capture bytes) output
 -- writing: refusal 1 for k, n or Q out of range, 3 for reads over their limit, 2 for an entry that is no level, 4
 unfoldable pub written : ℕ → ℕ → ℕ → List ℕ → List ℕ → Answer ℕ × List ℕ
 written k n Q reads output =
-    ranged (sampling k && rowBits n && quiet Q) output
+    ranged (settingsFit k n Q) output
     (limited entriesMost (length reads) output
     (entered 1 reads output
     (lent (captureOf k n Q reads) output)))

@@ -1,10 +1,10 @@
 -- What the format promises of writing and reading together (01, "Capture file"): reads that are written are read back, and a capture that is read is written back. Statements only; proofs/RoundTrips has their proofs.
 use Prim.Native.Nat.{ℕ, _≤_}
 use mathlib.Core.Path.{_≡_}
-use mathlib.Core.Bool.{true, false, _&&_}
+use mathlib.Core.Bool.{true, false}
 use mathlib.Core.List.{List}
 use lib.ListN.{length, take}
-use Rattle.measure.specs.Ranges.{sampling, rowBits, quiet, entriesMost}
+use Rattle.measure.specs.Ranges.{entriesMost, settingsFit}
 use Rattle.measure.specs.Lists.{someAbove, onto}
 use Rattle.measure.specs.Refusals.{given}
 use Rattle.capture.specs.Capture.{Capture, capture, readsOf}
@@ -24,7 +24,7 @@ pub record ReadsAs (k n Q : ℕ) (reads bytes : List ℕ) : Type 0 where
 -- settings in range and levels within their limit, written, read back to the same settings and levels
 abbrev pub ReadsBack : Type 0
 ReadsBack =
-    (k n Q : ℕ) (reads : List ℕ) → (sampling k && rowBits n && quiet Q) ≡ true → length reads ≤ entriesMost → someAbove 1 reads ≡ false
+    (k n Q : ℕ) (reads : List ℕ) → settingsFit k n Q ≡ true → length reads ≤ entriesMost → someAbove 1 reads ≡ false
     → ReadsAs k n Q reads (captureOf k n Q reads)
 
 -- an accepted capture, read and written again, is the same bytes
@@ -38,10 +38,10 @@ abbrev pub WrittenReadsBack : Type 0
 WrittenReadsBack =
     (k n Q : ℕ) (reads out out′ room : List ℕ) (size : ℕ) → written k n Q reads out ≡ (given size, out′) → length reads ≤ length room
     → readBack (take size out′) room
-    ≡ (given (record { k = record { 0 = k }; n = n; q = record { 0 = Q }; reads = length reads; runs = length (runsOf reads) }), onto reads room)
+    ≡ (given (record { k = record { 0 = k }; n = n; q = record { 0 = Q }; reads = record { 0 = length reads }; runs = length (runsOf reads) }), onto reads room)
 
 -- What `read_capture` read, `write_capture` puts as the same bytes at the front of an output that has room.
 abbrev pub ReadWritesBack : Type 0
 ReadWritesBack =
     (bytes room room′ out : List ℕ) (s : Summary) → someAbove 255 bytes ≡ false → readBack bytes room ≡ (given s, room′) → length bytes ≤ length out
-    → written (s .k .0) (s .n) (s .q .0) (take (s .reads) room′) out ≡ (given (length bytes), onto bytes out)
+    → written (s .k .0) (s .n) (s .q .0) (take (s .reads .0) room′) out ≡ (given (length bytes), onto bytes out)

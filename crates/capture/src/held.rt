@@ -1,5 +1,5 @@
-// The capture reader: it holds the lent bytes and remembers its place. Each function takes it apart and leaves the work
-// to one over the bytes and the place.
+// A capture is read number by number by a reader that carries the bytes it was lent and where it has got to. Each function
+// takes it apart and leaves the work to one over the bytes and the place.
 use crate::Number;
 use crate::number_at;
 ghost use mathlib.Core.Path.{_≡_};
@@ -8,8 +8,8 @@ ghost use Rattle.capture.specs.Refusals.{numberTold};
 ghost use Rattle.capture.specs.Held.{advanced, begun, placeAfter};
 
 pub struct CaptureReader<'a> {
-    pub src: &'a [u8],
-    pub at: usize,
+    src: &'a [u8],
+    at: usize,
 }
 
 // Gives a reader of the lent bytes, at their first.

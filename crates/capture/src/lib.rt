@@ -1,4 +1,4 @@
-// The capture file: numbers in groups of seven bits, a header of four numbers, and the runs of equal reads.
+// Captures: what a board has read, kept as four numbers and the lengths of its runs.
 pub mod held;
 
 use measure::BITS_LEAST;
@@ -15,18 +15,18 @@ use measure::SAMPLING_MOST;
 use measure::between;
 use measure::first_above;
 ghost use mathlib.Core.Path.{_≡_};
-ghost use mathlib.Core.Bool.{_&&_, true};
+ghost use mathlib.Core.Bool.{true};
 ghost use mathlib.Core.List.{_∷_};
 ghost use Prim.Native.Nat.{ℕ, _+_, _-_, _≤_, _<_};
-ghost use lib.Dec.{leb, ltb};
+ghost use lib.Dec.{leb};
 ghost use lib.ListN.{drop, length, replicate};
 ghost use lib.Seq.{sets};
-ghost use Rattle.measure.specs.Choose.{between as isBetween, choose};
+ghost use Rattle.measure.specs.Choose.{between as isBetween};
 ghost use Rattle.measure.specs.Lists.{onto};
-ghost use Rattle.measure.specs.Ranges.{captureMost, entriesMost, quiet, rowBits, sampling};
-ghost use Rattle.measure.specs.Refusals.{given, refused};
+ghost use Rattle.measure.specs.Ranges.{entriesMost, settingsFit};
+ghost use Rattle.measure.specs.Refusals.{given};
 ghost use Rattle.capture.specs.Numbers.{before, bound, following, further, group, numberAt, spelled};
-ghost use Rattle.capture.specs.Capture.{fittingAt, heading, readsOf, runsFrom, then, withRuns};
+ghost use Rattle.capture.specs.Capture.{fittingAt, header, heading, readsOf, runsFrom, then, withRuns};
 ghost use Rattle.capture.specs.Writing.{captureOf, firstLevel, numbers, runsOf};
 ghost use Rattle.capture.specs.Refusals.{checked, frontTold, headTold, headed, numberTold, readBack, summed, told, written, writtenTold};
 
@@ -72,7 +72,7 @@ pub struct Summary {
     pub k: ReadCycles,
     pub n: usize,
     pub q: ReadCycles,
-    pub reads: usize,
+    pub reads: ReadCycles,
     pub runs: usize,
 }
 
@@ -161,9 +161,9 @@ fn front_at(bytes: &[u8], at: usize) -> Front
     prefixed(byte, following_at(bytes, next, fewer))
 }
 
-// Gives the number at a place and the place after it. Refuses with 6 where the bytes end inside it or before it, and
-// with 7 where it is too long or not in shortest form; the refusal's place is the number's first byte.
-pub fn number_at(bytes: &[u8], at: usize) -> Number
+// The number at a place, which is not past the end, and the place after it. Refuses with 6 where the bytes end inside it or
+// before it, and with 7 where it is too long or not in shortest form; the refusal's place is the one asked for.
+fn number_at(bytes: &[u8], at: usize) -> Number
     ensures { λ x. ⌜ numberAt (now (bytes .entry)) at ≡ numberTold x ⌝ }
 {
     let front = front_at(bytes, at);
@@ -201,9 +201,9 @@ fn number_refusal(number: Number) -> Refusal
     }
 }
 
-// Gives the first four numbers of a capture, with the level's place and the place after it. Refuses with 6 or 7 where
-// one cannot be had and with 8 where one is out of range, from the left; the refusal's place is the number's first byte.
-pub fn read_heading(bytes: &[u8]) -> Head
+// The first four numbers, with the level's place and the place after it. Refuses with 6 or 7 where one cannot be had and
+// with 8 where one is out of range, from the left.
+fn four_numbers(bytes: &[u8]) -> Head
     ensures { λ x. ⌜ heading (now (bytes .entry)) ≡ headTold x ⌝ }
 {
     let first = fitting_at(bytes, 0, SAMPLING_LEAST, SAMPLING_MOST);
@@ -242,14 +242,16 @@ fn head_refusal(head: Head) -> Refusal
     }
 }
 
-// The heading of bytes that are to be a capture: refusal 3 for too many bytes comes before the heading's own.
-fn heading_of(bytes: &[u8]) -> Head
-    ensures { λ x. ⌜ choose (ltb captureMost (length (now (bytes .entry)))) (refused 3 0) (heading (now (bytes .entry))) ≡ headTold x ⌝ }
+// Gives the first four numbers of a capture, with the level's place and the place after it. Refuses with 3 for too many
+// bytes, and then, from the left, with 6 or 7 where one cannot be had and with 8 where one is out of range, each at the
+// number's first byte.
+pub fn read_header(bytes: &[u8]) -> Head
+    ensures { λ x. ⌜ header (now (bytes .entry)) ≡ headTold x ⌝ }
 {
     if CAPTURE_MOST < bytes.len() {
         return Head::Refused(Refusal::Limit);
     }
-    read_heading(bytes)
+    four_numbers(bytes)
 }
 
 // Walks the runs behind a heading to the end of the file and sums the capture up. Refuses with 6 or 7 where a run cannot
@@ -289,7 +291,7 @@ fn check_runs(bytes: &[u8], head: Header) -> Checked
         k: k,
         n: head.n,
         q: q,
-        reads: reads,
+        reads: ReadCycles(reads),
         runs: runs,
     })
 }
@@ -299,7 +301,7 @@ fn check_runs(bytes: &[u8], head: Header) -> Checked
 pub fn check(bytes: &[u8]) -> Checked
     ensures { λ x. ⌜ checked (now (bytes .entry)) ≡ told x ⌝ }
 {
-    let head = heading_of(bytes);
+    let head = read_header(bytes);
     let Head::Found(h) = head else {
         return Checked::Refused(head_refusal(head));
     };
@@ -346,7 +348,7 @@ fn unroll_into(bytes: &[u8], from: usize, level: u8, out: &mut [u8])
 pub fn read_capture(bytes: &[u8], out: &mut [u8]) -> Checked
     ensures { λ x. ⌜ readBack (now (bytes .entry)) (now (out .entry)) ≡ (told x, now (out .exit)) ⌝ }
 {
-    let head = heading_of(bytes);
+    let head = read_header(bytes);
     let Head::Found(h) = head else {
         return Checked::Refused(head_refusal(head));
     };
@@ -354,7 +356,7 @@ pub fn read_capture(bytes: &[u8], out: &mut [u8]) -> Checked
     let Checked::Capture(s) = found else {
         return found;
     };
-    let reads = s.reads;
+    let reads = s.reads.0;
     if out.len() < reads {
         return Checked::Refused(Refusal::Room);
     }
@@ -454,22 +456,9 @@ fn first_level(reads: &[u8]) -> usize
     wide(reads[0])
 }
 
-// Tells whether k, n and Q are in range.
-fn settings_fit(k: usize, n: usize, q: usize) -> bool
-    ensures { λ b. ⌜ b ≡ (sampling k && rowBits n && quiet q) ⌝ }
-{
-    if !between(SAMPLING_LEAST, SAMPLING_MOST, k) {
-        return false;
-    }
-    if !between(BITS_LEAST, BITS_MOST, n) {
-        return false;
-    }
-    between(QUIET_LEAST, QUIET_MOST, q)
-}
-
 // How many bytes the capture of settings and reads has.
 fn capture_size(k: usize, n: usize, q: usize, reads: &[u8]) -> usize
-    requires { ⌜ ((sampling k && rowBits n && quiet q) ≡ true) × (length (now reads) ≤ entriesMost) ⌝ }
+    requires { ⌜ (settingsFit k n q ≡ true) × (length (now reads) ≤ entriesMost) ⌝ }
     ensures { λ x. ⌜ x ≡ length (captureOf k n q (now (reads .entry))) ⌝ }
 {
     let level = first_level(reads);
@@ -483,7 +472,7 @@ fn capture_size(k: usize, n: usize, q: usize, reads: &[u8]) -> usize
 
 // Writes the capture of settings and reads at the front of an output that has room for it.
 fn write_into(k: usize, n: usize, q: usize, reads: &[u8], out: &mut [u8])
-    requires { ⌜ ((sampling k && rowBits n && quiet q) ≡ true) × (length (now reads) ≤ entriesMost) ⌝ }
+    requires { ⌜ (settingsFit k n q ≡ true) × (length (now reads) ≤ entriesMost) ⌝ }
     requires { ⌜ length (captureOf k n q (now reads)) ≤ length (now out) ⌝ }
     ensures { λ _. ⌜ now (out .exit) ≡ onto (captureOf k n q (now (reads .entry))) (now (out .entry)) ⌝ }
 {
@@ -510,7 +499,7 @@ pub fn write_capture(
 {
     let sampling = k.0;
     let quiet = q.0;
-    if !settings_fit(sampling, n, quiet) {
+    if !measure::settings_fit(sampling, n, quiet) {
         return Written::Refused(Refusal::Setting);
     }
     if ENTRIES_MOST < reads.len() {

@@ -6,7 +6,8 @@ use Prim.Native.Nat.{ℕ, zero, suc, _+_, _<_, _≤_}
 use native.Mathlib.Omega.{arith}
 use lib.ListN.{length, drop, getD, drop-of-length-le}
 use lib.Seq.{drop-cons, drop-drop}
-use Rattle.counted.specs.Counted.{fromMark, bitOf, sampled, counted}
+use Rattle.measure.specs.Cells.{bitOf}
+use Rattle.counted.specs.Counted.{fromMark, sampled, counted}
 use Rattle.counted.proofs.Marks.{mark-at, mark-none}
 
 -- one bit more: the reads from the mark on are those from m on, and the sample is there

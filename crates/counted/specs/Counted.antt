@@ -4,15 +4,12 @@ use mathlib.Core.List.{List, [], _∷_}
 use lib.ListN.{drop}
 use lib.Dec.{eqb}
 use Rattle.measure.specs.Choose.{choose}
+use Rattle.measure.specs.Cells.{bitOf}
 
 -- the reads from the mark on: from the first that differs from the level in force
 unfoldable pub fromMark : ℕ → List ℕ → List ℕ
 fromMark level [] = []
 fromMark level (read ∷ reads) = choose (eqb read level) (fromMark level reads) (read ∷ reads)
-
--- a cell's bit: unequal mark and sample say 1, equal ones 0
-abbrev pub bitOf : ℕ → ℕ → ℕ
-bitOf mark sample = choose (eqb sample mark) 0 1
 
 -- A cell's bit, from the reads from its mark on and from its sample on, and then what is found from the sample on, whose level is now in force.
 -- Where either is missing nothing more is found.

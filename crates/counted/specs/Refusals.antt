@@ -1,6 +1,6 @@
 -- 01, "The counted receiver" and "Refusal numbers": what it answers and leaves in the lent output, for all input, and what each case of the code says.
 use Prim.Native.Nat.{ℕ}
-use mathlib.Core.Bool.{Bool, _&&_}
+use mathlib.Core.Bool.{_&&_}
 use mathlib.Core.List.{List}
 use lib.ListN.{length}
 use lib.Dec.{leb, ltb, eqb}

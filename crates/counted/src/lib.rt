@@ -5,7 +5,8 @@ ghost use Prim.Native.Nat.{_+_, _^_, _≤_, _<_};
 ghost use lib.Dec.{leb};
 ghost use lib.ListN.{length, drop};
 ghost use Rattle.measure.specs.Ranges.{sampling, bitsMost};
-ghost use Rattle.counted.specs.Counted.{fromMark, bitOf, counted};
+ghost use Rattle.measure.specs.Cells.{bitOf};
+ghost use Rattle.counted.specs.Counted.{fromMark, counted};
 ghost use Rattle.counted.specs.Refusals.{found, countedBits, told};
 use measure::BITS_MOST;
 use measure::ENTRIES_MOST;
@@ -37,7 +38,7 @@ fn in_range(k: usize, n: usize, level: u8) -> bool
     level <= HIGH
 }
 
-// Gives the place of the mark: the first read, from the current one on, that differs from the level. Where there is none it is the number of reads.
+// Gives the place of the next mark: where, from `current` on, a read is first unlike the level; the number of reads where none is.
 fn find_mark(reads: &[u8], current: usize, level: u8) -> usize
     requires { ⌜ current ≤ length (now reads) ⌝ }
     ensures { λ mark. ⌜ (mark ≤ length (now (reads .entry))) × (fromMark level (drop current (now (reads .entry))) ≡ drop mark (now (reads .entry))) ⌝ }

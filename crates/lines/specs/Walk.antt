@@ -70,7 +70,7 @@ begin s = record { receiver = begun (s .k .0) (s .n) (s .q .0) .1; place = 0; ro
 
 -- a capture that was read into a lent list gives the heading and its lines, a bad one only its refusal
 abbrev pub wroteBy : Answer Summary → List ℕ → List ℕ
-wroteBy (given s) reads = headingLine ++ linesOf (begin s) (take (s .reads) reads)
+wroteBy (given s) reads = headingLine ++ linesOf (begin s) (take (s .reads .0) reads)
 wroteBy (refused number place) reads = refusedLine number place
 wroteBy (refusedAfter number place count) reads = refusedLine number place
 

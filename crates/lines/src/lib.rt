@@ -130,7 +130,8 @@ pub fn put_heading(out: &mut [u8]) -> Put
 }
 
 // Puts the line of a delivered row at the front of the lent buffer and gives its length: the place of the read that brought
-// it, and its n bits, which are packed as the receiver hands them over. Refuses with 4 and leaves the buffer as `put_heading` does.
+// it, and the first n of its bits (all of them where they are fewer), packed as the receiver hands them over. Refuses with 4 and
+// leaves the buffer as `put_heading` does.
 pub fn put_row(place: ReadCycles, n: usize, bits: &[u8], out: &mut [u8]) -> Put
     ensures { λ x. ⌜ lent (eventLine (place .0) (row (take n (unpacked 8 (now (bits .entry)))))) (now (out .entry)) ≡ (told x, now (out .exit)) ⌝ }
 {
@@ -164,7 +165,7 @@ pub fn put_broken(place: ReadCycles, found: usize, out: &mut [u8]) -> Put
     Put::Line(put_text(out, c, &FEED))
 }
 
-// Puts the last line and gives its length: the total of reads and of rows delivered. Refuses with 4 and leaves the buffer as
+// Puts the last line and gives its length: how many reads there were and how many rows came out of them. Refuses with 4 and leaves the buffer as
 // `put_heading` does.
 pub fn put_end(reads: ReadCycles, rows: usize, out: &mut [u8]) -> Put
     ensures { λ x. ⌜ lent (endLine (reads .0) rows) (now (out .entry)) ≡ (told x, now (out .exit)) ⌝ }

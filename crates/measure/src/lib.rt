@@ -5,9 +5,10 @@ ghost use Prim.Native.Nat.{ℕ, _≤_};
 ghost use lib.ListN.{length};
 ghost use Rattle.measure.specs.Choose.{between as isBetween};
 ghost use Rattle.measure.specs.Lists.{firstAbove};
+ghost use Rattle.measure.specs.Ranges.{settingsFit};
 ghost use Rattle.measure.specs.Refusals.{numberOf, placeOf};
 
-// Cycles of the writer's clock, cycles of the reader's clock, and units of time. A function asking for one accepts no other.
+// Cycles of the writer's clock, cycles of the reader's clock, and units of time: three types, so that none passes for another.
 pub struct WriterCycles(pub usize);
 
 pub struct ReadCycles(pub usize);
@@ -42,8 +43,8 @@ pub const QUIET_LEAST: usize = 2;
 
 pub const QUIET_MOST: usize = 8191;
 
-// The entries of a wave, a stream of reads or a list of choices; the rows of a plan; the bytes of a capture and of the
-// rows program's input.
+// The most entries of a list of cycles, reads or choices; the most rows of a plan; the most bytes of a capture, and of what
+// the rows program takes in.
 pub const ENTRIES_MOST: usize = 1048576;
 
 pub const ROWS_MOST: usize = 1024;
@@ -63,15 +64,15 @@ pub enum Refusal {
     Setting,
     // An entry of the wrong kind, at this place.
     Entry(usize),
-    // A list over its limit, or a result that would be.
+    // Too long a list, given or to be given back.
     Limit,
-    // The lent output is too short.
+    // Too little room in the lent output.
     Room,
-    // A capture that ends inside a number or before its fourth.
+    // The bytes end where a number of a capture is still to come or to be finished.
     Cut(usize),
-    // A number that is not in shortest form, or too long.
+    // A number with bytes that it does not need, or with too many.
     Form(usize),
-    // A number out of range for its place.
+    // A number that its place in a capture does not allow.
     Range(usize),
 }
 
@@ -113,6 +114,19 @@ pub fn between(least: usize, most: usize, x: usize) -> bool
         return false;
     }
     x <= most
+}
+
+// Tells whether k, n and Q are what a row receiver and a capture can be set to.
+pub fn settings_fit(k: usize, n: usize, q: usize) -> bool
+    ensures { λ fits. ⌜ fits ≡ settingsFit k n q ⌝ }
+{
+    if !between(SAMPLING_LEAST, SAMPLING_MOST, k) {
+        return false;
+    }
+    if !between(BITS_LEAST, BITS_MOST, n) {
+        return false;
+    }
+    between(QUIET_LEAST, QUIET_MOST, q)
 }
 
 // Gives the greatest entry of a list, or 0 of an empty one. It has no early way out, so that it is done many entries at a time.

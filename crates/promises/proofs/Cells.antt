@@ -3,8 +3,8 @@ use mathlib.Core.Path.{_≡_, refl}
 use mathlib.Core.List.{List, [], _∷_}
 use Prim.Native.Nat.{ℕ, zero, suc, _+_, _-_, _<_}
 use native.Mathlib.Omega.{arith}
+use Rattle.measure.specs.Cells.{bitOf}
 use Rattle.sender.specs.Sending.{codeLevel}
-use Rattle.counted.specs.Counted.{bitOf}
 use Rattle.promises.specs.Levels.{Levels}
 use Rattle.promises.proofs.Timing.{Cell}
 

@@ -5,10 +5,10 @@ use mathlib.Core.List.{List, [], _∷_}
 use Prim.Native.Nat.{ℕ, suc, _≤_}
 use native.Mathlib.Omega.{arith}
 use borrow.Author.Tests.{le-leb}
+use Rattle.measure.specs.Ranges.{settingsFit}
 use Rattle.board.specs.Rows.{Settings, State, fresh, next}
 use Rattle.board.specs.Feeding.{reports, reportsBy}
 use Rattle.board.specs.Packed.{receiverOf}
-use Rattle.board.specs.WellFormed.{settingsFit}
 use Rattle.board.specs.Refusals.{reached, begun, stepped}
 use Rattle.board.proofs.RowRules.{Valid, valid-fresh, valid-next}
 use Rattle.board.proofs.Standing.{ranged-of, state-of-receiver, well-formed-of}

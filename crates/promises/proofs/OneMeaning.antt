@@ -4,26 +4,27 @@ use mathlib.Core.Path.{_≡_, refl, sym, ap, _∙_}
 use mathlib.Core.Bool.{Bool, true, false}
 use mathlib.Core.List.{List, []}
 use lib.Dec.{eqb}
+use lib.ListN.{take}
 use Rattle.measure.specs.Choose.{choose}
-use Rattle.measure.specs.Refusals.{Answer, given, refused, refusedAfter, numberOf, placeOf}
+use Rattle.measure.specs.Refusals.{Answer, given, refused, refusedAfter, numberOf, placeOf, lent}
 use Rattle.measure.specs.declared.Refusal.{Refusal}
 use Rattle.measure.specs.declared.Refusal.the-variants.{Setting, Entry, Limit, Room, Cut, Form, Range}
 use Rattle.settings.specs.declared.Judged.{Judged}
 use Rattle.settings.specs.declared.Judged.the-variants as J
 use Rattle.settings.specs.declared.QuietJudged.{QuietJudged}
 use Rattle.settings.specs.declared.QuietJudged.the-variants as Q
-use Rattle.settings.specs.Refusals.{Judgement, QuietJudgement, told as judgeTold, quietTold}
+use Rattle.settings.specs.Refusals.{Judgement, QuietJudgement, judgement, quietJudgement, told as judgeTold, quietTold}
 use Rattle.sender.specs.declared.Sent.{Sent}
 use Rattle.sender.specs.declared.Sent.the-variants as S
-use Rattle.sender.specs.Refusals.{told as sendTold}
+use Rattle.sender.specs.Refusals.{sentMessage, sentPlan, told as sendTold}
 use Rattle.line.specs.declared.Smoothed.{Smoothed}
 use Rattle.line.specs.declared.Smoothed.the-variants as M
 use Rattle.line.specs.declared.Read.{Read}
 use Rattle.line.specs.declared.Read.the-variants as R
-use Rattle.line.specs.Refusals.{smoothTold, told as readTold}
+use Rattle.line.specs.Refusals.{smoothed, warped, settled, smoothTold, told as readTold}
 use Rattle.counted.specs.declared.Counted.{Counted}
 use Rattle.counted.specs.declared.Counted.the-variants as C
-use Rattle.counted.specs.Refusals.{told as countTold}
+use Rattle.counted.specs.Refusals.{countedBits, told as countTold}
 use Rattle.board.specs.Rows.{Happening, nothing, row, broken}
 use Rattle.board.specs.declared.Event.{Event}
 use Rattle.board.specs.declared.Event.the-variants as E
@@ -31,9 +32,10 @@ use Rattle.board.specs.declared.Start.{Start}
 use Rattle.board.specs.declared.Start.the-variants as F
 use Rattle.board.specs.declared.Stepped.{Stepped}
 use Rattle.board.specs.declared.Listened.{Listened}
-use Rattle.board.specs.Refusals.{Outcome, told as eventTold, startTold, stepTold, listenTold}
-use Rattle.capture.specs.Numbers.{Numeral}
-use Rattle.capture.specs.Capture.{Heading}
+use Rattle.board.specs.Packed.{unpacked}
+use Rattle.board.specs.Refusals.{Outcome, told as eventTold, begun, startTold, stepped, stepTold, listened, listenTold}
+use Rattle.capture.specs.Numbers.{Numeral, numberAt}
+use Rattle.capture.specs.Capture.{Heading, header}
 use Rattle.capture.specs.declared.Number.{Number}
 use Rattle.capture.specs.declared.Number.the-variants as N
 use Rattle.capture.specs.declared.Head.{Head}
@@ -43,20 +45,21 @@ use Rattle.capture.specs.declared.Checked.{Checked}
 use Rattle.capture.specs.declared.Checked.the-variants as K
 use Rattle.capture.specs.declared.Written.{Written}
 use Rattle.capture.specs.declared.Written.the-variants as W
-use Rattle.capture.specs.Refusals.{numberTold, headTold, told as captureTold, writtenTold}
+use Rattle.capture.specs.Refusals.{numberTold, headTold, checked, readBack, told as captureTold, written, writtenTold}
 use Rattle.lines.specs.declared.Put.{Put}
 use Rattle.lines.specs.declared.Put.the-variants as P
+use Rattle.lines.specs.Lines.{headingLine, eventLine, endLine, refusedLine}
 use Rattle.lines.specs.Refusals.{told as putTold}
-use Rattle.promises.specs.OneMeaning.{Same, SameLeft, OneMeaning}
+use Rattle.promises.specs.OneMeaning.{One, OneLeft, OneMeaning}
 
--- the one lemma: where the answer can be had back from what it says, two answers that say the same are equal
-same : {X Y : Type 0} (told : X → Y) (back : Y → X) → ((x : X) → back (told x) ≡ x) → Same told
-same told back turns promised x y one other = sym (turns x) ∙ ap back (sym one ∙ other) ∙ turns y
+-- the one lemma: where the answer can be had back from what it tells, two answers that tell the same are equal
+one : {X Y : Type 0} (told : X → Y) (back : Y → X) → ((x : X) → back (told x) ≡ x) → (defined : Y) → One told defined
+one told back turns defined x y this other = sym (turns x) ∙ ap back (sym this ∙ other) ∙ turns y
 
-same-left : {X Y : Type 0} (Z : Type 0) (told : X → Y) (back : Y → X) → ((x : X) → back (told x) ≡ x) → SameLeft Z told
-same-left {X} {Y} Z told back turns promised x y left right one other = (
-  same told back turns (promised .0) x y (ap (λ (p : Y × Z). p .0) one) (ap (λ (p : Y × Z). p .0) other),
-  ap (λ (p : Y × Z). p .1) (sym one ∙ other),
+one-left : {X Y Z : Type 0} (told : X → Y) (back : Y → X) → ((x : X) → back (told x) ≡ x) → (defined : Y × Z) → OneLeft told defined
+one-left {X} {Y} {Z} told back turns defined x y left right this other = (
+  one told back turns (defined .0) x y (ap (λ (p : Y × Z). p .0) this) (ap (λ (p : Y × Z). p .0) other),
+  ap (λ (p : Y × Z). p .1) (sym this ∙ other),
 )
 
 -- a refusal from its number and place
@@ -109,32 +112,39 @@ event-back n bytes E.Row = refl
 event-back n bytes (E.Broken found) = refl
 event-back n bytes (E.Refused f) = ap E.Refused (refusal-back f)
 
-stepped : Outcome → Stepped
+step-of : Outcome → Stepped
 unfolding plain answer event
-stepped o = record { receiver = o .receiver; event = plain event E.Refused (o .answer); row = o .row }
+step-of o = record { receiver = o .receiver; event = plain event E.Refused (o .answer); row = o .row }
 
-listened : Outcome × ℕ → Listened
+listen-of : Outcome × ℕ → Listened
 unfolding plain answer event
-listened (o, used) = record { receiver = o .receiver; event = plain event E.Refused (o .answer); row = o .row; used = record { 0 = used } }
+listen-of (o, used) = record { receiver = o .receiver; event = plain event E.Refused (o .answer); row = o .row; used = record { 0 = used } }
 
 pub one-meaning : OneMeaning
-unfolding plain answer judged quiet-judged stepped listened
+unfolding plain answer judged quiet-judged step-of listen-of
 one-meaning = record {
-  judge = same judgeTold (plain judged J.Refused) judge-back;
-  judge-quiet = same quietTold (plain quiet-judged Q.Refused) quiet-back;
-  send = same-left (List ℕ) sendTold (plain (λ n. S.Wave (record { 0 = n })) S.Refused) send-back;
-  smooth = same-left (List ℕ) smoothTold (plain (λ n. M.Wave (record { 0 = n })) M.Refused) smooth-back;
-  warp-settle = same-left (List ℕ) readTold (plain (λ n. R.Reads (record { 0 = n })) R.Refused) read-back;
-  count-bits = same-left (List ℕ) countTold (answer C.Bits C.Refused C.RanOut) count-back;
-  fresh = same-left _ startTold (plain (λ e. F.Fresh) F.Refused) start-back;
-  step = same stepTold stepped step-back;
-  listen = same listenTold listened listen-back;
-  number-at = same numberTold (plain (λ n. N.Is (n .value) (n .after)) N.Refused) number-back;
-  read-heading = same headTold (plain head H.Refused) head-back;
-  check = same captureTold (plain K.Capture K.Refused) capture-back;
-  read-capture = same-left (List ℕ) captureTold (plain K.Capture K.Refused) capture-back;
-  write-capture = same-left (List ℕ) writtenTold (plain W.Bytes W.Refused) written-back;
-  put-line = same-left (List ℕ) putTold (plain P.Line P.Refused) put-back;
+  judge = λ a b k w r. one judgeTold (plain judged J.Refused) judge-back (judgement a b k w r);
+  judge-quiet = λ a b k w r q p1. one quietTold (plain quiet-judged Q.Refused) quiet-back (quietJudgement a b k w r q p1);
+  send = λ a b p1 p2 bits output. sent (sentMessage a b p1 p2 bits output);
+  send-plan = λ a b n leads trails bits output. sent (sentPlan a b n leads trails bits output);
+  smooth = λ wave output. one-left smoothTold (plain (λ n. M.Wave (record { 0 = n })) M.Refused) smooth-back (smoothed wave output);
+  warp = λ w r p wave output. read (warped w r p wave output);
+  settle = λ reads choices output. read (settled reads choices output);
+  count-bits = λ k n level reads output. one-left countTold (answer C.Bits C.Refused C.RanOut) count-back (countedBits k n level reads output);
+  fresh = λ k n Q. one-left startTold (plain (λ e. F.Fresh) F.Refused) start-back (begun k n Q);
+  step = λ receiver read. one stepTold step-of step-back (stepped receiver read);
+  listen = λ receiver reads. one listenTold listen-of listen-back (listened receiver reads);
+  next = λ bytes at. one numberTold (plain (λ n. N.Is (n .value) (n .after)) N.Refused) number-back (numberAt bytes at);
+  read-header = λ bytes. one headTold (plain head H.Refused) head-back (header bytes);
+  check = λ bytes. one captureTold (plain K.Capture K.Refused) capture-back (checked bytes);
+  read-capture = λ bytes output. one-left captureTold (plain K.Capture K.Refused) capture-back (readBack bytes output);
+  write-capture = λ k n Q reads output. one-left writtenTold (plain W.Bytes W.Refused) written-back (written k n Q reads output);
+  put-heading = λ output. line (lent headingLine output);
+  put-row = λ place n bits output. line (lent (eventLine place (row (take n (unpacked 8 bits)))) output);
+  put-broken = λ place found output. line (lent (eventLine place (broken found)) output);
+  put-end = λ reads rows output. line (lent (endLine reads rows) output);
+  put-refused = λ refusal output. line (lent (refusedLine (numberOf refusal) (placeOf refusal)) output);
+  given-itself = λ defined x y this other. sym this ∙ other;
 }
   where
     judge-back : (x : Judged) → plain judged J.Refused (judgeTold x) ≡ x
@@ -151,6 +161,9 @@ one-meaning = record {
     send-back (S.Wave cycles) = refl
     send-back (S.Refused f) = ap S.Refused (refusal-back f)
 
+    sent : (defined : Answer ℕ × List ℕ) → OneLeft sendTold defined
+    sent = one-left sendTold (plain (λ n. S.Wave (record { 0 = n })) S.Refused) send-back
+
     smooth-back : (x : Smoothed) → plain (λ n. M.Wave (record { 0 = n })) M.Refused (smoothTold x) ≡ x
     smooth-back (M.Wave cycles) = refl
     smooth-back (M.Refused f) = ap M.Refused (refusal-back f)
@@ -158,6 +171,9 @@ one-meaning = record {
     read-back : (x : Read) → plain (λ n. R.Reads (record { 0 = n })) R.Refused (readTold x) ≡ x
     read-back (R.Reads reads) = refl
     read-back (R.Refused f) = ap R.Refused (refusal-back f)
+
+    read : (defined : Answer ℕ × List ℕ) → OneLeft readTold defined
+    read = one-left readTold (plain (λ n. R.Reads (record { 0 = n })) R.Refused) read-back
 
     count-back : (x : Counted) → answer C.Bits C.Refused C.RanOut (countTold x) ≡ x
     count-back (C.Bits n) = refl
@@ -168,10 +184,10 @@ one-meaning = record {
     start-back F.Fresh = refl
     start-back (F.Refused f) = ap F.Refused (refusal-back f)
 
-    step-back : (x : Stepped) → stepped (stepTold x) ≡ x
+    step-back : (x : Stepped) → step-of (stepTold x) ≡ x
     step-back x = ap (λ (e : Event). record { receiver = x .receiver; event = e; row = x .row }) (event-back (x .receiver .n) (x .row) (x .event))
 
-    listen-back : (x : Listened) → listened (listenTold x) ≡ x
+    listen-back : (x : Listened) → listen-of (listenTold x) ≡ x
     listen-back x = ap (λ (e : Event). record { receiver = x .receiver; event = e; row = x .row; used = x .used }) (event-back (x .receiver .n) (x .row) (x .event))
 
     number-back : (x : Number) → plain (λ n. N.Is (n .value) (n .after)) N.Refused (numberTold x) ≡ x
@@ -196,3 +212,6 @@ one-meaning = record {
     put-back : (x : Put) → plain P.Line P.Refused (putTold x) ≡ x
     put-back (P.Line n) = refl
     put-back (P.Refused f) = ap P.Refused (refusal-back f)
+
+    line : (defined : Answer ℕ × List ℕ) → OneLeft putTold defined
+    line = one-left putTold (plain P.Line P.Refused) put-back

@@ -6,8 +6,9 @@ use native.Mathlib.Nat.{add-assoc, lt-of-mul-lt-mul-right}
 use native.Mathlib.Decide.{ℕ-discrete, decLe}
 use native.Mathlib.Omega.{arith}
 use lib.ListN.{length, length-append}
+use Rattle.measure.specs.Cells.{bitOf}
 use Rattle.sender.specs.Sending.{codeLevel}
-use Rattle.board.specs.Rows.{row, runAfter, hunting, ready, counting, waiting, bitOf, next}
+use Rattle.board.specs.Rows.{row, runAfter, hunting, ready, counting, waiting, next}
 use Rattle.board.specs.Feeding.{Report}
 use Rattle.promises.proofs.Clock.{Clock, mono, span-low, span-high}
 use Rattle.promises.proofs.Timing.{Cell, Settled, Waits, Heard, Margins, hear, counts, takes-time}

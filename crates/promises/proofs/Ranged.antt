@@ -6,8 +6,8 @@ use lib.Dec.{leb}
 use borrow.Author.Tests.{leb-true}
 use Rattle.measure.specs.Choose.{between}
 use Rattle.measure.specs.Ranges.{subcell, sampling, cycleLength}
-use Rattle.settings.specs.Refusals.{ranged}
-use Rattle.settings.proofs.Both.{both, both-3}
+use Rattle.settings.specs.Refusals.{inRange}
+use Rattle.measure.proofs.Both.{both, both-3}
 
 between-true : (least most x : ℕ) → between least most x ≡ true → (least ≤ x) × (x ≤ most)
 between-true least most x h =
@@ -21,7 +21,7 @@ pub record InRange (a b k w r : ℕ) : Type 0 where
   pub cycle : (1 ≤ w) × (w ≤ 65535)
   pub read : (1 ≤ r) × (r ≤ 65535)
 
-pub in-range : (a b k w r : ℕ) → ranged a b k w r ≡ true → InRange a b k w r
+pub in-range : (a b k w r : ℕ) → inRange a b k w r ≡ true → InRange a b k w r
 in-range a b k w r h =
     let (counts, cycle, read) = both-3 (subcell a && subcell b && sampling k) (cycleLength w) (cycleLength r) h in
     let (mark, code, sample) = both-3 (subcell a) (subcell b) (sampling k) counts in

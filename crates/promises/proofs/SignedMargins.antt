@@ -7,7 +7,7 @@ use lib.Dec.{leb}
 use lib.IntN.{ℤ, pos, negsuc, _+ℤ_}
 use borrow.Author.Tests.{lt-ltb, le-leb, leb-true}
 use Rattle.settings.specs.Margins.{m1, m2, m3, zeroOrMore, accepted}
-use Rattle.settings.proofs.Both.{both-3}
+use Rattle.measure.proofs.Both.{both-3}
 use Rattle.settings.proofs.Inequalities.{margin-least, accepted-keeps}
 use Rattle.promises.specs.WhatNoMeans.{minusOneOrMore, almostAccepted}
 use Rattle.promises.proofs.Timing.{Margins}

@@ -8,7 +8,8 @@ use lib.Dec.{eqb}
 use lib.ListN.{length, length-append}
 use borrow.Author.Tests.{eq-eqb, ne-eqb}
 use Rattle.measure.specs.Choose.{choose}
-use Rattle.board.specs.Rows.{Settings, State, nothing, row, Moved, runAfter, hunting, ready, counting, waiting, quietened, collected, listening, next, bitOf}
+use Rattle.measure.specs.Cells.{bitOf}
+use Rattle.board.specs.Rows.{Settings, State, nothing, row, Moved, runAfter, hunting, ready, counting, waiting, quietened, collected, listening, next}
 use Rattle.board.specs.declared.Mode.{Mode}
 use Rattle.board.specs.declared.Mode.the-variants.{Hunting, Ready, Counting, Waiting}
 

@@ -4,11 +4,12 @@ use mathlib.Core.Bool.{Bool, true, false, false≢true}
 use mathlib.Core.List.{[], _∷_}
 use Prim.Native.Nat.{ℕ, _≤_}
 use native.Mathlib.Omega.{arith}
+use Rattle.settings.specs.Margins.{m1, m2, m3, accepted}
 use Rattle.sender.specs.Sending.{wave}
 use Rattle.line.specs.Smooth.{smooth}
 use Rattle.line.proofs.WarpLaws.{warp-by}
 use Rattle.promises.specs.CountedReturns.{EveryMessageReturned}
-use Rattle.promises.specs.WhatNoMeans.{almostAccepted, OneBit, Lost, MarginsAreExact}
+use Rattle.promises.specs.WhatNoMeans.{almostAccepted, OneBit, Lost, MarginsAreExact, HarmlessNo}
 use Rattle.promises.proofs.Smoothing.{smooth-is}
 use Rattle.promises.proofs.SignedMargins.{almost-margins, margins-almost}
 use Rattle.promises.proofs.CountedReturns.{returned}
@@ -42,4 +43,12 @@ margins-are-exact a b k w r ha hk hw hr = record {
   enough = λ met. returned a b k w r hr (almost-margins a b k w r met);
   needed = λ every. unless-false (almostAccepted a b k w r) (λ refused. refute a b k w r ha hk hw hr every (lose a b k w r ha hk hw hr refused));
   lost = lose a b k w r ha hk hw hr;
+}
+
+pub harmless-no : HarmlessNo
+unfolding almostAccepted accepted m1 m2 m3
+harmless-no = record {
+  least = (refl, refl, refl);
+  refused = refl;
+  returned = margins-are-exact 2 5 4 1 1 (omega arith) (omega arith) (omega arith) (omega arith) .enough refl;
 }

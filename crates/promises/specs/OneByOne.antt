@@ -4,9 +4,9 @@ use mathlib.Core.Path.{_≡_}
 use mathlib.Core.Bool.{true}
 use mathlib.Core.List.{List, [], _∷_}
 use Rattle.measure.specs.Refusals.{Answer, given, refused, refusedAfter}
+use Rattle.measure.specs.Ranges.{settingsFit}
 use Rattle.board.specs.Rows.{Happening, fresh}
 use Rattle.board.specs.Feeding.{Report, noted, reports}
-use Rattle.board.specs.WellFormed.{settingsFit}
 use Rattle.board.specs.Refusals.{begun, stepped}
 use Rattle.board.specs.declared.Receiver.{Receiver}
 use Rattle.promises.specs.Levels.{Levels}

@@ -1,46 +1,57 @@
 -- 01, "Holding the promises to one meaning": any pair of results that satisfy a promise are equal.
--- Each operation's promise is an equation between a definition and what its answer says, so one statement serves all that answer alike.
+-- Each promise is an equation: on the left the operation's definition, on the right what its answer tells and what it leaves. Here they stand one by one.
 use Prim.Native.Nat.{ℕ}
 use mathlib.Core.Path.{_≡_}
 use mathlib.Core.List.{List}
-use Rattle.settings.specs.Refusals.{told as judgeTold, quietTold}
-use Rattle.sender.specs.Refusals.{told as sendTold}
-use Rattle.line.specs.Refusals.{smoothTold, told as readTold}
-use Rattle.counted.specs.Refusals.{told as countTold}
+use lib.ListN.{take}
+use Rattle.measure.specs.declared.Refusal.{Refusal}
+use Rattle.measure.specs.Refusals.{lent, numberOf, placeOf}
+use Rattle.settings.specs.Refusals.{judgement, told as judgeTold, quietJudgement, quietTold}
+use Rattle.sender.specs.Refusals.{sentMessage, sentPlan, told as sendTold}
+use Rattle.line.specs.Refusals.{smoothed, smoothTold, warped, settled, told as readTold}
+use Rattle.counted.specs.Refusals.{countedBits, told as countTold}
 use Rattle.board.specs.declared.Receiver.{Receiver}
-use Rattle.board.specs.Refusals.{startTold, stepTold, listenTold}
-use Rattle.capture.specs.Refusals.{numberTold, headTold, told as captureTold, writtenTold}
+use Rattle.board.specs.Rows.{row, broken}
+use Rattle.board.specs.Packed.{unpacked}
+use Rattle.board.specs.Refusals.{begun, startTold, stepped, stepTold, listened, listenTold}
+use Rattle.capture.specs.Numbers.{numberAt}
+use Rattle.capture.specs.Capture.{header}
+use Rattle.capture.specs.Refusals.{numberTold, headTold, checked, readBack, told as captureTold, written, writtenTold}
+use Rattle.lines.specs.Lines.{headingLine, eventLine, endLine, refusedLine}
 use Rattle.lines.specs.Refusals.{told as putTold}
 
--- two answers to what was promised are one
-abbrev pub Same : {X Y : Type 0} → (X → Y) → Type 0
-Same {X} {Y} told = (promised : Y) (x y : X) → promised ≡ told x → promised ≡ told y → x ≡ y
+-- one answer tells what is defined: any two are equal
+abbrev pub One : {X Y : Type 0} → (X → Y) → Y → Type 0
+One {X} told defined = (x y : X) → defined ≡ told x → defined ≡ told y → x ≡ y
 
--- and so are two answers with what they leave in a lent output, or with the receiver that they hand back
-abbrev pub SameLeft : {X Y : Type 0} → Type 0 → (X → Y) → Type 0
-SameLeft {X} {Y} Z told = (promised : Y × Z) (x y : X) (left right : Z) → promised ≡ (told x, left) → promised ≡ (told y, right) → (x ≡ y) × (left ≡ right)
+-- and so are two answers with what each leaves in a lent output, or with the receiver that it hands back
+abbrev pub OneLeft : {X Y Z : Type 0} → (X → Y) → Y × Z → Type 0
+OneLeft {X} {Y} {Z} told defined =
+    (x y : X) (left right : Z) → defined ≡ (told x, left) → defined ≡ (told y, right) → (x ≡ y) × (left ≡ right)
 
-pub record OneMeaning : Type 0 where
-  -- judge and judge_quiet
-  pub judge : Same judgeTold
-  pub judge-quiet : Same quietTold
-  -- send and send_plan
-  pub send : SameLeft (List ℕ) sendTold
-  -- smooth; warp and settle
-  pub smooth : SameLeft (List ℕ) smoothTold
-  pub warp-settle : SameLeft (List ℕ) readTold
-  -- count_bits
-  pub count-bits : SameLeft (List ℕ) countTold
-  -- fresh, step and listen of a receiver
-  pub fresh : SameLeft Receiver startTold
-  pub step : Same stepTold
-  pub listen : Same listenTold
-  -- number_at and read_heading
-  pub number-at : Same numberTold
-  pub read-heading : Same headTold
-  -- check; read_capture; write_capture
-  pub check : Same captureTold
-  pub read-capture : SameLeft (List ℕ) captureTold
-  pub write-capture : SameLeft (List ℕ) writtenTold
-  -- the five functions that put a line
-  pub put-line : SameLeft (List ℕ) putTold
+pub record OneMeaning : Type 1 where
+  pub judge : (a b k w r : ℕ) → One judgeTold (judgement a b k w r)
+  pub judge-quiet : (a b k w r Q p1 : ℕ) → One quietTold (quietJudgement a b k w r Q p1)
+  pub send : (a b p1 p2 : ℕ) (bits output : List ℕ) → OneLeft sendTold (sentMessage a b p1 p2 bits output)
+  pub send-plan : (a b n : ℕ) (leads trails bits output : List ℕ) → OneLeft sendTold (sentPlan a b n leads trails bits output)
+  pub smooth : (wave output : List ℕ) → OneLeft smoothTold (smoothed wave output)
+  pub warp : (w r p : ℕ) (wave output : List ℕ) → OneLeft readTold (warped w r p wave output)
+  pub settle : (reads choices output : List ℕ) → OneLeft readTold (settled reads choices output)
+  pub count-bits : (k n level : ℕ) (reads output : List ℕ) → OneLeft countTold (countedBits k n level reads output)
+  pub fresh : (k n Q : ℕ) → OneLeft startTold (begun k n Q)
+  pub step : (receiver : Receiver) (read : ℕ) → One stepTold (stepped receiver read)
+  pub listen : (receiver : Receiver) (reads : List ℕ) → One listenTold (listened receiver reads)
+  -- the held reader's next
+  pub next : (bytes : List ℕ) (at : ℕ) → One numberTold (numberAt bytes at)
+  pub read-header : (bytes : List ℕ) → One headTold (header bytes)
+  pub check : (bytes : List ℕ) → One captureTold (checked bytes)
+  pub read-capture : (bytes output : List ℕ) → OneLeft captureTold (readBack bytes output)
+  pub write-capture : (k n Q : ℕ) (reads output : List ℕ) → OneLeft writtenTold (written k n Q reads output)
+  pub put-heading : (output : List ℕ) → OneLeft putTold (lent headingLine output)
+  pub put-row : (place n : ℕ) (bits output : List ℕ) → OneLeft putTold (lent (eventLine place (row (take n (unpacked 8 bits)))) output)
+  pub put-broken : (place found : ℕ) (output : List ℕ) → OneLeft putTold (lent (eventLine place (broken found)) output)
+  pub put-end : (reads rows : ℕ) (output : List ℕ) → OneLeft putTold (lent (endLine reads rows) output)
+  pub put-refused : (refusal : Refusal) (output : List ℕ) → OneLeft putTold (lent (refusedLine (numberOf refusal) (placeOf refusal)) output)
+  -- Whose promise is the very thing given: those of `measure`, a receiver's well_formed, the held reader's new, advance and place, and each C entry
+  -- point, all of whose answer is numbers and lists.
+  pub given-itself : {X : Type 0} (defined : X) → One (λ (x : X). x) defined

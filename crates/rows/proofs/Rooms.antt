@@ -8,7 +8,7 @@ use borrow.Author.Tests.{lt-ltb, le-ltb}
 use lib.ListN.{length, replicate, length-replicate}
 use Rattle.measure.specs.Refusals.{Answer, given, refused, refusedAfter}
 use Rattle.capture.specs.Capture.{Capture, capture, readsOf}
-use Rattle.capture.specs.Refusals.{unrolled, readBack, told}
+use Rattle.capture.specs.Refusals.{summary, unrolled, readBack, told}
 use Rattle.capture.specs.declared.Summary.{Summary}
 use Rattle.capture.specs.declared.Checked.{Checked}
 use Rattle.capture.specs.declared.Checked.the-variants.{Capture as Good}
@@ -16,13 +16,14 @@ use Rattle.capture.specs.declared.Checked.the-variants.{Capture as Good}
 first : {out out′ : List ℕ} {x y : Answer Summary} → _≡_ {A = Answer Summary × List ℕ} (x, out) (y, out′) → x ≡ y
 first e = ap (λ (p : Answer Summary × List ℕ). p .0) e
 
-unrolled-room : (answer : Answer Capture) (out out′ : List ℕ) (s : Summary) → unrolled answer out ≡ (given s, out′) → s .reads ≤ length out
+unrolled-room : (answer : Answer Capture) (out out′ : List ℕ) (s : Summary) → unrolled answer out ≡ (given s, out′) → s .reads .0 ≤ length out
 unrolled-room (given c) out out′ s e = go (decLe (length (readsOf (c .level) (c .runs))) (length out))
   where
-    go : Dec (length (readsOf (c .level) (c .runs)) ≤ length out) → s .reads ≤ length out
+    go : Dec (length (readsOf (c .level) (c .runs)) ≤ length out) → s .reads .0 ≤ length out
     go (yes h) =
         let told = first (rw (le-ltb (length out) (length (readsOf (c .level) (c .runs))) h) at e) in
-        let count : length (readsOf (c .level) (c .runs)) ≡ s .reads = cc in
+        let same : summary c ≡ s = cc in
+        let count : length (readsOf (c .level) (c .runs)) ≡ s .reads .0 = ap (λ (y : Summary). y .reads .0) same in
         omega arith
     go (no h) =
         let told = first (rw (lt-ltb (length out) (length (readsOf (c .level) (c .runs))) (omega arith)) at e) in
@@ -32,7 +33,7 @@ unrolled-room (refused number place) out out′ s e = let told = first e in let 
 unrolled-room (refusedAfter number place count) out out′ s e = let told = first e in let z : _≡_ {A = ℕ} 0 1 = cc in absurd (omega arith)
 
 pub reads-fit : (bytes out out′ : List ℕ) (x : Checked) (s : Summary) → readBack bytes out ≡ (told x, out′) → x ≡ Good s → length out′ ≡ length out
-    → s .reads ≤ length out′
+    → s .reads .0 ≤ length out′
 unfolding readBack
 reads-fit bytes out out′ x s e is kept = omega (arith, unrolled-room (capture bytes) out out′ s (e ∙ ap (λ (y : Checked). (told y, out′)) is), kept)
 

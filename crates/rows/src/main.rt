@@ -195,7 +195,7 @@ fn print(input: &[u8], reads: &mut [u8])
     let checked = capture::read_capture(input, reads);
     match checked {
         Checked::Capture(summary) => {
-            let count = summary.reads;
+            let count = summary.reads.0;
             print_rows(summary, &reads[..count]);
         }
         Checked::Refused(refusal) => print_refused(refusal),

@@ -11,13 +11,10 @@ use Rattle.measure.specs.Ranges.{subcell, padMost, rowBits}
 use Rattle.measure.specs.Lists.{firstAbove, someAbove}
 use Rattle.measure.proofs.Above.{above-none}
 use Rattle.sender.specs.Refusals.{fitting, padded}
-use Rattle.sender.proofs.Both.{both, both-3}
+use Rattle.measure.proofs.Both.{both, both-3, between-most}
 
 between-least : (least most x : ℕ) → between least most x ≡ true → least ≤ x
 between-least least most x e = leb-true least x (both (leb least x) (leb x most) e .0)
-
-between-most : (least most x : ℕ) → between least most x ≡ true → x ≤ most
-between-most least most x e = leb-true x most (both (leb least x) (leb x most) e .1)
 
 -- each pad of a list that is in range
 pub pads-most : (pads : List ℕ) → padded pads ≡ true → (i : ℕ) → i < length pads → getD pads i 0 ≤ 65535

@@ -8,7 +8,7 @@ use native.Mathlib.Omega.{arith}
 use lib.Dec.{leb}
 use lib.IntN.{ℤ, pos, negℤ, _+ℤ_, _-ℤ_, _*ℤ_, +ℤ-predℤ, +ℤ-assoc, +ℤ-comm, negℤ-+ℤ, negℤ-sucℤ, predℤ-*ℤ}
 use borrow.Author.Tests.{lt-ltb, le-ltb, le-leb, lt-leb, leb-true}
-use Rattle.settings.proofs.Both.{both-3}
+use Rattle.measure.proofs.Both.{both-3}
 use Rattle.settings.specs.Margins.{m1, m2, m3, m4, m5, zeroOrMore, accepted, quietAccepted}
 
 -- a difference of two lengths is zero or more exactly if the second is at most the first

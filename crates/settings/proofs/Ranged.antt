@@ -4,13 +4,9 @@ use mathlib.Core.Bool.{true, _&&_}
 use Prim.Native.Nat.{ℕ, _≤_}
 use lib.Dec.{leb}
 use borrow.Author.Tests.{leb-true}
-use Rattle.measure.specs.Choose.{between}
 use Rattle.measure.specs.Ranges.{subcell, sampling, cycleLength, quiet, padMost}
-use Rattle.settings.specs.Refusals.{ranged}
-use Rattle.settings.proofs.Both.{both, both-3}
-
-between-most : (least most x : ℕ) → between least most x ≡ true → x ≤ most
-between-most least most x e = leb-true x most (both (leb least x) (leb x most) e .1)
+use Rattle.settings.specs.Refusals.{inRange}
+use Rattle.measure.proofs.Both.{both, both-3, between-most}
 
 pub record Bounded (a b k w r : ℕ) : Type 0 where
   pub a-most : a ≤ 255
@@ -19,7 +15,7 @@ pub record Bounded (a b k w r : ℕ) : Type 0 where
   pub w-most : w ≤ 65535
   pub r-most : r ≤ 65535
 
-pub ranged-bounded : (a b k w r : ℕ) → ranged a b k w r ≡ true → Bounded a b k w r
+pub ranged-bounded : (a b k w r : ℕ) → inRange a b k w r ≡ true → Bounded a b k w r
 ranged-bounded a b k w r e =
     let lengths = both-3 (subcell a && subcell b && sampling k) (cycleLength w) (cycleLength r) e in
     let counts = both-3 (subcell a) (subcell b) (sampling k) (lengths .0) in
@@ -31,7 +27,7 @@ ranged-bounded a b k w r e =
       r-most = between-most 1 65535 r (lengths .2);
     }
 
-pub quiet-bounded : (a b k w r Q p1 : ℕ) → ranged a b k w r && quiet Q && leb p1 padMost ≡ true → Bounded a b k w r × (Q ≤ 8191) × (p1 ≤ 65535)
+pub quiet-bounded : (a b k w r Q p1 : ℕ) → inRange a b k w r && quiet Q && leb p1 padMost ≡ true → Bounded a b k w r × (Q ≤ 8191) × (p1 ≤ 65535)
 quiet-bounded a b k w r Q p1 e =
-    let parts = both-3 (ranged a b k w r) (quiet Q) (leb p1 padMost) e in
+    let parts = both-3 (inRange a b k w r) (quiet Q) (leb p1 padMost) e in
     (ranged-bounded a b k w r (parts .0), between-most 2 8191 Q (parts .1), leb-true p1 65535 (parts .2))

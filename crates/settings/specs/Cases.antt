@@ -1,5 +1,4 @@
 -- 01, "Numbers to try": P8, P9 and P10.
-use Prim.Native.Nat.{ℕ}
 use mathlib.Core.Bool.{Bool, true, false}
 use mathlib.Core.List.{List, [], _∷_}
 use lib.IntN.{ℤ, pos, negsuc}

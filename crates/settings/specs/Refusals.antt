@@ -2,7 +2,6 @@
 use Prim.Native.Nat.{ℕ}
 use mathlib.Core.Bool.{Bool, true, false, _&&_}
 use lib.Dec.{leb}
-use lib.IntN.{ℤ}
 use Rattle.measure.specs.Choose.{choose}
 use Rattle.measure.specs.Ranges.{subcell, sampling, cycleLength, quiet, padMost}
 use Rattle.measure.specs.Refusals.{Answer, given, refused, denied}
@@ -25,20 +24,20 @@ pub record QuietJudgement : Type 0 where
   pub accepts : Bool
 
 -- a, b, k, w and r are in range
-abbrev pub ranged : ℕ → ℕ → ℕ → ℕ → ℕ → Bool
-ranged a b k w r = subcell a && subcell b && sampling k && cycleLength w && cycleLength r
+abbrev pub inRange : ℕ → ℕ → ℕ → ℕ → ℕ → Bool
+inRange a b k w r = subcell a && subcell b && sampling k && cycleLength w && cycleLength r
 
 -- the judge: refusal 1 where a setting is out of range
 unfoldable pub judgement : ℕ → ℕ → ℕ → ℕ → ℕ → Answer Judgement
 judgement a b k w r =
-    choose (ranged a b k w r)
+    choose (inRange a b k w r)
     (given (record { margins = record { m1 = m1 a w r; m2 = m2 a k w r; m3 = m3 a b k w r }; accepts = accepted a b k w r }))
     (refused 1 0)
 
 -- the quiet judge: all five margins
 unfoldable pub quietJudgement : ℕ → ℕ → ℕ → ℕ → ℕ → ℕ → ℕ → Answer QuietJudgement
 quietJudgement a b k w r Q p1 =
-    choose (ranged a b k w r && quiet Q && leb p1 padMost)
+    choose (inRange a b k w r && quiet Q && leb p1 padMost)
     (given
     (record {
       margins = record { m1 = m1 a w r; m2 = m2 a k w r; m3 = m3 a b k w r; m4 = m4 a b Q w r; m5 = m5 p1 Q w r };

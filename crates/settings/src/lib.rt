@@ -7,7 +7,7 @@ ghost use Rattle.measure.specs.Ranges.{quiet, padMost};
 ghost use lib.IntN.{_-ℤ_, _*ℤ_};
 ghost use Rattle.measure.specs.Refusals.{given};
 ghost use Rattle.settings.specs.Margins.{signed, m1, m2, m3, m4, m5, zeroOrMore};
-ghost use Rattle.settings.specs.Refusals.{ranged, judgement, quietJudgement, told, quietTold};
+ghost use Rattle.settings.specs.Refusals.{inRange, judgement, quietJudgement, told, quietTold};
 use measure::CYCLE_LEAST;
 use measure::CYCLE_MOST;
 use measure::PAD_MOST;
@@ -42,7 +42,7 @@ pub struct QuietMargins {
 pub enum Judged {
     // Accepted: the three margins are zero or more.
     Yes(Margins),
-    // Not accepted. A "no" does not say that a message would be lost.
+    // Not accepted: a margin is below zero. Whether anything would be lost is left open.
     No(Margins),
     Refused(Refusal),
 }
@@ -57,7 +57,7 @@ pub enum QuietJudged {
 
 // Tells whether a, b, k, w and r are in range.
 fn in_range(a: usize, b: usize, k: usize, w: usize, r: usize) -> bool
-    ensures { λ fits. ⌜ fits ≡ ranged a b k w r ⌝ }
+    ensures { λ fits. ⌜ fits ≡ inRange a b k w r ⌝ }
 {
     if !measure::between(SUBCELL_LEAST, SUBCELL_MOST, a) {
         return false;
@@ -76,7 +76,7 @@ fn in_range(a: usize, b: usize, k: usize, w: usize, r: usize) -> bool
 
 // Tells whether Q and p1 are in range as well.
 fn quiet_in_range(a: usize, b: usize, k: usize, w: usize, r: usize, q: usize, p1: usize) -> bool
-    ensures { λ fits. ⌜ fits ≡ (ranged a b k w r && quiet q && leb p1 padMost) ⌝ }
+    ensures { λ fits. ⌜ fits ≡ (inRange a b k w r && quiet q && leb p1 padMost) ⌝ }
 {
     if !in_range(a, b, k, w, r) {
         return false;

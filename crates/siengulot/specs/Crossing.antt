@@ -1,4 +1,4 @@
--- What crosses to C of an operation's answer: numbers, in place of the cases of an enum. The lent numbers are written with every answer; lent lists are left by a refusal as the operation leaves them.
+-- What crosses to C of an operation's answer: numbers, in place of the cases of an enum. Place and count are written with every answer; a refusal leaves margins, summaries and lists as they were.
 use Prim.Native.Nat.{ℕ}
 use mathlib.Core.Bool.{Bool, true, false}
 use mathlib.Core.List.{List, [], _∷_}
@@ -49,6 +49,6 @@ judgedFive answer lent = judged five (λ (j : QuietJudgement). j .accepts) answe
 
 -- What crosses of a capture's summary: the refusal's number, its place, and k, n, Q and the numbers of reads and runs one behind another. A refusal leaves the lent numbers.
 abbrev pub summed : List ℕ → Answer Summary → ℕ × ℕ × List ℕ
-summed lent (given s) = (0, 0, s .k .0 ∷ s .n ∷ s .q .0 ∷ s .reads ∷ s .runs ∷ [])
+summed lent (given s) = (0, 0, s .k .0 ∷ s .n ∷ s .q .0 ∷ s .reads .0 ∷ s .runs ∷ [])
 summed lent (refused number place) = (number, place, lent)
 summed lent (refusedAfter number place count) = (number, place, lent)

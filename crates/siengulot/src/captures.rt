@@ -12,7 +12,7 @@ fn of_checked(answer: Checked, summary: &mut [usize; 5], place: &mut usize) -> u
 {
     match answer {
         Checked::Capture(s) => {
-            *summary = [s.k.0, s.n, s.q.0, s.reads, s.runs];
+            *summary = [s.k.0, s.n, s.q.0, s.reads.0, s.runs];
             *place = 0;
             0
         }

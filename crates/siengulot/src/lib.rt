@@ -1,5 +1,5 @@
-// The way in from C: one entry point for each operation, thin over the proved rooms. Each returns the refusal's number, 0 for none; the lent numbers
-// are written with every answer. `include/siengulot.h` declares them.
+// The way in from C: one entry point for each operation, thin over the proved rooms. Each returns the refusal's number, 0 for none; each says
+// what it leaves behind the pointers. `include/siengulot.h` declares them.
 mod answers;
 mod captures;
 mod judging;

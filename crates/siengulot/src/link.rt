@@ -74,7 +74,7 @@ pub extern "C" fn siengulot_plan(
     of_sent(answer, place, count)
 }
 
-// Pass 1, smooth. Gives the wave in which each cycle whose level differs from the cycle before is unknown.
+// Pass 1, smooth. Gives the wave with each cycle unknown at which the level changed.
 // Refuses by 3 (more than 1,048,576 cycles), 2 (the place of the first entry that is no level), 4: the output is left, and `count` is 0.
 #[no_mangle]
 pub extern "C" fn siengulot_smooth(

@@ -105,7 +105,7 @@ pub extern "C" fn siengulot_well_formed(numbers: &[usize; 8], bytes: &[u8; 128])
 }
 
 // Gives a receiver one read, and in `event` what it brings: 0 nothing, 1 a row, whose bits stand in `row`, 2 a broken row, of so many bits in `found`.
-// Refuses by 1 a state that is not well formed, by 2 a read that is no level, with place 0: receiver and row are left, and the other numbers are 0.
+// Refuses by 1 a state that is not well formed, by 2 a read that is no level, with place 0: receiver and row are left, and `event` and `found` are 0.
 #[no_mangle]
 pub extern "C" fn siengulot_step(
     numbers: &mut [usize; 8],
@@ -142,7 +142,7 @@ pub extern "C" fn siengulot_step(
 
 // Gives a receiver reads up to and with the first that brings an event, or all: `event`, `row` and `found` as above, and in `used` how many reads that took.
 // Refuses by 1 a state that is not well formed, 3 (more than 1,048,576 reads), 2 (the place of the first read that is no level where no event comes
-// before it): receiver and row are left, and the other numbers are 0.
+// before it): receiver and row are left, and `event`, `found` and `used` are 0.
 #[no_mangle]
 pub extern "C" fn siengulot_listen(
     numbers: &mut [usize; 8],

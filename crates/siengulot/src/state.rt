@@ -11,7 +11,7 @@ const MODE_MOST: usize = 3;
 
 const BYTE_MOST: usize = 255;
 
-// Gives a mode's number.
+// The order of the numbers is that of the modes' names in document 01.
 fn mode_number(mode: Mode) -> usize
     ensures { λ x. ⌜ modeNumber mode ≡ x ⌝ }
 {
@@ -23,7 +23,7 @@ fn mode_number(mode: Mode) -> usize
     }
 }
 
-// Gives the mode of a number.
+// A number above 3 is asked of nobody: `stands` comes first.
 fn mode_of(number: usize) -> Mode
     ensures { λ x. ⌜ modeOf number ≡ x ⌝ }
 {

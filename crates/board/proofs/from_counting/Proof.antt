@@ -6,11 +6,12 @@ use native.Mathlib.Omega.{arith}
 use borrow.Author.Needs.{needs}
 use denote.Ref.{now}
 use lib.ListN.{length, drop}
+use Rattle.measure.specs.Cells.{bitOf}
 use Rattle.board.specs.declared.Mode.the-variants.{Counting}
 use Rattle.board.specs.declared.Receiver.{Receiver}
 use Rattle.board.specs.declared.Sought.{Sought}
 use Rattle.board.specs.declared.Sought.the-variants.{Found}
-use Rattle.board.specs.Rows.{Settings, State, waiting, collected, marked, bitOf}
+use Rattle.board.specs.Rows.{Settings, State, waiting, collected, marked}
 use Rattle.board.specs.Packed.{kept, stateOf}
 use Rattle.board.specs.Refusals.{Outcome}
 use Rattle.board.specs.Listening.{settings, keeping, Keeps, heardFrom, soughtTold, Lands}

@@ -4,8 +4,8 @@ use mathlib.Core.Bool.{true}
 use native.Mathlib.Omega.{arith}
 use borrow.Author.Needs.{needs}
 use denote.Ref.{now}
+use Rattle.measure.specs.Ranges.{settingsFit}
 use Rattle.board.specs.Rows.{Settings, State}
-use Rattle.board.specs.WellFormed.{settingsFit}
 use Rattle.board.specs.Listening.{settings, heardFrom}
 use Rattle.board.proofs.Standing.{of-ranged}
 use Rattle.board.proofs.KeepingLaws.{kept-valid, hunting-kept, ready-kept}

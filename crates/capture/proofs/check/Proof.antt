@@ -7,8 +7,8 @@ use Rattle.capture.proofs.Captures.{capture-refused, capture-found}
 use Rattle.capture.proofs.check.Statement.{statement}
 use Rattle.capture.proofs.check.Tie as tie
 
-heading-of-requires : tie.Need-heading-of-requires
-heading-of-requires c κs = search needs
+read-header-requires : tie.Need-read-header-requires
+read-header-requires c κs = search needs
 
 enum-known-head : tie.Need-enum-known-head
 enum-known-head c = search needs
@@ -23,7 +23,7 @@ returns : tie.Need-returns
 unfolding checked
 returns c =
     let e = c .before .enum-told .given .1 in
-    ap summed (capture-refused (c .before .before .before .before .before .args .bytes .now) _ _ (c .before .before .before .heading-of .ensures ∙ ap headTold e)) ∙ ap denied (sym (c .head-refusal .ensures _ e))
+    ap summed (capture-refused (c .before .before .before .before .before .args .bytes .now) _ _ (c .before .before .before .read-header .ensures ∙ ap headTold e)) ∙ ap denied (sym (c .head-refusal .ensures _ e))
 
 check-runs-requires : tie.Need-check-runs-requires
 check-runs-requires c κs = search needs
@@ -31,13 +31,13 @@ check-runs-requires c κs = search needs
 returns-2 : tie.Need-returns-2
 unfolding checked
 returns-2 c =
-    ap summed (capture-found (c .before .before .before .before .before .before .args .bytes .now) _ (c .before .before .before .before .heading-of .ensures ∙ ap headTold (c .before .before .head .given .1))) ∙ c .check-runs .ensures
+    ap summed (capture-found (c .before .before .before .before .before .before .args .bytes .now) _ (c .before .before .before .before .read-header .ensures ∙ ap headTold (c .before .before .head .given .1))) ∙ c .check-runs .ensures
 
 pub check-spec : {M : Type 1} → statement M
 check-spec =
     tie.close
     (tie.spec
-    heading-of-requires
+    read-header-requires
     enum-known-head
     enum-told
     head-refusal-requires

@@ -10,8 +10,8 @@ use Rattle.capture.proofs.Reading.{read-refused, read-runs-refused, rea
 use Rattle.capture.proofs.read_capture.Statement.{statement}
 use Rattle.capture.proofs.read_capture.Tie as tie
 
-heading-of-requires : tie.Need-heading-of-requires
-heading-of-requires c κs = search needs
+read-header-requires : tie.Need-read-header-requires
+read-header-requires c κs = search needs
 
 enum-known-head : tie.Need-enum-known-head
 enum-known-head c = search needs
@@ -26,7 +26,7 @@ returns : tie.Need-returns
 returns c =
     let a = c .before .before .before .before .before .before .args in
     let e = c .before .enum-told .given .1 in
-    read-refused (a .bytes .now) (a .out .now) _ _ (capture-refused (a .bytes .now) _ _ (c .before .before .before .heading-of .ensures ∙ ap headTold e))
+    read-refused (a .bytes .now) (a .out .now) _ _ (capture-refused (a .bytes .now) _ _ (c .before .before .before .read-header .ensures ∙ ap headTold e))
     ∙ ap (λ refusal. (denied refusal, a .out .now)) (sym (c .head-refusal .ensures _ e))
 
 check-runs-requires : tie.Need-check-runs-requires
@@ -42,23 +42,23 @@ returns-2 : tie.Need-returns-2
 returns-2 c =
     let a = c .before .before .before .before .before .before .before .before .before .args in
     let e = ap told (c .enum-told2 .given .1) in
-    read-runs-refused (a .bytes .now) (a .out .now) (headed (c .before .before .before .before .head .given .0 .0)) (capture-found (a .bytes .now) _ (c .before .before .before .before .before .before .heading-of .ensures ∙ ap headTold (c .before .before .before .before .head .given .1))) _ _ (c .before .before .check-runs .ensures ∙ e)
+    read-runs-refused (a .bytes .now) (a .out .now) (headed (c .before .before .before .before .head .given .0 .0)) (capture-found (a .bytes .now) _ (c .before .before .before .before .before .before .read-header .ensures ∙ ap headTold (c .before .before .before .before .head .given .1))) _ _ (c .before .before .check-runs .ensures ∙ e)
     ∙ ap (λ answer. (answer, a .out .now)) (sym e)
 
 returns-3 : tie.Need-returns-3
 returns-3 c =
     let a = c .before .before .before .before .before .before .before .before .before .before .before .args in
-    read-short (a .bytes .now) (a .out .now) (headed (c .before .before .before .before .before .before .head .given .0 .0)) (capture-found (a .bytes .now) _ (c .before .before .before .before .before .before .before .before .heading-of .ensures ∙ ap headTold (c .before .before .before .before .before .before .head .given .1))) _ (c .before .before .before .before .check-runs .ensures ∙ ap told (c .before .before .found .given .1)) (c .if1 .taken)
+    read-short (a .bytes .now) (a .out .now) (headed (c .before .before .before .before .before .before .head .given .0 .0)) (capture-found (a .bytes .now) _ (c .before .before .before .before .before .before .before .before .read-header .ensures ∙ ap headTold (c .before .before .before .before .before .before .head .given .1))) _ (c .before .before .before .before .check-runs .ensures ∙ ap told (c .before .before .found .given .1)) (c .if1 .taken)
 
 cast-level : tie.Need-cast-level
 cast-level c =
-    omega (arith, heading-level (c .before .before .before .before .before .before .before .before .before .before .before .args .bytes .now) _ (heading-found (c .before .before .before .before .before .before .before .before .before .before .before .args .bytes .now) _ (c .before .before .before .before .before .before .before .before .heading-of .ensures ∙ ap headTold (c .before .before .before .before .before .before .head .given .1))))
+    omega (arith, heading-level (c .before .before .before .before .before .before .before .before .before .before .before .args .bytes .now) _ (heading-found (c .before .before .before .before .before .before .before .before .before .before .before .args .bytes .now) _ (c .before .before .before .before .before .before .before .before .read-header .ensures ∙ ap headTold (c .before .before .before .before .before .before .head .given .1))))
 
 unroll-into-requires : tie.Need-unroll-into-requires
 unroll-into-requires c κs =
     let a = c .before .before .before .before .before .before .before .before .before .before .before .before .args in (
-      heading-level (c .before .before .before .before .before .before .before .before .before .before .before .before .args .bytes .now) _ (heading-found (c .before .before .before .before .before .before .before .before .before .before .before .before .args .bytes .now) _ (c .before .before .before .before .before .before .before .before .before .heading-of .ensures ∙ ap headTold (c .before .before .before .before .before .before .before .head .given .1))),
-      read-roomy (a .bytes .now) (a .out .now) _ (capture-found (a .bytes .now) _ (c .before .before .before .before .before .before .before .before .before .heading-of .ensures ∙ ap headTold (c .before .before .before .before .before .before .before .head .given .1))) _ (c .before .before .before .before .before .check-runs .ensures ∙ ap told (c .before .before .before .found .given .1)) (c .before .if1 .left),
+      heading-level (c .before .before .before .before .before .before .before .before .before .before .before .before .args .bytes .now) _ (heading-found (c .before .before .before .before .before .before .before .before .before .before .before .before .args .bytes .now) _ (c .before .before .before .before .before .before .before .before .before .read-header .ensures ∙ ap headTold (c .before .before .before .before .before .before .before .head .given .1))),
+      read-roomy (a .bytes .now) (a .out .now) _ (capture-found (a .bytes .now) _ (c .before .before .before .before .before .before .before .before .before .read-header .ensures ∙ ap headTold (c .before .before .before .before .before .before .before .head .given .1))) _ (c .before .before .before .before .before .check-runs .ensures ∙ ap told (c .before .before .before .found .given .1)) (c .before .if1 .left),
     )
 
 same-length : tie.Need-same-length
@@ -67,14 +67,14 @@ same-length c = search needs
 returns-4 : tie.Need-returns-4
 returns-4 c =
     let a = c .before .before .before .before .before .before .before .before .before .before .before .before .before .before .before .args in
-    read-whole (a .bytes .now) (a .out .now) _ (capture-found (a .bytes .now) _ (c .before .before .before .before .before .before .before .before .before .before .before .before .heading-of .ensures ∙ ap headTold (c .before .before .before .before .before .before .before .before .before .before .head .given .1))) _ (c .before .before .before .before .before .before .before .before .check-runs .ensures ∙ ap told (c .before .before .before .before .before .before .found .given .1)) (c .before .before .before .before .if1 .left)
+    read-whole (a .bytes .now) (a .out .now) _ (capture-found (a .bytes .now) _ (c .before .before .before .before .before .before .before .before .before .before .before .before .read-header .ensures ∙ ap headTold (c .before .before .before .before .before .before .before .before .before .before .head .given .1))) _ (c .before .before .before .before .before .before .before .before .check-runs .ensures ∙ ap told (c .before .before .before .before .before .before .found .given .1)) (c .before .before .before .before .if1 .left)
     _ (c .before .before .unroll-into .ensures)
 
 pub read-capture-spec : {M : Type 1} → statement M
 read-capture-spec =
     tie.close
     (tie.spec
-    heading-of-requires
+    read-header-requires
     enum-known-head
     enum-told
     head-refusal-requires

@@ -1,7 +1,7 @@
 -- `in_range` meets its contract: the first test that fails settles the answer, and the last is what is left of it.
 use borrow.Author.Needs.{needs}
 use borrow.Author.Tests.{le-leb, lt-leb}
-use Rattle.sender.proofs.Both.{passed, failed}
+use Rattle.measure.proofs.Both.{passed, failed}
 use Rattle.sender.proofs.in_range.Statement.{statement}
 use Rattle.sender.proofs.in_range.Tie as tie
 

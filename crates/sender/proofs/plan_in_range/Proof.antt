@@ -4,7 +4,7 @@ use mathlib.Core.Bool.{true, _&&_}
 use borrow.Author.Needs.{needs}
 use Rattle.measure.specs.Ranges.{subcell, rowBits}
 use Rattle.sender.specs.Refusals.{fitting}
-use Rattle.sender.proofs.Both.{passed, failed}
+use Rattle.measure.proofs.Both.{passed, failed}
 use Rattle.sender.proofs.Ranged.{row-bits-least}
 use Rattle.sender.proofs.plan_in_range.Statement.{statement}
 use Rattle.sender.proofs.plan_in_range.Tie as tie

@@ -11,7 +11,7 @@ use borrow.Author.Tests.{lt-ltb, le-ltb}
 use Rattle.measure.specs.Ranges.{subcell, rowBits, entriesMost}
 use Rattle.sender.specs.Sending.{planWave, rowsOf}
 use Rattle.sender.specs.Refusals.{fitting, padded, sentPlan}
-use Rattle.sender.proofs.Both.{passed, failed}
+use Rattle.measure.proofs.Both.{passed, failed}
 use Rattle.sender.proofs.Ranged.{Plan, plan-bounded}
 use Rattle.sender.proofs.Placed.{lent-placed, lent-short}
 use Rattle.sender.proofs.send_plan.Statement.{statement}

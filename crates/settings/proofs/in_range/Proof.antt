@@ -1,6 +1,6 @@
 -- `in_range` meets its contract: the first test that fails settles the answer, and the last is what is left of it.
 use borrow.Author.Needs.{needs}
-use Rattle.settings.proofs.Both.{passed, failed}
+use Rattle.measure.proofs.Both.{passed, failed}
 use Rattle.settings.proofs.in_range.Statement.{statement}
 use Rattle.settings.proofs.in_range.Tie as tie
 

@@ -4,8 +4,8 @@ use mathlib.Core.Bool.{true}
 use native.Mathlib.Omega.{arith}
 use borrow.Author.Needs.{needs}
 use Rattle.settings.specs.Margins.{accepted}
-use Rattle.settings.specs.Refusals.{ranged, judgement}
-use Rattle.settings.proofs.Both.{passed, failed}
+use Rattle.settings.specs.Refusals.{inRange, judgement}
+use Rattle.measure.proofs.Both.{passed, failed}
 use Rattle.settings.proofs.Ranged.{Bounded, ranged-bounded}
 use Rattle.settings.proofs.Signs.{read-back}
 use Rattle.settings.proofs.judge.Statement.{statement}
@@ -19,7 +19,7 @@ unfolding judgement
 returns c = simp (failed (c .before .in-range .ensures) (c .if1 .taken))
 
 -- past the test the settings are in range
-accepts : (c : tie.Else1) → let args = c .before .before .args in ranged (args .a .0) (args .b .0) (args .k .0) (args .w .0) (args .r .0) ≡ true
+accepts : (c : tie.Else1) → let args = c .before .before .args in inRange (args .a .0) (args .b .0) (args .k .0) (args .w .0) (args .r .0) ≡ true
 accepts c = passed (c .before .in-range .ensures) (c .if1 .left)
 
 bounded : (c : tie.Else1) → let args = c .before .before .args in Bounded (args .a .0) (args .b .0) (args .k .0) (args .w .0) (args .r .0)

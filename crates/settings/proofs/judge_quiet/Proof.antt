@@ -7,8 +7,8 @@ use lib.Dec.{leb}
 use borrow.Author.Needs.{needs}
 use Rattle.measure.specs.Ranges.{quiet, padMost}
 use Rattle.settings.specs.Margins.{accepted, quietAccepted}
-use Rattle.settings.specs.Refusals.{ranged, quietJudgement}
-use Rattle.settings.proofs.Both.{passed, failed}
+use Rattle.settings.specs.Refusals.{inRange, quietJudgement}
+use Rattle.measure.proofs.Both.{passed, failed}
 use Rattle.settings.proofs.Ranged.{Bounded, quiet-bounded}
 use Rattle.settings.proofs.Signs.{read-back}
 use Rattle.settings.proofs.judge_quiet.Statement.{statement}
@@ -22,7 +22,7 @@ unfolding quietJudgement
 returns c = simp (failed (c .before .quiet-in-range .ensures) (c .if1 .taken))
 
 -- past the test the settings are in range
-accepts : (c : tie.Else1) → let args = c .before .before .args in ranged (args .a .0) (args .b .0) (args .k .0) (args .w .0) (args .r .0) && quiet (args .q .0) && leb (args .p1 .0) padMost ≡ true
+accepts : (c : tie.Else1) → let args = c .before .before .args in inRange (args .a .0) (args .b .0) (args .k .0) (args .w .0) (args .r .0) && quiet (args .q .0) && leb (args .p1 .0) padMost ≡ true
 accepts c = passed (c .before .quiet-in-range .ensures) (c .if1 .left)
 
 bounded : (c : tie.Else1) → let args = c .before .before .args in Bounded (args .a .0) (args .b .0) (args .k .0) (args .w .0) (args .r .0) × (args .q .0 ≤ 8191) × (args .p1 .0 ≤ 65535)

@@ -1,6 +1,6 @@
 -- `quiet_in_range` meets its contract, as `in_range` does.
 use borrow.Author.Needs.{needs}
-use Rattle.settings.proofs.Both.{passed, failed}
+use Rattle.measure.proofs.Both.{passed, failed}
 use Rattle.settings.proofs.quiet_in_range.Statement.{statement}
 use Rattle.settings.proofs.quiet_in_range.Tie as tie
 

@@ -1,8 +1,8 @@
 -- `fresh` meets its contract: the settings are judged, and what comes back keeps no bits.
-use mathlib.Core.Path.{_≡_, _∙_}
+use mathlib.Core.Path.{_≡_, sym, _∙_}
 use mathlib.Core.Bool.{true, false}
 use borrow.Author.Needs.{needs}
-use Rattle.board.specs.WellFormed.{settingsFit}
+use Rattle.measure.specs.Ranges.{settingsFit}
 use Rattle.board.specs.Refusals.{begun}
 use Rattle.board.proofs.Receiver.fresh.Statement.{statement}
 use Rattle.board.proofs.Receiver.fresh.Tie as tie
@@ -17,7 +17,7 @@ returns : tie.Need-returns
 unfolding begun
 returns c =
     let a = c .before .before .before .args in
-    let e : settingsFit (a .k .0) (a .n) (a .q .0) ≡ true = c .before .before .settings-fit .ensures ∙ c .before .if1 .taken in
+    let e : settingsFit (a .k .0) (a .n) (a .q .0) ≡ true = sym (c .before .before .settings-fit .ensures) ∙ c .before .if1 .taken in
     rw (e, ← c .idle .ensures)
 
 idle-requires-2 : tie.Need-idle-requires-2
@@ -27,7 +27,7 @@ returns-2 : tie.Need-returns-2
 unfolding begun
 returns-2 c =
     let a = c .before .before .before .args in
-    let e : settingsFit (a .k .0) (a .n) (a .q .0) ≡ false = c .before .before .settings-fit .ensures ∙ c .before .if1 .left in
+    let e : settingsFit (a .k .0) (a .n) (a .q .0) ≡ false = sym (c .before .before .settings-fit .ensures) ∙ c .before .if1 .left in
     rw (e, ← c .idle2 .ensures)
 
 pub fresh-spec : {M : Type 1} → statement M

@@ -4,7 +4,8 @@ use mathlib.Core.Bool.{true}
 use borrow.Author.Needs.{needs}
 use borrow.Author.Tests.{not-true, not-false}
 use lib.ListN.{length}
-use Rattle.board.specs.WellFormed.{settingsFit, runFits, leftFits, foundFits, levelFits, wellFormed}
+use Rattle.measure.specs.Ranges.{settingsFit}
+use Rattle.board.specs.WellFormed.{runFits, leftFits, foundFits, levelFits, wellFormed}
 use Rattle.board.proofs.Standing.{found-fits-most}
 use Rattle.board.proofs.Receiver.well_formed.Statement.{statement}
 use Rattle.board.proofs.Receiver.well_formed.Tie as tie
@@ -16,7 +17,7 @@ abbrev start1 : tie.Else1 → tie.Start
 start1 c = c .before .before .before
 
 fits1 : (c : tie.Else1) → settingsFit (start1 c .args .self .k .0) (start1 c .args .self .n) (start1 c .args .self .q .0) ≡ true
-fits1 c = c .before .settings-fit .ensures ∙ not-false _ (c .if1 .left)
+fits1 c = sym (c .before .settings-fit .ensures) ∙ not-false _ (c .if1 .left)
 
 abbrev start2 : tie.Else2 → tie.Start
 start2 c = start1 (c .before .before)
@@ -47,7 +48,7 @@ settings-fit-requires c κs = search needs
 
 returns : tie.Need-returns
 unfolding wellFormed
-returns c = simp (c .before .settings-fit .ensures ∙ not-true _ (c .if1 .taken))
+returns c = simp (sym (c .before .settings-fit .ensures) ∙ not-true _ (c .if1 .taken))
 
 run-fits-requires : tie.Need-run-fits-requires
 run-fits-requires c κs = search needs

@@ -1,11 +1,11 @@
--- `read_heading` meets its contract: each number that fits leads to the next, and the first that does not is handed on.
+-- `four_numbers` meets its contract: each number that fits leads to the next, and the first that does not is handed on.
 use mathlib.Core.Path.{sym, ap, _∙_}
 use borrow.Author.Needs.{needs}
 use Rattle.measure.specs.Refusals.{denied}
 use Rattle.capture.specs.Refusals.{numberTold}
 use Rattle.capture.proofs.Headings.{heading-no-k, heading-no-n, heading-no-Q, heading-no-level, heading-is}
-use Rattle.capture.proofs.read_heading.Statement.{statement}
-use Rattle.capture.proofs.read_heading.Tie as tie
+use Rattle.capture.proofs.four_numbers.Statement.{statement}
+use Rattle.capture.proofs.four_numbers.Tie as tie
 
 fitting-at-requires : tie.Need-fitting-at-requires
 fitting-at-requires c κs = search needs
@@ -98,8 +98,8 @@ returns-5 c =
     (third .before .before .fitting-at3 .ensures ∙ ap numberTold (third .third .given .1))
     (fourth .before .before .fitting-at4 .ensures ∙ ap numberTold (fourth .fourth .given .1))
 
-pub read-heading-spec : {M : Type 1} → statement M
-read-heading-spec =
+pub four-numbers-spec : {M : Type 1} → statement M
+four-numbers-spec =
     tie.close
     (tie.spec
     fitting-at-requires
