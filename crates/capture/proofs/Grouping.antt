@@ -10,7 +10,7 @@ use Rattle.capture.specs.Numbers.{further, spelled}
 use Rattle.capture.specs.Writing.{runsAfter, runsOf, numbers}
 use Rattle.capture.proofs.Groups.{from-byte}
 use Rattle.capture.proofs.Spelling.{size-run}
-use Rattle.capture.proofs.Stores.{Stored, stored-none, stored-part, stored-all}
+use Rattle.measure.proofs.Stores.{Stored, stored-none, stored-part, stored-all}
 
 after-same : (level count read : ℕ) (l : List ℕ) → read ≡ level → runsAfter level count (read ∷ l) ≡ runsAfter level (suc count) l
 unfolding runsAfter

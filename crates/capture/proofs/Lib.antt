@@ -5,7 +5,6 @@ pub mod Headings
 pub mod Runs
 pub mod Tally
 pub mod Captures
-pub mod Stores
 pub mod Unrolling
 pub mod Reading
 pub mod Spelling

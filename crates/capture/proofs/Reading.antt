@@ -15,7 +15,7 @@ use Rattle.capture.specs.Capture.{Heading, Capture, then, runsFrom, with
 use Rattle.capture.specs.Refusals.{summary, summed, unrolled, readBack}
 use Rattle.capture.specs.declared.Summary.{Summary}
 use Rattle.capture.proofs.Headings.{then-given}
-use Rattle.capture.proofs.Stores.{stored-onto}
+use Rattle.measure.proofs.Laid.{laid-first}
 
 -- a heading's capture with runs
 abbrev pub captured : Heading → List ℕ → Capture
@@ -78,4 +78,4 @@ module _ (s out : List ℕ) where
         read-whole out′ o =
             let p : sets out 0 reads ≡ out′ = cc (rw (good .1 .0) at o) in
             let q : length reads ≤ length out = omega (arith, count) in
-            read-good ∙ rw (le-ltb (length out) (length reads) q) (ap (λ (l : List ℕ). (given x, l)) (sym (stored-onto reads out q) ∙ p))
+            read-good ∙ rw (le-ltb (length out) (length reads) q) (ap (λ (l : List ℕ). (given x, l)) (sym (laid-first reads out q) ∙ p))

@@ -10,7 +10,7 @@ use lib.Seq.{sets}
 use borrow.Author.Tests.{lt-ltb, le-ltb}
 use Rattle.capture.specs.Numbers.{further, bound, grouped, spelled}
 use Rattle.capture.proofs.Groups.{bound-suc}
-use Rattle.capture.proofs.Stores.{Stored, stored-none, stored-one, stored-all}
+use Rattle.measure.proofs.Stores.{Stored, stored-none, stored-one, stored-all}
 
 pub grouped-one : (more v : ℕ) → v < 128 → grouped more v ≡ v ∷ []
 unfolding grouped

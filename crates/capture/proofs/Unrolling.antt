@@ -13,7 +13,7 @@ use Rattle.capture.specs.Numbers.{Numeral, numberAt}
 use Rattle.capture.specs.Capture.{then, runsFrom, readsOf}
 use Rattle.capture.proofs.Groups.{Bytes}
 use Rattle.capture.proofs.Runs.{Next, next-refused, next-is, runs-end}
-use Rattle.capture.proofs.Stores.{Stored, stored-none, stored-part, stored-all}
+use Rattle.measure.proofs.Stores.{Stored, stored-none, stored-part, stored-all}
 
 -- runs that are had, and whose reads have room
 roomy : (answer : Answer (List ℕ)) (level room : ℕ) → then answer (λ runs. given (leb (length (readsOf level runs)) room)) ≡ given true

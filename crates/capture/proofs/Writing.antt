@@ -13,7 +13,7 @@ use Rattle.capture.specs.Numbers.{further, bound, spelled}
 use Rattle.capture.specs.Writing.{firstLevel, runsOf, numbers, captureOf}
 use Rattle.capture.specs.Refusals.{written}
 use Rattle.capture.proofs.Headings.{in-range}
-use Rattle.capture.proofs.Stores.{Stored, stored-none}
+use Rattle.measure.proofs.Stores.{Stored, stored-none}
 
 -- settings that are in range
 abbrev pub InRange : ℕ → ℕ → ℕ → Type 0

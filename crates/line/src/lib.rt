@@ -290,6 +290,7 @@ fn choice(choices: &[u8], used: usize) -> u8
     }
 }
 
+// One store for both kinds of read, so that the loop has one way round.
 fn settle_into(reads: &[u8], choices: &[u8], out: &mut [u8])
     requires { ⌜ length (now reads) ≤ length (now out) ⌝ }
     ensures { λ _. ⌜ onto (settling (now (reads .entry)) (now (choices .entry))) (now (out .entry)) ≡ now (out .exit) ⌝ }
@@ -297,13 +298,12 @@ fn settle_into(reads: &[u8], choices: &[u8], out: &mut [u8])
     let mut used = 0;
     let mut i = 0;
     while i < reads.len() {
-        let read = reads[i];
-        if read == UNKNOWN {
-            out[i] = choice(choices, used);
+        let mut level = reads[i];
+        if level == UNKNOWN {
+            level = choice(choices, used);
             used += 1;
-        } else {
-            out[i] = read;
         }
+        out[i] = level;
         i += 1;
     }
 }

@@ -32,10 +32,10 @@ fn fill(out: &mut [u8], from: usize, count: usize, level: u8)
     requires { ⌜ from + count ≤ length (now out) ⌝ }
     ensures { λ _. ⌜ sets (now (out .entry)) from (replicate count level) ≡ now (out .exit) ⌝ }
 {
-    let end = from + count;
-    let mut i = from;
-    while i < end {
-        out[i] = level;
+    let mut i = 0;
+    while i < count {
+        let place = from + i;
+        out[place] = level;
         i += 1;
     }
 }

@@ -1,7 +1,7 @@
 -- `fill` meets its contract: each turn stores the level once, and the rest of the run is still to come.
 use Prim.Native.Nat.{_-_}
 use native.Mathlib.Omega.{arith}
-use Rattle.capture.proofs.Stores.{Filled, filled-none, filled-one, filled-all}
+use Rattle.measure.proofs.Stores.{Filled, filled-none, filled-one, filled-all}
 use Rattle.capture.proofs.fill.Statement.{statement}
 use Rattle.capture.proofs.fill.Tie as tie
 

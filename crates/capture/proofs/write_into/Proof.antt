@@ -5,7 +5,8 @@ use native.Mathlib.Omega.{arith}
 use borrow.Author.Needs.{needs}
 use Rattle.capture.specs.Numbers.{spelled}
 use Rattle.capture.specs.Writing.{captureOf, runsOf, numbers}
-use Rattle.capture.proofs.Stores.{Stored, stored-part, stored-room, stored-next, stored-onto}
+use Rattle.measure.proofs.Laid.{laid-first}
+use Rattle.measure.proofs.Stores.{Stored, stored-part, stored-room, stored-next}
 use Rattle.capture.proofs.Writing.{settings-low, capture-begun}
 use Rattle.capture.proofs.write_into.Statement.{statement}
 use Rattle.capture.proofs.write_into.Tie as tie
@@ -52,7 +53,7 @@ same-length c = search needs
 returns : tie.Need-returns
 returns c =
     let a = c .before .before .before .before .before .before .before .before .before .before .before .before .before .before .before .before .before .before .before .before .before .before .before .args in
-    c .before .before .put-runs .ensures ∙ level-put (c .before .before .before .before .before .before) .whole ∙ stored-onto (captureOf (a .k) (a .n) (a .q) (a .reads .now)) (a .out .now) (c .before .before .before .before .before .before .before .before .before .before .before .before .before .before .before .before .before .before .before .before .before .before .before .pre .1)
+    c .before .before .put-runs .ensures ∙ level-put (c .before .before .before .before .before .before) .whole ∙ laid-first (captureOf (a .k) (a .n) (a .q) (a .reads .now)) (a .out .now) (c .before .before .before .before .before .before .before .before .before .before .before .before .before .before .before .before .before .before .before .before .before .before .before .pre .1)
 
 pub write-into-spec : {M : Type 1} → statement M
 write-into-spec =

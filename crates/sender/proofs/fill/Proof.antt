@@ -1,31 +1,25 @@
--- `fill` meets its contract: what is left to lay down, laid down on the output as it is, gives the same as all of it at the start.
-use mathlib.Core.Path.{_≡_, refl, sym, _∙_}
-use Prim.Native.Nat.{_+_, _-_, _≤_}
+-- `fill` meets its contract: each turn lays one cycle down.
+use mathlib.Core.Path.{sym}
+use Prim.Native.Nat.{_-_}
 use native.Mathlib.Omega.{arith}
-use lib.ListN.{length, replicate, length-set}
-use lib.Seq.{sets}
-use Rattle.sender.proofs.Placed.{placed-one}
+use Rattle.measure.proofs.Stores.{Filled, filled-none, filled-one, filled-all}
 use Rattle.sender.proofs.fill.Statement.{statement}
 use Rattle.sender.proofs.fill.Tie as tie
 
 abbrev Inv-loop : tie.InvT-loop
-Inv-loop out₀ from count level end i₀ out i =
-    (i ≤ end) × (length out ≡ length out₀) × (sets out₀ from (replicate count level) ≡ sets out i (replicate (end - i) level))
+Inv-loop out₀ from count level i₀ out i = Filled out₀ from count level out i
 
 abbrev μ-loop : tie.MeasureT-loop
-μ-loop out₀ from count level end i₀ out i = end - i
-
-add-end : tie.Need-add-end Inv-loop μ-loop
-add-end c = omega arith
+μ-loop out₀ from count level i₀ out i = count - i
 
 loop-holds : tie.Need-loop-holds Inv-loop μ-loop
-loop-holds c =
-    let args = c .args in
-    let all : args .from + args .count - args .from ≡ args .count = omega arith in
-    (omega arith, refl, rw all)
+loop-holds c = filled-none _ _ _ _
+
+add-place : tie.Need-add-place Inv-loop μ-loop
+add-place c = omega arith
 
 slice-write-out : tie.Need-slice-write-out Inv-loop μ-loop
-slice-write-out c = omega arith
+slice-write-out c = omega (arith, c .before .loop .inv .stored .size)
 
 add-i : tie.Need-add-i Inv-loop μ-loop
 add-i c = omega arith
@@ -34,18 +28,13 @@ loop-less : tie.Need-loop-less Inv-loop μ-loop
 loop-less c = omega arith
 
 loop-again : tie.Need-loop-again Inv-loop μ-loop
-loop-again c =
-    let inv = c .before .loop .inv in
-    (omega arith, simp length-set (inv .1), inv .2 ∙ placed-one _ _ _ _ (c .loop-test .taken))
+loop-again c = filled-one (c .before .loop .inv) (c .loop-test .taken)
 
 same-length : tie.Need-same-length Inv-loop μ-loop
-same-length c = c .before .loop .inv .1
+same-length c = c .before .loop .inv .stored .size
 
 returns : tie.Need-returns Inv-loop μ-loop
-returns c =
-    let start = c .before .before in
-    let none : start .args .from + start .args .count - c .before .loop .i ≡ 0 = omega arith in
-    rw none at (c .before .loop .inv .2)
+returns c = sym (filled-all (c .before .loop .inv) (c .loop-test .left))
 
 pub fill-spec : {M : Type 1} → statement M
 fill-spec =
@@ -53,8 +42,8 @@ fill-spec =
     (tie.spec
     Inv-loop
     μ-loop
-    add-end
     loop-holds
+    add-place
     slice-write-out
     add-i
     loop-less
