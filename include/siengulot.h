@@ -1,0 +1,356 @@
+/*
+ * siengulot.h: the link software of a departure board, for C and C++.
+ *
+ * Link with libsiengulot.a, which `rt staticlib siengulot` leaves in target/staticlib. The archive is for x86-64 Linux.
+ *
+ * What holds of every function here:
+ *
+ * - It returns the number of its refusal, and 0 where it refuses nothing (enum siengulot_refusal). siengulot_well_formed alone returns a yes or no.
+ * - Faults are looked for in the order 1, 3, 2, 4, 5, and the first that is there is returned. A capture has an order of its own, said with
+ *   siengulot_capture_check.
+ * - Each single number that is lent (place, count, accepted, event, found, used) is written with every answer, a refusal included. `place` is 0 but
+ *   for refusals 2, 6, 7 and 8.
+ * - A result stands at the front of its lent output, and the rest of the output is untouched. With every refusal but 5 the whole output is untouched.
+ * - Levels and bits are bytes, 0 or 1. An unknown level is 2.
+ * - A pointer must be valid for its length, and not NULL even where that is 0. What a function writes must not overlap anything else that is lent
+ *   to the same call.
+ * - It uses no memory but what is lent to it and the stack, and keeps nothing from one call to the next.
+ */
+#ifndef SIENGULOT_H
+#define SIENGULOT_H
+
+#include <stddef.h>
+#include <stdint.h>
+
+#if SIZE_MAX != UINT64_MAX
+#error "libsiengulot.a is for x86-64, where a size_t has 64 bits"
+#endif
+
+#ifdef __cplusplus
+extern "C" {
+#endif
+
+/* The ranges of the settings, and the limits of the lists. */
+enum {
+    SIENGULOT_SUBCELL_LEAST = 1, /* a and b, in writer cycles */
+    SIENGULOT_SUBCELL_MOST = 255,
+    SIENGULOT_SAMPLING_LEAST = 1, /* k, in read cycles */
+    SIENGULOT_SAMPLING_MOST = 511,
+    SIENGULOT_CYCLE_LEAST = 1, /* w and r, in time units */
+    SIENGULOT_CYCLE_MOST = 65535,
+    SIENGULOT_PAD_MOST = 65535, /* p1 and p2, in writer cycles */
+    SIENGULOT_BITS_LEAST = 1,   /* n of a row; the counted receiver takes 0 too */
+    SIENGULOT_BITS_MOST = 1024, /* n, and the bits of a message */
+    SIENGULOT_QUIET_LEAST = 2,  /* Q, in reads */
+    SIENGULOT_QUIET_MOST = 8191,
+    SIENGULOT_ROWS_MOST = 1024,       /* rows of a plan */
+    SIENGULOT_ENTRIES_MOST = 1048576, /* entries of a wave, of reads, of choices */
+    SIENGULOT_CAPTURE_MOST = 1048583  /* bytes of a capture */
+};
+
+/* Levels. */
+enum { SIENGULOT_LOW = 0, SIENGULOT_HIGH = 1, SIENGULOT_UNKNOWN = 2 };
+
+/* The numbers of the refusals. */
+enum siengulot_refusal {
+    SIENGULOT_NO_REFUSAL = 0,
+    SIENGULOT_SETTING = 1, /* a setting or a level in force out of range, a plan whose lists do not fit, a receiver that is not well formed */
+    SIENGULOT_ENTRY = 2,   /* an entry that is not of the kind taken; `place` is where the first such entry stands */
+    SIENGULOT_LIMIT = 3,   /* a list over its limit, or a result that would be */
+    SIENGULOT_ROOM = 4,    /* a lent output shorter than the result */
+    SIENGULOT_RAN_OUT = 5, /* the counted receiver came to the end of the reads */
+    SIENGULOT_CUT = 6,     /* a capture ends inside a number or before its fourth */
+    SIENGULOT_FORM = 7,    /* a capture's number is not in its shortest form, or is longer than three bytes */
+    SIENGULOT_RANGE = 8    /* a capture's number is out of range for its place */
+};
+
+/*
+ * Judging settings
+ */
+
+/*
+ * The judge. Gives the margins M1, M2 and M3, and in `accepted` 1 if all three are zero or more, else 0.
+ * Refuses with
+ *   1  a or b out of 1 to 255, k out of 1 to 511, or w or r out of 1 to 65,535.
+ * Leaves with a refusal `margins` as they were, and 0 in `accepted`.
+ */
+size_t siengulot_judge(size_t a, size_t b, size_t k, size_t w, size_t r, int64_t margins[3], size_t *accepted);
+
+/*
+ * The quiet judge. Gives the margins M1 to M5, and in `accepted` 1 if all five are zero or more, else 0.
+ * Refuses with
+ *   1  what the judge refuses, Q out of 2 to 8,191, or p1 above 65,535.
+ * Leaves with a refusal `margins` as they were, and 0 in `accepted`.
+ */
+size_t siengulot_judge_quiet(size_t a, size_t b, size_t k, size_t w, size_t r, size_t q, size_t p1, int64_t margins[5], size_t *accepted);
+
+/*
+ * Sending
+ */
+
+/*
+ * Sends a message. Gives its wave at the front of `out`, and in `count` how many cycles it has: p1 + bits_length * (a + b) + p2.
+ * A message may have no bits.
+ * Refuses with
+ *   1  a or b out of 1 to 255, or p1 or p2 above 65,535;
+ *   3  more than 1,024 bits;
+ *   2  an entry of `bits` above 1, at `place`;
+ *   4  `out` shorter than the wave.
+ * Leaves with a refusal `out` as it was, and 0 in `count`.
+ */
+size_t siengulot_send(size_t a, size_t b, size_t p1, size_t p2, const uint8_t *bits, size_t bits_length, uint8_t *out, size_t out_length,
+                      size_t *place, size_t *count);
+
+/*
+ * Sends a plan of rows. Row i has the lead pad leads[i], the trail pad trails[i], and the n entries of `bits` from i * n on.
+ * Gives the wave of all rows at the front of `out`, and in `count` how many cycles it has.
+ * Refuses with
+ *   1  a or b out of 1 to 255, n out of 1 to 1,024, a pad above 65,535, no row, more or fewer trail pads than lead pads, or another number of
+ *      bits than n for each row;
+ *   3  more than 1,024 rows, or a wave of more than 1,048,576 cycles;
+ *   2  an entry of `bits` above 1, at `place`;
+ *   4  `out` shorter than the wave.
+ * Leaves with a refusal `out` as it was, and 0 in `count`.
+ */
+size_t siengulot_plan(size_t a, size_t b, size_t n, const size_t *leads, size_t leads_length, const size_t *trails, size_t trails_length,
+                      const uint8_t *bits, size_t bits_length, uint8_t *out, size_t out_length, size_t *place, size_t *count);
+
+/*
+ * The model of the line
+ */
+
+/*
+ * Pass 1, smooth. Gives `wave` at the front of `out` with each cycle unknown whose level is not that of the cycle before (the first is held to
+ * high), and in `count` how many cycles it has, which is wave_length.
+ * Refuses with
+ *   3  more than 1,048,576 cycles;
+ *   2  an entry of `wave` above 1, at `place`;
+ *   4  `out` shorter than `wave`.
+ * Leaves with a refusal `out` as it was, and 0 in `count`.
+ */
+size_t siengulot_smooth(const uint8_t *wave, size_t wave_length, uint8_t *out, size_t out_length, size_t *place, size_t *count);
+
+/*
+ * Pass 2, warp. Gives the reads of `wave` at the front of `out`, and in `count` how many there are: (wave_length * w - p) / r rounded down,
+ * and none of no cycle.
+ * Refuses with
+ *   1  w or r out of 1 to 65,535, or p not below w;
+ *   3  more than 1,048,576 cycles, or more than 1,048,576 reads;
+ *   2  an entry of `wave` above 2, at `place`;
+ *   4  `out` shorter than the reads.
+ * Leaves with a refusal `out` as it was, and 0 in `count`.
+ */
+size_t siengulot_warp(size_t w, size_t r, size_t p, const uint8_t *wave, size_t wave_length, uint8_t *out, size_t out_length, size_t *place,
+                      size_t *count);
+
+/*
+ * Pass 3, settle. Gives `reads` at the front of `out` with each unknown read made the next of `choices`, or low once these have run out, and in
+ * `count` how many reads there are, which is reads_length.
+ * Refuses with
+ *   3  more than 1,048,576 reads, or more than 1,048,576 choices;
+ *   2  an entry of `reads` above 2, at `place`, or else an entry of `choices` above 1, used or not, at `place` among the choices;
+ *   4  `out` shorter than `reads`.
+ * Leaves with a refusal `out` as it was, and 0 in `count`.
+ */
+size_t siengulot_settle(const uint8_t *reads, size_t reads_length, const uint8_t *choices, size_t choices_length, uint8_t *out,
+                        size_t out_length, size_t *place, size_t *count);
+
+/*
+ * The counted receiver
+ */
+
+/*
+ * Receives n bits, with `level` in force before the first read. Gives the bits at the front of `out`, a byte for each, and n in `count`.
+ * Refuses with
+ *   1  k out of 1 to 511, n above 1,024, or `level` above 1;
+ *   3  more than 1,048,576 reads;
+ *   2  an entry of `reads` above 1, at `place`;
+ *   4  `out` shorter than n;
+ *   5  a mark or a sample that is not there, since the reads have run out.
+ * Leaves with refusals 1 to 4 `out` as it was, and 0 in `count`; with 5 the bits found at the front of `out`, the rest as it was, and in `count`
+ * how many were found.
+ */
+size_t siengulot_counted(size_t k, size_t n, size_t level, const uint8_t *reads, size_t reads_length, uint8_t *out, size_t out_length,
+                         size_t *place, size_t *count);
+
+/*
+ * The row receiver
+ *
+ * A receiver is the caller's memory: a siengulot_receiver, started once, and then given reads as they come. What a read brings is an event.
+ */
+
+/* Where each number of a receiver stands in `numbers`. */
+enum siengulot_number {
+    SIENGULOT_K = 0,     /* the sampling count, in reads */
+    SIENGULOT_N = 1,     /* the bits of a row */
+    SIENGULOT_Q = 2,     /* the quiet count, in reads */
+    SIENGULOT_MODE = 3,  /* a siengulot_mode; a greater number is no mode, and the receiver is then not well formed */
+    SIENGULOT_RUN = 4,   /* the latest high reads in a row, counted up to Q */
+    SIENGULOT_LEFT = 5,  /* in counting the reads up to the sample, otherwise 0 */
+    SIENGULOT_LEVEL = 6, /* in counting the level of the mark, in waiting that of the sample, otherwise 1 */
+    SIENGULOT_FOUND = 7, /* how many bits of a row in progress have been found */
+    SIENGULOT_NUMBERS = 8
+};
+
+/* What a receiver is doing. */
+enum siengulot_mode {
+    SIENGULOT_HUNTING = 0,  /* until Q high reads have come one behind another */
+    SIENGULOT_READY = 1,    /* they have, and the next low read is the mark of a row's first bit */
+    SIENGULOT_COUNTING = 2, /* in a row, from a mark to its sample */
+    SIENGULOT_WAITING = 3   /* in a row, from a sample to the next mark */
+};
+
+/* What reads bring. */
+enum siengulot_event {
+    SIENGULOT_NOTHING = 0,
+    SIENGULOT_ROW = 1,   /* a row is delivered */
+    SIENGULOT_BROKEN = 2 /* a row in progress was broken off by Q high reads, and is forgotten */
+};
+
+/* Bytes that hold the bits of a row. Bit i stands in byte i / 8, at weight 2 to the power i % 8; places beyond the row's last bit hold 0. */
+enum { SIENGULOT_ROW_BYTES = 128 };
+
+/* A receiver. */
+typedef struct siengulot_receiver {
+    size_t numbers[SIENGULOT_NUMBERS]; /* enum siengulot_number says which is which */
+    uint8_t bits[SIENGULOT_ROW_BYTES]; /* the bits found of a row in progress */
+} siengulot_receiver;
+
+/* What a receiver has heard. */
+typedef struct siengulot_heard {
+    size_t event;                     /* a siengulot_event */
+    size_t found;                     /* of a broken row how many of its bits had been found, otherwise 0 */
+    size_t used;                      /* how many reads were taken, the event's own the last of them */
+    size_t place;                     /* the place of a refusal */
+    uint8_t row[SIENGULOT_ROW_BYTES]; /* the bits of the last row that was delivered into it */
+} siengulot_heard;
+
+/*
+ * The entry points. They take a receiver as its eight numbers and its 128 bytes; the inline functions below them take a siengulot_receiver.
+ */
+
+/*
+ * Starts a receiver. Gives in `numbers` and `bits` one that is hunting with run 0 and no bits.
+ * Refuses with
+ *   1  k out of 1 to 511, n out of 1 to 1,024, or Q out of 2 to 8,191.
+ * Leaves with a refusal 0 in all of `numbers` and `bits`, which is not well formed.
+ */
+size_t siengulot_fresh(size_t k, size_t n, size_t q, size_t numbers[SIENGULOT_NUMBERS], uint8_t bits[SIENGULOT_ROW_BYTES]);
+
+/*
+ * Gives 1 if a receiver is well formed, else 0. Any numbers and bytes may be asked about.
+ * Refuses nothing.
+ * Leaves everything as it was.
+ */
+size_t siengulot_well_formed(const size_t numbers[SIENGULOT_NUMBERS], const uint8_t bits[SIENGULOT_ROW_BYTES]);
+
+/*
+ * Takes one read. Gives in `event` what it brings: nothing, a row, whose bits are then in `row`, or a broken row, of which `found` bits had been
+ * found. `numbers` and `bits` are then the receiver after the read. `found` is 0 with any other event, and `row` as it was.
+ * Refuses with
+ *   1  a receiver that is not well formed;
+ *   2  a read above 1, at place 0.
+ * Leaves with a refusal `numbers`, `bits` and `row` as they were, and 0 in `event` and `found`.
+ */
+size_t siengulot_step(size_t numbers[SIENGULOT_NUMBERS], uint8_t bits[SIENGULOT_ROW_BYTES], uint8_t read, uint8_t row[SIENGULOT_ROW_BYTES],
+                      size_t *event, size_t *found, size_t *place);
+
+/*
+ * Takes reads up to and with the first that brings an event, or all of them. Gives `event`, `row` and `found` as siengulot_step does, and in
+ * `used` how many reads it took. Reads behind the event's are not looked at.
+ * Refuses with
+ *   1  a receiver that is not well formed;
+ *   3  more than 1,048,576 reads;
+ *   2  a read above 1, at `place`, where no event comes before it.
+ * Leaves with a refusal `numbers`, `bits` and `row` as they were, and 0 in `event`, `found` and `used`.
+ */
+size_t siengulot_listen(size_t numbers[SIENGULOT_NUMBERS], uint8_t bits[SIENGULOT_ROW_BYTES], const uint8_t *reads, size_t reads_length,
+                        uint8_t row[SIENGULOT_ROW_BYTES], size_t *event, size_t *found, size_t *used, size_t *place);
+
+/* Starts a receiver, as siengulot_fresh does. */
+static inline size_t siengulot_receiver_fresh(siengulot_receiver *receiver, size_t k, size_t n, size_t q)
+{
+    return siengulot_fresh(k, n, q, receiver->numbers, receiver->bits);
+}
+
+/* Gives 1 if a receiver is well formed, else 0, as siengulot_well_formed does. */
+static inline size_t siengulot_receiver_well_formed(const siengulot_receiver *receiver)
+{
+    return siengulot_well_formed(receiver->numbers, receiver->bits);
+}
+
+/* Takes one read, as siengulot_step does. `heard->used` is 1, or 0 with a refusal. */
+static inline size_t siengulot_receiver_step(siengulot_receiver *receiver, uint8_t read, siengulot_heard *heard)
+{
+    size_t refusal = siengulot_step(receiver->numbers, receiver->bits, read, heard->row, &heard->event, &heard->found, &heard->place);
+    heard->used = refusal == SIENGULOT_NO_REFUSAL ? 1 : 0;
+    return refusal;
+}
+
+/* Takes reads up to and with the first that brings an event, or all of them, as siengulot_listen does. */
+static inline size_t siengulot_receiver_listen(siengulot_receiver *receiver, const uint8_t *reads, size_t reads_length, siengulot_heard *heard)
+{
+    return siengulot_listen(receiver->numbers, receiver->bits, reads, reads_length, heard->row, &heard->event, &heard->found, &heard->used,
+                            &heard->place);
+}
+
+/* Gives bit i of a row, 0 or 1. i must be below 1,024. */
+static inline unsigned siengulot_row_bit(const uint8_t row[SIENGULOT_ROW_BYTES], size_t i)
+{
+    return (unsigned)(row[i / 8] >> (i % 8)) & 1u;
+}
+
+/*
+ * Captures
+ */
+
+/* Where each number stands in a capture's summary. */
+enum siengulot_summary {
+    SIENGULOT_SUMMARY_K = 0,
+    SIENGULOT_SUMMARY_N = 1,
+    SIENGULOT_SUMMARY_Q = 2,
+    SIENGULOT_SUMMARY_READS = 3, /* how many reads the capture has */
+    SIENGULOT_SUMMARY_RUNS = 4,  /* and in how many runs of equal reads */
+    SIENGULOT_SUMMARY_NUMBERS = 5
+};
+
+/*
+ * Checks a capture. Gives in `summary` its k, n and Q, and how many reads and runs it has.
+ * Refuses with
+ *   3  more than 1,048,583 bytes;
+ * then number by number from the left, each at the `place` of its first byte,
+ *   6  a capture that ends inside a number or before its fourth (`place` is bytes_length where nothing of the number is there);
+ *   7  a number that is not in shortest form, or whose third byte has the top bit set;
+ *   8  k, n, Q or the first level out of range, a run of 0, a run with which the reads become more than 1,048,576, or a first level of 0 with no
+ *      run behind it (`place` is then the level's).
+ * Leaves with a refusal `summary` as it was.
+ */
+size_t siengulot_capture_check(const uint8_t *bytes, size_t bytes_length, size_t summary[SIENGULOT_SUMMARY_NUMBERS], size_t *place);
+
+/*
+ * Reads a capture. Gives its summary, and its reads at the front of `out`.
+ * Refuses with
+ *   3, 6, 7, 8  what siengulot_capture_check refuses; and last
+ *   4  `out` shorter than the reads.
+ * Leaves with a refusal `out` and `summary` as they were.
+ */
+size_t siengulot_capture_read(const uint8_t *bytes, size_t bytes_length, uint8_t *out, size_t out_length,
+                              size_t summary[SIENGULOT_SUMMARY_NUMBERS], size_t *place);
+
+/*
+ * Writes reads as a capture. Gives the capture at the front of `out`, and in `count` how many bytes it has.
+ * Refuses with
+ *   1  k out of 1 to 511, n out of 1 to 1,024, or Q out of 2 to 8,191;
+ *   3  more than 1,048,576 reads;
+ *   2  an entry of `reads` above 1, at `place`;
+ *   4  `out` shorter than the capture.
+ * Leaves with a refusal `out` as it was, and 0 in `count`.
+ */
+size_t siengulot_capture_write(size_t k, size_t n, size_t q, const uint8_t *reads, size_t reads_length, uint8_t *out, size_t out_length,
+                               size_t *place, size_t *count);
+
+#ifdef __cplusplus
+}
+#endif
+
+#endif

@@ -1,0 +1,270 @@
+/*
+ * Holds include/siengulot.h to the library: the sizes that cross, every entry point called as C calls it, with the worked numbers of document 01,
+ * and each inline function beside the entry point that it wraps. Guards stand in front of and behind what is lent.
+ */
+#include <siengulot.h>
+#include <stdio.h>
+#include <string.h>
+
+/* What crosses has the size that the library takes it to have. */
+#define HOLDS(name, fact) typedef char name[(fact) ? 1 : -1]
+HOLDS(a_number_has_eight_bytes, sizeof(size_t) == 8);
+HOLDS(a_margin_has_eight_bytes, sizeof(int64_t) == 8);
+HOLDS(a_receiver_has_no_gaps, sizeof(siengulot_receiver) == 8 * sizeof(size_t) + 128);
+HOLDS(bits_stand_behind_numbers, offsetof(siengulot_receiver, bits) == 8 * sizeof(size_t));
+HOLDS(a_row_has_room_for_the_most_bits, SIENGULOT_ROW_BYTES * 8 == SIENGULOT_BITS_MOST);
+HOLDS(heard_row_is_a_row, sizeof(((siengulot_heard *)0)->row) == SIENGULOT_ROW_BYTES);
+
+enum { GUARD = 0xA5, WIDTH = 16, ROOM = 64 };
+
+static int faults;
+
+static void expect(int fact, const char *what)
+{
+    if (!fact) {
+        fprintf(stderr, "header: %s\n", what);
+        faults++;
+    }
+}
+
+/* A lent output between two guards. */
+static uint8_t ground[WIDTH + ROOM + WIDTH];
+static uint8_t *const out = ground + WIDTH;
+static size_t place, count;
+
+static void lend(void)
+{
+    memset(ground, GUARD, sizeof ground);
+    place = count = 99;
+}
+
+/* The output has these entries at its front, and nothing else of it or around it was written. */
+static void expect_out(const char *what, const char *entries)
+{
+    size_t length = strlen(entries), wrong = 0;
+    for (size_t i = 0; i < sizeof ground; i++) {
+        int inside = i >= WIDTH && i - WIDTH < length;
+        int expected = inside ? entries[i - WIDTH] - '0' : GUARD;
+        wrong += ground[i] != expected;
+    }
+    expect(wrong == 0, what);
+}
+
+static void expect_answer(const char *what, size_t refusal, size_t number, size_t at, size_t length)
+{
+    expect(refusal == number && place == at && count == length, what);
+}
+
+static void judging(void)
+{
+    int64_t three[3] = {7, 7, 7}, five[5] = {7, 7, 7, 7, 7};
+    size_t accepted = 9;
+
+    expect(siengulot_judge(5, 13, 10, 100, 141, three, &accepted) == SIENGULOT_NO_REFUSAL, "judge refuses P8");
+    expect(three[0] == 118 && three[1] == 669 && three[2] == 8 && accepted == 1, "judge of P8, r 141");
+    siengulot_judge(5, 13, 10, 100, 142, three, &accepted);
+    expect(three[0] == 116 && three[1] == 678 && three[2] == -4 && accepted == 0, "judge of P8, r 142");
+    accepted = 9;
+    expect(siengulot_judge(SIENGULOT_SUBCELL_MOST + 1, 13, 10, 100, 141, three, &accepted) == SIENGULOT_SETTING, "judge takes a 256");
+    expect(three[2] == -4 && accepted == 0, "judge writes margins though it refuses");
+
+    expect(siengulot_judge_quiet(5, 13, 10, 100, 100, 21, 23, five, &accepted) == SIENGULOT_NO_REFUSAL, "quiet judge refuses P10");
+    expect(five[0] == 200 && five[1] == 300 && five[2] == 500 && five[3] == 0 && five[4] == 0 && accepted == 1, "quiet judge of P10");
+    siengulot_judge_quiet(5, 13, 10, 100, 100, 21, 22, five, &accepted);
+    expect(five[4] == -100 && accepted == 0, "quiet judge of P10, p1 22");
+    expect(siengulot_judge_quiet(5, 13, 10, 100, 100, SIENGULOT_QUIET_LEAST - 1, 22, five, &accepted) == SIENGULOT_SETTING, "quiet judge takes Q 1");
+}
+
+static void sending(void)
+{
+    static const uint8_t bits[2] = {1, 0}, bad[2] = {1, 2};
+    static const size_t leads[2] = {2, 0}, trails[2] = {1, 1};
+    static const uint8_t rows[2] = {1, 0};
+
+    lend();
+    expect_answer("send of P1", siengulot_send(2, 3, 2, 1, bits, 2, out, ROOM, &place, &count), 0, 0, 13);
+    expect_out("wave of P1", "1100111000001");
+    lend();
+    expect_answer("send of no level", siengulot_send(2, 3, 2, 1, bad, 2, out, ROOM, &place, &count), SIENGULOT_ENTRY, 1, 0);
+    expect_out("send writes though it refuses", "");
+    lend();
+    expect_answer("send into no room", siengulot_send(2, 3, 2, 1, bits, 2, out, 12, &place, &count), SIENGULOT_ROOM, 0, 0);
+    expect_out("send writes into no room", "");
+    lend();
+    expect_answer("send of nothing", siengulot_send(2, 3, 0, 0, bits, 0, out, 0, &place, &count), 0, 0, 0);
+    expect_out("send of nothing writes", "");
+
+    lend();
+    expect_answer("plan", siengulot_plan(2, 3, 1, leads, 2, trails, 2, rows, 2, out, ROOM, &place, &count), 0, 0, 14);
+    expect_out("wave of a plan", "11001111000001");
+    lend();
+    expect_answer("plan of lists that do not fit", siengulot_plan(2, 3, 1, leads, 2, trails, 1, rows, 2, out, ROOM, &place, &count), SIENGULOT_SETTING, 0, 0);
+    expect_out("plan writes though it refuses", "");
+}
+
+static void line(void)
+{
+    static const uint8_t wave[13] = {1, 1, 0, 0, 1, 1, 1, 0, 0, 0, 0, 0, 1};
+    static const uint8_t smoothed[13] = {1, 1, 2, 0, 2, 1, 1, 2, 0, 0, 0, 0, 2};
+    static const uint8_t reads[12] = {1, 2, 2, 2, 2, 1, 2, 2, 0, 0, 0, 2};
+    static const uint8_t choices[4] = {1, 0, 0, 1}, bad[4] = {1, 0, 0, 2};
+
+    lend();
+    expect_answer("smooth", siengulot_smooth(wave, 13, out, ROOM, &place, &count), 0, 0, 13);
+    expect_out("P2", "1120211200002");
+    lend();
+    expect_answer("smooth of an unknown level", siengulot_smooth(smoothed, 13, out, ROOM, &place, &count), SIENGULOT_ENTRY, 2, 0);
+    expect_out("smooth writes though it refuses", "");
+
+    lend();
+    expect_answer("warp", siengulot_warp(4, 4, 1, smoothed, 13, out, ROOM, &place, &count), 0, 0, 12);
+    expect_out("P3", "122221220002");
+    lend();
+    expect_answer("warp from phase 0", siengulot_warp(4, 4, 0, smoothed, 13, out, 13, &place, &count), 0, 0, 13);
+    expect_out("P3 with p 0", "1120211200002");
+    lend();
+    expect_answer("warp of p not below w", siengulot_warp(4, 4, 4, smoothed, 13, out, ROOM, &place, &count), SIENGULOT_SETTING, 0, 0);
+    expect_answer("warp into no room", siengulot_warp(4, 4, 1, smoothed, 13, out, 11, &place, &count), SIENGULOT_ROOM, 0, 0);
+    expect_out("warp writes though it refuses", "");
+
+    lend();
+    expect_answer("settle", siengulot_settle(reads, 12, choices, 4, out, ROOM, &place, &count), 0, 0, 12);
+    expect_out("P4", "110011000000");
+    lend();
+    expect_answer("settle by no choice", siengulot_settle(reads, 12, bad, 4, out, ROOM, &place, &count), SIENGULOT_ENTRY, 3, 0);
+    expect_out("settle writes though it refuses", "");
+}
+
+static void counting(void)
+{
+    static const uint8_t wave[13] = {1, 1, 0, 0, 1, 1, 1, 0, 0, 0, 0, 0, 1};
+
+    lend();
+    expect_answer("counted", siengulot_counted(3, 2, 1, wave, 13, out, ROOM, &place, &count), 0, 0, 2);
+    expect_out("P7", "10");
+    lend();
+    expect_answer("counted past the end", siengulot_counted(3, 3, 1, wave, 13, out, ROOM, &place, &count), SIENGULOT_RAN_OUT, 0, 2);
+    expect_out("P7 with n 3", "10");
+    lend();
+    expect_answer("counted from level 257", siengulot_counted(3, 2, 257, wave, 13, out, ROOM, &place, &count), SIENGULOT_SETTING, 0, 0);
+    expect_out("counted writes though it refuses", "");
+}
+
+/* The example of document 01: k 2, n 2, Q 6, and these 26 reads. */
+static const uint8_t capture[11] = {0x02, 0x02, 0x06, 0x01, 0x06, 0x02, 0x01, 0x03, 0x06, 0x02, 0x06};
+static const char reads_of_it[] = "11111100100011111100111111";
+
+static void captures(void)
+{
+    size_t summary[5] = {7, 7, 7, 7, 7};
+    uint8_t reads[26];
+
+    lend();
+    expect(siengulot_capture_check(capture, 11, summary, &place) == 0 && place == 0, "check refuses the example");
+    expect(summary[SIENGULOT_SUMMARY_K] == 2 && summary[SIENGULOT_SUMMARY_N] == 2 && summary[SIENGULOT_SUMMARY_Q] == 6, "settings of the example");
+    expect(summary[SIENGULOT_SUMMARY_READS] == 26 && summary[SIENGULOT_SUMMARY_RUNS] == 7, "reads and runs of the example");
+    expect(siengulot_capture_check(capture, 3, summary, &place) == SIENGULOT_CUT && place == 3, "check takes three numbers");
+    expect(summary[SIENGULOT_SUMMARY_READS] == 26, "check writes a summary though it refuses");
+
+    lend();
+    summary[SIENGULOT_SUMMARY_READS] = 7;
+    expect(siengulot_capture_read(capture, 11, out, ROOM, summary, &place) == 0 && place == 0, "read refuses the example");
+    expect(summary[SIENGULOT_SUMMARY_READS] == 26, "read gives no summary");
+    expect_out("reads of the example", reads_of_it);
+    lend();
+    expect(siengulot_capture_read(capture, 11, out, 25, summary, &place) == SIENGULOT_ROOM && place == 0, "read into no room");
+    expect_out("read writes though it refuses", "");
+
+    for (size_t i = 0; i < sizeof reads; i++) {
+        reads[i] = (uint8_t)(reads_of_it[i] - '0');
+    }
+    lend();
+    expect_answer("write", siengulot_capture_write(2, 2, 6, reads, 26, out, ROOM, &place, &count), 0, 0, 11);
+    expect(memcmp(out, capture, 11) == 0 && out[11] == GUARD, "capture of the example");
+    lend();
+    expect_answer("write into no room", siengulot_capture_write(2, 2, 6, reads, 26, out, 10, &place, &count), SIENGULOT_ROOM, 0, 0);
+    expect_out("write writes though it refuses", "");
+}
+
+static void same(const siengulot_receiver *x, const siengulot_receiver *y, const char *what)
+{
+    expect(memcmp(x, y, sizeof *x) == 0, what);
+}
+
+/* A receiver by its entry points, and beside it one by the inline functions. */
+static void receiving(void)
+{
+    siengulot_receiver raw, wrapped;
+    siengulot_heard heard;
+    uint8_t row[SIENGULOT_ROW_BYTES], reads[27];
+    size_t event, found, used;
+
+    memset(&raw, GUARD, sizeof raw);
+    memset(&wrapped, 0x5A, sizeof wrapped);
+    expect(siengulot_fresh(2, 2, 6, raw.numbers, raw.bits) == 0, "fresh refuses the example's settings");
+    expect(siengulot_receiver_fresh(&wrapped, 2, 2, 6) == 0, "inline fresh refuses the example's settings");
+    same(&raw, &wrapped, "the two fresh receivers differ");
+    expect(raw.numbers[SIENGULOT_K] == 2 && raw.numbers[SIENGULOT_N] == 2 && raw.numbers[SIENGULOT_Q] == 6, "a fresh receiver's settings");
+    expect(raw.numbers[SIENGULOT_MODE] == SIENGULOT_HUNTING && raw.numbers[SIENGULOT_RUN] == 0 && raw.numbers[SIENGULOT_LEFT] == 0, "a fresh receiver hunts");
+    expect(raw.numbers[SIENGULOT_LEVEL] == 1 && raw.numbers[SIENGULOT_FOUND] == 0, "a fresh receiver has no bits");
+    expect(siengulot_well_formed(raw.numbers, raw.bits) == 1 && siengulot_receiver_well_formed(&wrapped) == 1, "a fresh receiver is not well formed");
+
+    /* The example's reads one by one. */
+    memset(row, GUARD, sizeof row);
+    memset(&heard, GUARD, sizeof heard);
+    for (size_t i = 0; i < 26; i++) {
+        uint8_t read = reads[i] = (uint8_t)(reads_of_it[i] - '0');
+        size_t expected = i == 11 ? SIENGULOT_ROW : i == 25 ? SIENGULOT_BROKEN : SIENGULOT_NOTHING;
+        expect(siengulot_step(raw.numbers, raw.bits, read, row, &event, &found, &place) == 0, "step refuses a read");
+        expect(siengulot_receiver_step(&wrapped, read, &heard) == 0, "inline step refuses a read");
+        same(&raw, &wrapped, "the two receivers differ after a read");
+        expect(event == expected && found == (i == 25) && place == 0, "a read's event");
+        expect(heard.event == event && heard.found == found && heard.place == place && heard.used == 1, "a read's event, inline");
+        expect(memcmp(row, heard.row, sizeof row) == 0, "the two rows differ");
+        expect(i < 11 ? row[0] == GUARD : row[0] == 1 && row[1] == 0 && row[127] == 0, "the row's bytes");
+    }
+    expect(siengulot_row_bit(heard.row, 0) == 1 && siengulot_row_bit(heard.row, 1) == 0, "the row's bits");
+    expect(raw.numbers[SIENGULOT_MODE] == SIENGULOT_READY && raw.numbers[SIENGULOT_RUN] == 6, "a broken row leaves a ready receiver");
+    expect(siengulot_receiver_step(&wrapped, 2, &heard) == SIENGULOT_ENTRY && heard.place == 0 && heard.used == 0, "inline step takes a 2");
+    same(&raw, &wrapped, "a refused read changes the receiver");
+
+    /* The same reads at once, up to each event. */
+    reads[26] = 2;
+    siengulot_fresh(2, 2, 6, raw.numbers, raw.bits);
+    siengulot_receiver_fresh(&wrapped, 2, 2, 6);
+    expect(siengulot_listen(raw.numbers, raw.bits, reads, 27, row, &event, &found, &used, &place) == 0, "listen refuses the reads");
+    expect(siengulot_receiver_listen(&wrapped, reads, 27, &heard) == 0, "inline listen refuses the reads");
+    expect(event == SIENGULOT_ROW && found == 0 && used == 12 && place == 0, "listen stops with the row");
+    expect(heard.event == event && heard.found == found && heard.used == used && heard.place == place, "listen stops with the row, inline");
+    expect(memcmp(row, heard.row, sizeof row) == 0, "the two rows differ after listening");
+    same(&raw, &wrapped, "the two receivers differ after listening");
+    expect(siengulot_receiver_listen(&wrapped, reads + 12, 15, &heard) == 0, "inline listen looks behind the event");
+    expect(heard.event == SIENGULOT_BROKEN && heard.found == 1 && heard.used == 14, "listen stops with the broken row");
+    raw = wrapped;
+    expect(siengulot_receiver_listen(&wrapped, reads + 25, 2, &heard) == SIENGULOT_ENTRY, "inline listen takes a 2");
+    expect(heard.event == SIENGULOT_NOTHING && heard.found == 0 && heard.used == 0 && heard.place == 1, "where the 2 stands");
+    same(&raw, &wrapped, "refused reads change the receiver");
+
+    /* A number that names no mode. */
+    wrapped.numbers[SIENGULOT_MODE] = SIENGULOT_WAITING + 1;
+    raw = wrapped;
+    expect(siengulot_receiver_well_formed(&wrapped) == 0, "mode 4 is well formed");
+    expect(siengulot_receiver_step(&wrapped, 1, &heard) == SIENGULOT_SETTING, "step takes mode 4");
+    expect(siengulot_receiver_listen(&wrapped, reads, 26, &heard) == SIENGULOT_SETTING && heard.used == 0, "listen takes mode 4");
+    same(&raw, &wrapped, "a refused receiver is changed");
+
+    expect(siengulot_receiver_fresh(&wrapped, 0, 2, 6) == SIENGULOT_SETTING, "fresh takes k 0");
+    memset(&raw, 0, sizeof raw);
+    same(&raw, &wrapped, "a refused fresh receiver is not all 0");
+}
+
+int main(void)
+{
+    judging();
+    sending();
+    line();
+    counting();
+    captures();
+    receiving();
+    return faults > 0;
+}
