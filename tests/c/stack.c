@@ -1,0 +1,217 @@
+/*
+ * How much stack each entry point takes, as measured: the stack of a thread of 2 MiB is painted, the thread makes one call, and the deepest byte that
+ * is then no longer paint tells. Counted from the frame of the function that calls, so that what the call itself pushes is in it. Prints for each
+ * entry point the most that any of its calls here took, in bytes.
+ */
+#define _GNU_SOURCE
+#include <siengulot.h>
+#include <pthread.h>
+#include <stdio.h>
+#include <stdlib.h>
+#include <string.h>
+#include <sys/mman.h>
+
+enum { STACK = 2 * 1024 * 1024, PAGE = 65536, LIST = SIENGULOT_ENTRIES_MOST, ROWS = SIENGULOT_ROWS_MOST };
+
+static uint8_t high[LIST + 1], turns[LIST], unknown[LIST], mixed[LIST], bad[LIST], out[SIENGULOT_CAPTURE_MOST], bytes[SIENGULOT_CAPTURE_MOST];
+static size_t pads[ROWS], summary[5], place, count, accepted, event, found, used;
+static int64_t margins[5];
+static siengulot_receiver receiver, hunting, delivering, breaking; /* the last two bring an event with a high read */
+static uint8_t row[SIENGULOT_ROW_BYTES];
+
+static char *volatile frame; /* of the function that made the call */
+static volatile size_t answer;
+static volatile size_t expected;
+
+#define CALL(name, refusal, call)                                                                                                                     \
+    static void name(void)                                                                                                                            \
+    {                                                                                                                                                 \
+        frame = (char *)__builtin_frame_address(0);                                                                                                   \
+        answer = (call);                                                                                                                              \
+        expected = (refusal);                                                                                                                         \
+    }
+
+CALL(judge_yes, 0, siengulot_judge(5, 13, 10, 100, 141, margins, &accepted))
+CALL(judge_no, 0, siengulot_judge(5, 13, 10, 100, 142, margins, &accepted))
+CALL(judge_refused, 1, siengulot_judge(0, 13, 10, 100, 142, margins, &accepted))
+CALL(quiet_yes, 0, siengulot_judge_quiet(5, 13, 10, 100, 141, 16, 26, margins, &accepted))
+CALL(quiet_no, 0, siengulot_judge_quiet(5, 13, 10, 100, 142, 16, 26, margins, &accepted))
+CALL(quiet_refused, 1, siengulot_judge_quiet(5, 13, 10, 100, 142, 1, 26, margins, &accepted))
+
+CALL(send_most, 0, siengulot_send(255, 255, 65535, 65535, turns, 1024, out, sizeof out, &place, &count))
+CALL(send_least, 0, siengulot_send(1, 1, 0, 0, turns, 0, out, 0, &place, &count))
+CALL(send_setting, 1, siengulot_send(0, 1, 0, 0, turns, 1, out, sizeof out, &place, &count))
+CALL(send_entry, 2, siengulot_send(1, 1, 0, 0, unknown, 1024, out, sizeof out, &place, &count))
+CALL(send_limit, 3, siengulot_send(1, 1, 0, 0, turns, 1025, out, sizeof out, &place, &count))
+CALL(send_room, 4, siengulot_send(255, 255, 65535, 65535, turns, 1024, out, 9, &place, &count))
+
+CALL(plan_most, 0, siengulot_plan(1, 1, 512, pads, ROWS, pads, ROWS, turns, 512 * ROWS, out, sizeof out, &place, &count))
+CALL(plan_setting, 1, siengulot_plan(1, 1, 512, pads, ROWS, pads, 9, turns, 512 * ROWS, out, sizeof out, &place, &count))
+CALL(plan_entry, 2, siengulot_plan(1, 1, 512, pads, ROWS, pads, ROWS, unknown, 512 * ROWS, out, sizeof out, &place, &count))
+CALL(plan_limit, 3, siengulot_plan(1, 1, 1024, pads, ROWS, pads, ROWS, turns, 1024 * ROWS, out, sizeof out, &place, &count))
+CALL(plan_room, 4, siengulot_plan(1, 1, 512, pads, ROWS, pads, ROWS, turns, 512 * ROWS, out, 9, &place, &count))
+
+CALL(smooth_most, 0, siengulot_smooth(mixed, LIST, out, sizeof out, &place, &count))
+CALL(smooth_entry, 2, siengulot_smooth(unknown, LIST, out, sizeof out, &place, &count))
+CALL(smooth_limit, 3, siengulot_smooth(high, LIST + 1, out, sizeof out, &place, &count))
+CALL(smooth_room, 4, siengulot_smooth(mixed, LIST, out, 9, &place, &count))
+
+/* One read over as many cycles as it can take, all of them alike, is as deep as the recursion goes. */
+CALL(warp_deepest, 0, siengulot_warp(1, 65535, 0, high, LIST, out, sizeof out, &place, &count))
+CALL(warp_mixed, 0, siengulot_warp(1, 65535, 0, mixed, LIST, out, sizeof out, &place, &count))
+CALL(warp_unknown, 0, siengulot_warp(1, 65535, 0, unknown, LIST, out, sizeof out, &place, &count))
+CALL(warp_even, 0, siengulot_warp(100, 141, 84, mixed, LIST, out, sizeof out, &place, &count))
+CALL(warp_short, 0, siengulot_warp(65535, 1, 3, mixed, 16, out, sizeof out, &place, &count))
+CALL(warp_setting, 1, siengulot_warp(4, 4, 4, high, LIST, out, sizeof out, &place, &count))
+CALL(warp_entry, 2, siengulot_warp(4, 4, 1, bad, LIST, out, sizeof out, &place, &count))
+CALL(warp_limit, 3, siengulot_warp(4, 1, 1, high, LIST, out, sizeof out, &place, &count))
+CALL(warp_room, 4, siengulot_warp(4, 4, 1, high, LIST, out, 9, &place, &count))
+
+CALL(settle_most, 0, siengulot_settle(unknown, LIST, turns, LIST, out, sizeof out, &place, &count))
+CALL(settle_mixed, 0, siengulot_settle(mixed, LIST, turns, 9, out, sizeof out, &place, &count))
+CALL(settle_entry, 2, siengulot_settle(mixed, LIST, unknown, 9, out, sizeof out, &place, &count))
+CALL(settle_limit, 3, siengulot_settle(high, LIST + 1, turns, 9, out, sizeof out, &place, &count))
+CALL(settle_room, 4, siengulot_settle(mixed, LIST, turns, 9, out, 9, &place, &count))
+
+CALL(counted_most, 0, siengulot_counted(511, 1024, 1, turns, LIST, out, sizeof out, &place, &count))
+CALL(counted_mixed, 0, siengulot_counted(3, 1024, 1, mixed, LIST, out, sizeof out, &place, &count))
+CALL(counted_setting, 1, siengulot_counted(0, 1024, 1, turns, LIST, out, sizeof out, &place, &count))
+CALL(counted_entry, 2, siengulot_counted(3, 1024, 1, unknown, LIST, out, sizeof out, &place, &count))
+CALL(counted_limit, 3, siengulot_counted(3, 1024, 1, high, LIST + 1, out, sizeof out, &place, &count))
+CALL(counted_room, 4, siengulot_counted(3, 1024, 1, turns, LIST, out, 9, &place, &count))
+CALL(counted_ran_out, 5, siengulot_counted(3, 1024, 1, high, LIST, out, sizeof out, &place, &count))
+
+CALL(fresh_most, 0, siengulot_fresh(511, 1024, 8191, receiver.numbers, receiver.bits))
+CALL(fresh_refused, 1, siengulot_fresh(0, 1024, 8191, receiver.numbers, receiver.bits))
+CALL(well_formed_yes, 1, siengulot_well_formed(breaking.numbers, breaking.bits))
+CALL(well_formed_no, 0, siengulot_well_formed(breaking.numbers, high))
+CALL(step_high, 0, (receiver = hunting, siengulot_step(receiver.numbers, receiver.bits, 1, row, &event, &found, &place)))
+CALL(step_low, 0, (receiver = hunting, siengulot_step(receiver.numbers, receiver.bits, 0, row, &event, &found, &place)))
+CALL(step_row, 0, (receiver = delivering, siengulot_step(receiver.numbers, receiver.bits, 1, row, &event, &found, &place)))
+CALL(step_broken, 0, (receiver = breaking, siengulot_step(receiver.numbers, receiver.bits, 1, row, &event, &found, &place)))
+CALL(step_setting, 1, (receiver = breaking, siengulot_step(receiver.numbers, high, 1, row, &event, &found, &place)))
+CALL(step_entry, 2, (receiver = breaking, siengulot_step(receiver.numbers, receiver.bits, 2, row, &event, &found, &place)))
+#define LISTEN(from, bits, reads, length) (receiver = from, siengulot_listen(receiver.numbers, bits, reads, length, row, &event, &found, &used, &place))
+CALL(listen_high, 0, LISTEN(hunting, receiver.bits, high, LIST))
+CALL(listen_turns, 0, LISTEN(hunting, receiver.bits, turns, LIST))
+CALL(listen_row, 0, LISTEN(delivering, receiver.bits, mixed, LIST))
+CALL(listen_broken, 0, LISTEN(breaking, receiver.bits, high, LIST))
+CALL(listen_mixed, 0, LISTEN(breaking, receiver.bits, mixed, LIST))
+CALL(listen_setting, 1, LISTEN(hunting, high, high, LIST))
+CALL(listen_entry, 2, LISTEN(hunting, receiver.bits, unknown, LIST))
+CALL(listen_limit, 3, LISTEN(hunting, receiver.bits, high, LIST + 1))
+
+/* The longest capture there is, and its parts. */
+CALL(write_most, 0, siengulot_capture_write(511, 1024, 8191, turns, LIST, bytes, sizeof bytes, &place, &count))
+CALL(write_high, 0, siengulot_capture_write(511, 1024, 8191, high, LIST, out, sizeof out, &place, &count))
+CALL(write_setting, 1, siengulot_capture_write(0, 1024, 8191, turns, LIST, out, sizeof out, &place, &count))
+CALL(write_entry, 2, siengulot_capture_write(511, 1024, 8191, unknown, LIST, out, sizeof out, &place, &count))
+CALL(write_limit, 3, siengulot_capture_write(511, 1024, 8191, high, LIST + 1, out, sizeof out, &place, &count))
+CALL(write_room, 4, siengulot_capture_write(511, 1024, 8191, turns, LIST, out, 9, &place, &count))
+CALL(check_most, 0, siengulot_capture_check(bytes, sizeof bytes, summary, &place))
+CALL(check_cut, 6, siengulot_capture_check(bytes, 1, summary, &place))
+CALL(check_form, 7, siengulot_capture_check((const uint8_t *)"\x80", 2, summary, &place))
+CALL(check_range, 8, siengulot_capture_check(turns, 9, summary, &place))
+CALL(read_most, 0, siengulot_capture_read(bytes, sizeof bytes, out, sizeof out, summary, &place))
+CALL(read_room, 4, siengulot_capture_read(bytes, sizeof bytes, out, 9, summary, &place))
+CALL(read_cut, 6, siengulot_capture_read(bytes, 1, out, sizeof out, summary, &place))
+
+/* The calls of an entry point, in order. */
+typedef void called(void);
+static const struct {
+    const char *name;
+    called *calls[12];
+} points[] = {
+    {"siengulot_judge", {judge_yes, judge_no, judge_refused}},
+    {"siengulot_judge_quiet", {quiet_yes, quiet_no, quiet_refused}},
+    {"siengulot_send", {send_most, send_least, send_setting, send_entry, send_limit, send_room}},
+    {"siengulot_plan", {plan_most, plan_setting, plan_entry, plan_limit, plan_room}},
+    {"siengulot_smooth", {smooth_most, smooth_entry, smooth_limit, smooth_room}},
+    {"siengulot_warp",
+     {warp_deepest, warp_mixed, warp_unknown, warp_even, warp_short, warp_setting, warp_entry, warp_limit,
+      warp_room}},
+    {"siengulot_settle", {settle_most, settle_mixed, settle_entry, settle_limit, settle_room}},
+    {"siengulot_counted",
+     {counted_most, counted_mixed, counted_setting, counted_entry, counted_limit, counted_room, counted_ran_out}},
+    {"siengulot_fresh", {fresh_refused, fresh_most}},
+    {"siengulot_well_formed", {well_formed_no, well_formed_yes}},
+    {"siengulot_step", {step_high, step_low, step_row, step_broken, step_setting, step_entry}},
+    {"siengulot_listen",
+     {listen_high, listen_turns, listen_row, listen_broken, listen_mixed, listen_setting, listen_entry, listen_limit}},
+    {"siengulot_capture_write", {write_high, write_setting, write_entry, write_limit, write_room, write_most}},
+    {"siengulot_capture_check", {check_most, check_cut, check_form, check_range}},
+    {"siengulot_capture_read", {read_most, read_room, read_cut}},
+};
+
+static void stop(const char *why)
+{
+    fprintf(stderr, "stack: %s\n", why);
+    exit(1);
+}
+
+static void *in_thread(void *call)
+{
+    (*(called **)call)();
+    return NULL;
+}
+
+/* How deep a call goes on a stack of this paint. */
+static size_t depth(char *stack, called *call, int paint)
+{
+    pthread_attr_t attributes;
+    pthread_t thread;
+    size_t clean = 0;
+
+    memset(stack, paint, STACK);
+    if (pthread_attr_init(&attributes) || pthread_attr_setstack(&attributes, stack, STACK) ||
+        pthread_create(&thread, &attributes, in_thread, &call) || pthread_join(thread, NULL)) {
+        stop("no thread could be run");
+    }
+    while (clean < STACK && stack[clean] == (char)paint) {
+        clean++;
+    }
+    return (size_t)(frame - (stack + clean));
+}
+
+/* A receiver that has taken so many of these reads. */
+static void prepare(siengulot_receiver *it, size_t k, size_t n, size_t q, size_t length)
+{
+    uint8_t reads[4] = {1, 1, (uint8_t)(q > 2), (uint8_t)(q == 2)};
+    siengulot_heard heard;
+    if (siengulot_receiver_fresh(it, k, n, q) || siengulot_receiver_listen(it, reads, length, &heard) || heard.event != SIENGULOT_NOTHING) {
+        stop("no receiver could be prepared");
+    }
+}
+
+int main(void)
+{
+    /* Below the stack lies memory that may not be touched. */
+    char *ground = mmap(NULL, PAGE + STACK, PROT_READ | PROT_WRITE, MAP_PRIVATE | MAP_ANONYMOUS, -1, 0);
+    if (ground == MAP_FAILED || mprotect(ground, PAGE, PROT_NONE)) {
+        stop("no stack could be had");
+    }
+    memset(high, 1, sizeof high);
+    memset(unknown, 2, sizeof unknown);
+    memset(bad, 3, sizeof bad);
+    for (size_t i = 0; i < LIST; i++) {
+        turns[i] = i % 2;
+        mixed[i] = (i * i / 7 + i / 5) % 3 % 2;
+    }
+    prepare(&hunting, 511, 1024, 8191, 0);
+    prepare(&delivering, 1, 1, 3, 4); /* three high reads, and the mark */
+    prepare(&breaking, 511, 1024, 2, 4); /* two high reads, the mark, and a high read */
+    for (size_t i = 0; i < sizeof points / sizeof points[0]; i++) {
+        size_t most = 0;
+        for (size_t j = 0; points[i].calls[j] != NULL; j++) {
+            /* Two paints, since what a call writes may look like one of them. */
+            size_t first = depth(ground + PAGE, points[i].calls[j], 0xA5), second = depth(ground + PAGE, points[i].calls[j], 0x5A);
+            if (answer != expected) {
+                stop(points[i].name);
+            }
+            most = first > most ? first : most;
+            most = second > most ? second : most;
+        }
+        printf("%s %zu\n", points[i].name, most);
+    }
+    return 0;
+}
