@@ -39,8 +39,9 @@ fn listen(reads: &[u8]) -> Result<(), Refusal> {
         match event {
             Some(Event::Row(bits)) => {
                 let bit = |i: usize| (bits[i / 8] >> (i % 8) & 1) as usize;
-                let row: Vec<usize> = (0..BITS.len()).map(bit).collect();
-                say("row", &[&[place], &row[..]].concat());
+                let mut told = vec![place];
+                told.extend((0..BITS.len()).map(bit));
+                say("row", &told);
             }
             Some(Event::Broken(found)) => say("broken", &[place, found]),
             None => {}

@@ -1,0 +1,176 @@
+//! What docs/FITTER.md tells: how to come from two clocks to settings that the judge accepts, and how its two boards fare.
+
+mod common;
+
+use common::Rng;
+use siengulot_plain::{counted, line, sender, settings};
+
+/// Settings in the order in which the page's judge takes them.
+#[derive(Clone, Copy, Debug)]
+struct Fit {
+    a: usize,
+    b: usize,
+    k: usize,
+    w: usize,
+    r: usize,
+    q: usize,
+    p1: usize,
+}
+
+impl Fit {
+    fn judged(self) -> ([i64; 5], bool) {
+        let (w, r) = (self.w as u64, self.r as u64);
+        let verdict = settings::judge_quiet(self.a, self.b, self.k, w, r, self.q, self.p1);
+        let verdict = verdict.expect("settings in range");
+        (verdict.margins, verdict.accepted)
+    }
+
+    /// The page's bounds: for a, for k from below and from above, for Q and for p1.
+    fn within_bounds(self) -> [bool; 5] {
+        let Fit { a, b, w, r, .. } = self;
+        [
+            self.a >= 1 + up(2 * r, w),
+            self.k >= 1 + up((a + 1) * w, r),
+            self.k + 2 <= (a + b - 1) * w / r,
+            self.q >= 2 + up((a + b + 1) * w, r),
+            self.p1 >= 1 + up((self.q + 1) * r, w),
+        ]
+    }
+}
+
+/// A quotient rounded up.
+fn up(x: usize, by: usize) -> usize {
+    (x + by - 1) / by
+}
+
+/// Settings in range, most of them near the bounds.
+fn near(rng: &mut Rng) -> Fit {
+    let w = rng.within(1, 300);
+    let r = rng.within(1, 300);
+    let a = (up(2 * r, w) + rng.below(4)).clamp(1, 255);
+    let b = rng.within(1, 255);
+    let k = if rng.below(2) == 0 {
+        up((a + 1) * w, r) + rng.below(3)
+    } else {
+        ((a + b - 1) * w / r + rng.below(3)).saturating_sub(3)
+    };
+    let q = (up((a + b + 1) * w, r) + 1 + rng.below(3)).clamp(2, 8191);
+    let p1 = (up((q + 1) * r, w) + rng.below(3)).clamp(0, 65535);
+    let k = k.clamp(1, 511);
+    Fit {
+        a,
+        b,
+        k,
+        w,
+        r,
+        q,
+        p1,
+    }
+}
+
+#[test]
+fn the_bounds_are_those_of_the_margins() {
+    let mut rng = Rng::new(71);
+    let mut met = [0; 5];
+    let mut accepted = 0;
+    for _ in 0..200_000 {
+        let fit = near(&mut rng);
+        let (margins, yes) = fit.judged();
+        let bounds = fit.within_bounds();
+        assert_eq!(margins.map(|margin| margin >= 0), bounds, "{:?}", fit);
+        assert_eq!(yes, bounds == [true; 5], "{:?}", fit);
+        for (count, bound) in met.iter_mut().zip(bounds) {
+            *count += usize::from(bound);
+        }
+        accepted += usize::from(yes);
+    }
+    assert!(
+        met.iter().all(|count| (20_000..180_000).contains(count)),
+        "{:?}",
+        met
+    );
+    assert!(accepted > 2_000, "{}", accepted);
+}
+
+#[test]
+fn a_yes_at_both_corners_is_a_yes_between_them() {
+    let mut rng = Rng::new(72);
+    let mut both = 0;
+    for _ in 0..200_000 {
+        let fit = near(&mut rng);
+        let slow = Fit {
+            w: fit.w + rng.below(9),
+            r: fit.r.saturating_sub(rng.below(9)).max(1),
+            ..fit
+        };
+        if fit.judged().1 && slow.judged().1 {
+            both += 1;
+            let w = rng.within(fit.w, slow.w);
+            let r = rng.within(slow.r, fit.r);
+            assert!(
+                Fit { w, r, ..fit }.judged().1,
+                "{:?} {:?} {} {}",
+                fit,
+                slow,
+                w,
+                r
+            );
+        }
+    }
+    assert!(both > 500, "{}", both);
+}
+
+#[test]
+fn the_two_boards() {
+    let first = Fit {
+        a: 5,
+        b: 13,
+        k: 10,
+        w: 100,
+        r: 141,
+        q: 16,
+        p1: 26,
+    };
+    let second = Fit { r: 142, ..first };
+    assert_eq!(first.judged(), ([118, 669, 8, 74, 103], true));
+    assert_eq!(second.judged(), ([116, 678, -4, 88, 86], false));
+    let bear =
+        |fit: Fit| -> Vec<usize> { (1..=511).filter(|&k| Fit { k, ..fit }.judged().1).collect() };
+    assert_eq!(bear(first), [6, 7, 8, 9, 10]);
+    assert_eq!(bear(second), [6, 7, 8, 9]);
+    assert_eq!(
+        Fit { k: 8, ..first }.judged(),
+        ([118, 387, 290, 74, 103], true)
+    );
+    assert_eq!(
+        Fit { k: 8, ..second }.judged(),
+        ([116, 394, 280, 88, 86], true)
+    );
+    // The least quiet and lead: one less of either is a no.
+    assert!(!Fit { q: 15, ..first }.judged().1);
+    assert!(Fit { p1: 25, ..first }.judged().1);
+    assert!(
+        !Fit {
+            p1: 25,
+            k: 8,
+            ..second
+        }
+        .judged()
+        .1
+    );
+}
+
+#[test]
+fn a_message_that_the_second_board_loses() {
+    let mut wave = [9; 28];
+    assert_eq!(sender::message(5, 13, 0, 10, &[0], &mut wave), Ok(28));
+    let mut smoothed = [9; 28];
+    line::smooth(&wave, &mut smoothed).unwrap();
+    let mut reads = [9; 28];
+    let count = line::warp(100, 142, 97, &smoothed, &mut reads).unwrap();
+    let mut settled = [9; 28];
+    line::settle(&reads[..count], &[1, 1], &mut settled).unwrap();
+    let mut bits = [9; 1];
+    counted::receive(1, 1, 10, &settled[..count], &mut bits).unwrap();
+    assert_eq!(bits, [1]);
+}
