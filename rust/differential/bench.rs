@@ -1,0 +1,746 @@
+//! Every operation called both ways on the same input: by the static library, and by the plain Rust implementation, whose answer is written into a
+//! copy of what is lent. Afterwards the two have to be equal, each byte and number, the guards included.
+
+use crate::inputs::Rng;
+use crate::lent::{Edge, Lent, Numbers};
+use crate::library::*;
+use siengulot_plain::board::{Event, Mode, Receiver, ROW_BYTES};
+use siengulot_plain::capture::{self, Reader, Summary};
+use siengulot_plain::settings::{self, Verdict};
+use siengulot_plain::{counted, line, sender, Refusal};
+use std::collections::BTreeMap;
+
+/// The longest result there is, and some more: a capture's bytes.
+const LONGEST: usize = 1_048_583 + 64;
+
+/// How much output is lent.
+#[derive(Clone, Copy)]
+pub enum Room {
+    /// So many bytes less than the result has, or none.
+    Less(usize),
+    /// So many more.
+    More(usize),
+}
+
+impl Room {
+    pub fn random(rng: &mut Rng) -> Room {
+        match rng.below(8) {
+            0 => Room::Less(1),
+            1 => Room::Less(1 + rng.below(40)),
+            2 | 3 => Room::More(0),
+            _ => Room::More(rng.below(90)),
+        }
+    }
+
+    fn of(self, result: usize) -> usize {
+        match self {
+            Room::Less(less) => result.saturating_sub(less),
+            Room::More(more) => result + more,
+        }
+    }
+}
+
+/// A receiver as it is lent.
+#[derive(Clone, Copy)]
+pub struct State {
+    pub numbers: [usize; 8],
+    pub bits: [u8; ROW_BYTES],
+}
+
+impl State {
+    /// The receiver that the numbers stand for, if they stand for one.
+    fn receiver(&self) -> Option<Receiver> {
+        let [k, n, q, mode, run, left, level, found] = self.numbers;
+        let mode = *[Mode::Hunting, Mode::Ready, Mode::Counting, Mode::Waiting].get(mode)?;
+        let level = u8::try_from(level).ok()?;
+        let bits = self.bits;
+        Some(Receiver {
+            k,
+            n,
+            q,
+            mode,
+            run,
+            left,
+            level,
+            found,
+            bits,
+        })
+    }
+
+    fn of(receiver: &Receiver) -> State {
+        let Receiver {
+            k,
+            n,
+            q,
+            mode,
+            run,
+            left,
+            level,
+            found,
+            bits,
+        } = *receiver;
+        let mode = match mode {
+            Mode::Hunting => 0,
+            Mode::Ready => 1,
+            Mode::Counting => 2,
+            Mode::Waiting => 3,
+        };
+        let numbers = [k, n, q, mode, run, left, usize::from(level), found];
+        State { numbers, bits }
+    }
+}
+
+/// What reads brought, with the receiver after them.
+pub struct Brought {
+    pub state: State,
+    pub number: usize,
+    pub used: usize,
+    pub row: Option<[u8; ROW_BYTES]>,
+}
+
+/// How an event crosses: its number, and the bits of a broken row.
+fn crossed(event: &Option<Event>) -> (usize, usize) {
+    match event {
+        None => (0, 0),
+        Some(Event::Row(_)) => (1, 0),
+        Some(Event::Broken(found)) => (2, *found),
+    }
+}
+
+const EVENTS: [&str; 3] = ["nothing", "row", "broken"];
+
+pub struct Bench {
+    pub rng: Rng,
+    pub cases: u64,
+    /// How often each operation met each thing that is worth counting.
+    pub met: BTreeMap<(&'static str, &'static str), u64>,
+    edges: [Edge; 3],
+    scratch: Vec<u8>,
+}
+
+const REFUSALS: [&str; 9] = ["0", "1", "2", "3", "4", "5", "6", "7", "8"];
+
+impl Bench {
+    pub fn new(seed: u64) -> Bench {
+        Bench {
+            rng: Rng::new(seed),
+            cases: 0,
+            met: BTreeMap::new(),
+            edges: [Edge::new(), Edge::new(), Edge::new()],
+            scratch: vec![0; LONGEST],
+        }
+    }
+
+    fn meets(&mut self, operation: &'static str, thing: &'static str) {
+        *self.met.entry((operation, thing)).or_insert(0) += 1;
+    }
+
+    /// Ends the run unless both sides gave the same.
+    fn compare(
+        &mut self,
+        operation: &'static str,
+        (got, lent): (usize, &Lent),
+        (number, expected): (usize, &Lent),
+        input: impl Fn() -> String,
+    ) {
+        self.cases += 1;
+        let difference = if got != number {
+            Some(format!("it gives {}, expected {}", got, number))
+        } else if !self.edges.iter().all(Edge::kept) {
+            Some("a list that is only read was written to".to_string())
+        } else {
+            lent.difference(expected)
+        };
+        if let Some(difference) = difference {
+            println!(
+                "differs: {}, case {}, {}: {}",
+                operation,
+                self.cases,
+                input(),
+                difference
+            );
+            std::process::exit(1);
+        }
+        self.meets(operation, REFUSALS[got]);
+    }
+
+    pub fn judge(&mut self, [a, b, k, w, r]: [usize; 5]) {
+        let mut lent = Lent::new();
+        let margins = lent.numbers("margins", 3, &mut self.rng);
+        let accepted = lent.number("accepted", &mut self.rng);
+        let mut expected = lent.clone();
+        let answer = settings::judge(a, b, k, w as u64, r as u64);
+        let number = self.judged("judge", &mut expected, margins, accepted, answer);
+        let got = unsafe {
+            siengulot_judge(a, b, k, w, r, lent.pointer(margins), lent.pointer(accepted))
+        };
+        self.compare("judge", (got, &lent), (number, &expected), || {
+            format!("{:?}", [a, b, k, w, r])
+        });
+    }
+
+    pub fn judge_quiet(&mut self, [a, b, k, w, r, q, p1]: [usize; 7]) {
+        let mut lent = Lent::new();
+        let margins = lent.numbers("margins", 5, &mut self.rng);
+        let accepted = lent.number("accepted", &mut self.rng);
+        let mut expected = lent.clone();
+        let answer = settings::judge_quiet(a, b, k, w as u64, r as u64, q, p1);
+        let number = self.judged("judge_quiet", &mut expected, margins, accepted, answer);
+        let got = unsafe {
+            siengulot_judge_quiet(
+                a,
+                b,
+                k,
+                w,
+                r,
+                q,
+                p1,
+                lent.pointer(margins),
+                lent.pointer(accepted),
+            )
+        };
+        self.compare("judge_quiet", (got, &lent), (number, &expected), || {
+            format!("{:?}", [a, b, k, w, r, q, p1])
+        });
+    }
+
+    fn judged<const M: usize>(
+        &mut self,
+        operation: &'static str,
+        expected: &mut Lent,
+        margins: Numbers,
+        accepted: Numbers,
+        answer: Result<Verdict<M>, Refusal>,
+    ) -> usize {
+        match answer {
+            Ok(verdict) => {
+                expected.set(margins, &verdict.margins.map(|margin| margin as usize));
+                expected.set(accepted, &[usize::from(verdict.accepted)]);
+                self.meets(operation, if verdict.accepted { "yes" } else { "no" });
+                if verdict.margins.iter().min() == Some(&0) {
+                    self.meets(operation, "a margin of 0");
+                }
+                0
+            }
+            Err(refusal) => {
+                expected.set(accepted, &[0]);
+                usize::from(refusal.number)
+            }
+        }
+    }
+
+    pub fn send(&mut self, [a, b, p1, p2]: [usize; 4], bits: &[u8], room: Room) {
+        let result = sender::message(a, b, p1, p2, bits, &mut self.scratch);
+        let room = room.of(result.unwrap_or(0));
+        let (mut lent, out, [place, count]) = self.lend(room);
+        let mut expected = lent.clone();
+        let answer = sender::message(a, b, p1, p2, bits, expected.part(out));
+        let number = told(&mut expected, place, count, answer);
+        let list = self.edges[0].lend(bits, &mut self.rng);
+        let got = unsafe {
+            siengulot_send(
+                a,
+                b,
+                p1,
+                p2,
+                list,
+                bits.len(),
+                lent.bytes_pointer(out),
+                room,
+                lent.pointer(place),
+                lent.pointer(count),
+            )
+        };
+        self.compare("send", (got, &lent), (number, &expected), || {
+            format!("{:?} {:?} room {}", [a, b, p1, p2], shown(bits), room)
+        });
+    }
+
+    pub fn plan(
+        &mut self,
+        [a, b, n]: [usize; 3],
+        leads: &[usize],
+        trails: &[usize],
+        bits: &[u8],
+        room: Room,
+    ) {
+        let result = sender::plan(a, b, n, leads, trails, bits, &mut self.scratch);
+        let room = room.of(result.unwrap_or(0));
+        let (mut lent, out, [place, count]) = self.lend(room);
+        let mut expected = lent.clone();
+        let answer = sender::plan(a, b, n, leads, trails, bits, expected.part(out));
+        let number = told(&mut expected, place, count, answer);
+        let list = self.edges[0].lend(bits, &mut self.rng);
+        let lead_list = self.edges[1].lend(leads, &mut self.rng);
+        let trail_list = self.edges[2].lend(trails, &mut self.rng);
+        let got = unsafe {
+            siengulot_plan(
+                a,
+                b,
+                n,
+                lead_list,
+                leads.len(),
+                trail_list,
+                trails.len(),
+                list,
+                bits.len(),
+                lent.bytes_pointer(out),
+                room,
+                lent.pointer(place),
+                lent.pointer(count),
+            )
+        };
+        self.compare("plan", (got, &lent), (number, &expected), || {
+            format!(
+                "{:?} {:?} {:?} {:?} room {}",
+                [a, b, n],
+                leads,
+                trails,
+                shown(bits),
+                room
+            )
+        });
+        if got == 3 && leads.len() <= 1_024 {
+            self.meets("plan", "3 by its wave");
+        }
+    }
+
+    pub fn smooth(&mut self, wave: &[u8], room: Room) {
+        let result = line::smooth(wave, &mut self.scratch);
+        let room = room.of(result.unwrap_or(0));
+        let (mut lent, out, [place, count]) = self.lend(room);
+        let mut expected = lent.clone();
+        let answer = line::smooth(wave, expected.part(out));
+        let number = told(&mut expected, place, count, answer);
+        let list = self.edges[0].lend(wave, &mut self.rng);
+        let got = unsafe {
+            siengulot_smooth(
+                list,
+                wave.len(),
+                lent.bytes_pointer(out),
+                room,
+                lent.pointer(place),
+                lent.pointer(count),
+            )
+        };
+        self.compare("smooth", (got, &lent), (number, &expected), || {
+            format!("{:?} room {}", shown(wave), room)
+        });
+    }
+
+    pub fn warp(&mut self, [w, r, p]: [usize; 3], wave: &[u8], room: Room) {
+        let times = [w as u64, r as u64, p as u64];
+        let result = line::warp(times[0], times[1], times[2], wave, &mut self.scratch);
+        let room = room.of(result.unwrap_or(0));
+        let (mut lent, out, [place, count]) = self.lend(room);
+        let mut expected = lent.clone();
+        let answer = line::warp(times[0], times[1], times[2], wave, expected.part(out));
+        let number = told(&mut expected, place, count, answer);
+        let list = self.edges[0].lend(wave, &mut self.rng);
+        let got = unsafe {
+            siengulot_warp(
+                w,
+                r,
+                p,
+                list,
+                wave.len(),
+                lent.bytes_pointer(out),
+                room,
+                lent.pointer(place),
+                lent.pointer(count),
+            )
+        };
+        self.compare("warp", (got, &lent), (number, &expected), || {
+            format!("{:?} {:?} room {}", [w, r, p], shown(wave), room)
+        });
+        if got == 3 && wave.len() <= 1_048_576 {
+            self.meets("warp", "3 by its reads");
+        }
+    }
+
+    pub fn settle(&mut self, reads: &[u8], choices: &[u8], room: Room) {
+        let result = line::settle(reads, choices, &mut self.scratch);
+        let room = room.of(result.unwrap_or(0));
+        let (mut lent, out, [place, count]) = self.lend(room);
+        let mut expected = lent.clone();
+        let answer = line::settle(reads, choices, expected.part(out));
+        let number = told(&mut expected, place, count, answer);
+        let list = self.edges[0].lend(reads, &mut self.rng);
+        let choice_list = self.edges[1].lend(choices, &mut self.rng);
+        let got = unsafe {
+            siengulot_settle(
+                list,
+                reads.len(),
+                choice_list,
+                choices.len(),
+                lent.bytes_pointer(out),
+                room,
+                lent.pointer(place),
+                lent.pointer(count),
+            )
+        };
+        self.compare("settle", (got, &lent), (number, &expected), || {
+            format!("{:?} by {:?} room {}", shown(reads), shown(choices), room)
+        });
+        if got == 2 && reads.iter().all(|&read| read <= 2) {
+            self.meets("settle", "2 by a choice");
+        }
+    }
+
+    pub fn counted(&mut self, [k, n, level]: [usize; 3], reads: &[u8], room: Room) {
+        let room = room.of(n.min(2_000));
+        let (mut lent, out, [place, count]) = self.lend(room);
+        let mut expected = lent.clone();
+        // A level that no byte can say is as much out of range as the greatest byte.
+        let short = u8::try_from(level).unwrap_or(u8::MAX);
+        let (number, found) = match counted::receive(n, short, k, reads, expected.part(out)) {
+            Ok(()) => (told(&mut expected, place, count, Ok(n)), n),
+            Err(stopped) => {
+                expected.set(place, &[stopped.refusal.place]);
+                expected.set(count, &[stopped.found]);
+                (usize::from(stopped.refusal.number), stopped.found)
+            }
+        };
+        let list = self.edges[0].lend(reads, &mut self.rng);
+        let got = unsafe {
+            siengulot_counted(
+                k,
+                n,
+                level,
+                list,
+                reads.len(),
+                lent.bytes_pointer(out),
+                room,
+                lent.pointer(place),
+                lent.pointer(count),
+            )
+        };
+        self.compare("counted", (got, &lent), (number, &expected), || {
+            format!("{:?} {:?} room {}", [k, n, level], shown(reads), room)
+        });
+        if got == 5 && found > 0 {
+            self.meets("counted", "5 after bits");
+        }
+    }
+
+    pub fn fresh(&mut self, [k, n, q]: [usize; 3]) -> State {
+        let mut lent = Lent::new();
+        let numbers = lent.numbers("numbers", 8, &mut self.rng);
+        let bits = lent.room("bits", ROW_BYTES, &mut self.rng);
+        let mut expected = lent.clone();
+        let (number, receiver) = match Receiver::fresh(k, n, q) {
+            Ok(receiver) => (0, receiver),
+            Err(refusal) => (usize::from(refusal.number), Receiver::REFUSED),
+        };
+        let state = State::of(&receiver);
+        expected.set(numbers, &state.numbers);
+        expected.write(bits, &state.bits);
+        let got =
+            unsafe { siengulot_fresh(k, n, q, lent.pointer(numbers), lent.bytes_pointer(bits)) };
+        self.compare("fresh", (got, &lent), (number, &expected), || {
+            format!("{:?}", [k, n, q])
+        });
+        state
+    }
+
+    pub fn well_formed(&mut self, state: &State) {
+        let mut lent = Lent::new();
+        let numbers = lent.numbers("numbers", 8, &mut self.rng);
+        let bits = lent.bytes("bits", &state.bits, &mut self.rng);
+        lent.set(numbers, &state.numbers);
+        let expected = lent.clone();
+        let answer = state.receiver().map_or(false, |it| it.well_formed());
+        let got = unsafe { siengulot_well_formed(lent.pointer(numbers), lent.bytes_pointer(bits)) };
+        self.compare(
+            "well_formed",
+            (got, &lent),
+            (usize::from(answer), &expected),
+            || format!("{:?} {:?}", state.numbers, state.bits),
+        );
+        self.count_state("well_formed", state);
+    }
+
+    /// What a state has that only C can lend.
+    fn count_state(&mut self, operation: &'static str, state: &State) {
+        if state.numbers[3] > 3 {
+            self.meets(operation, "no mode");
+        }
+        if state.numbers[6] > 255 {
+            self.meets(operation, "a level that is no byte");
+        }
+    }
+
+    pub fn step(&mut self, state: &State, read: u8) -> Brought {
+        let mut lent = Lent::new();
+        let numbers = lent.numbers("numbers", 8, &mut self.rng);
+        let bits = lent.bytes("bits", &state.bits, &mut self.rng);
+        let row = lent.room("row", ROW_BYTES, &mut self.rng);
+        let event = lent.number("event", &mut self.rng);
+        let found = lent.number("found", &mut self.rng);
+        let place = lent.number("place", &mut self.rng);
+        lent.set(numbers, &state.numbers);
+        let mut expected = lent.clone();
+
+        let mut brought = nothing(state);
+        let mut refused_at = 0;
+        let mut happened = None;
+        if let Some(mut receiver) = state.receiver() {
+            match receiver.step(read) {
+                Ok(event) => {
+                    happened = event;
+                    brought = Brought {
+                        state: State::of(&receiver),
+                        number: 0,
+                        used: 1,
+                        row: None,
+                    };
+                }
+                Err(refusal) => {
+                    brought.number = usize::from(refusal.number);
+                    refused_at = refusal.place;
+                    // A state that a refusal has changed is a fault of the plain side; let it show.
+                    brought.state = State::of(&receiver);
+                }
+            }
+        }
+        expected.set(numbers, &brought.state.numbers);
+        expected.write(bits, &brought.state.bits);
+        if let Some(Event::Row(delivered)) = happened {
+            expected.write(row, &delivered);
+            brought.row = Some(delivered);
+        }
+        let (kind, dropped) = crossed(&happened);
+        expected.set(event, &[kind]);
+        expected.set(found, &[dropped]);
+        expected.set(place, &[refused_at]);
+
+        let got = unsafe {
+            siengulot_step(
+                lent.pointer(numbers),
+                lent.bytes_pointer(bits),
+                read,
+                lent.bytes_pointer(row),
+                lent.pointer(event),
+                lent.pointer(found),
+                lent.pointer(place),
+            )
+        };
+        self.compare("step", (got, &lent), (brought.number, &expected), || {
+            format!("{:?} {:?} read {}", state.numbers, state.bits, read)
+        });
+        self.meets("step", EVENTS[kind]);
+        self.count_state("step", state);
+        brought
+    }
+
+    pub fn listen(&mut self, state: &State, reads: &[u8]) -> Brought {
+        let mut lent = Lent::new();
+        let numbers = lent.numbers("numbers", 8, &mut self.rng);
+        let bits = lent.bytes("bits", &state.bits, &mut self.rng);
+        let row = lent.room("row", ROW_BYTES, &mut self.rng);
+        let event = lent.number("event", &mut self.rng);
+        let found = lent.number("found", &mut self.rng);
+        let used = lent.number("used", &mut self.rng);
+        let place = lent.number("place", &mut self.rng);
+        lent.set(numbers, &state.numbers);
+        let mut expected = lent.clone();
+
+        let mut brought = nothing(state);
+        let mut refused_at = 0;
+        let mut happened = None;
+        if let Some(mut receiver) = state.receiver() {
+            match receiver.listen(reads) {
+                Ok(heard) => {
+                    happened = heard.event;
+                    brought = Brought {
+                        state: State::of(&receiver),
+                        number: 0,
+                        used: heard.taken,
+                        row: None,
+                    };
+                }
+                Err(refusal) => {
+                    brought.number = usize::from(refusal.number);
+                    refused_at = refusal.place;
+                    // A state that a refusal has changed is a fault of the plain side; let it show.
+                    brought.state = State::of(&receiver);
+                }
+            }
+        }
+        expected.set(numbers, &brought.state.numbers);
+        expected.write(bits, &brought.state.bits);
+        if let Some(Event::Row(delivered)) = happened {
+            expected.write(row, &delivered);
+            brought.row = Some(delivered);
+        }
+        let (kind, dropped) = crossed(&happened);
+        expected.set(event, &[kind]);
+        expected.set(found, &[dropped]);
+        expected.set(used, &[brought.used]);
+        expected.set(place, &[refused_at]);
+
+        let list = self.edges[0].lend(reads, &mut self.rng);
+        let got = unsafe {
+            siengulot_listen(
+                lent.pointer(numbers),
+                lent.bytes_pointer(bits),
+                list,
+                reads.len(),
+                lent.bytes_pointer(row),
+                lent.pointer(event),
+                lent.pointer(found),
+                lent.pointer(used),
+                lent.pointer(place),
+            )
+        };
+        self.compare("listen", (got, &lent), (brought.number, &expected), || {
+            format!("{:?} {:?} {:?}", state.numbers, state.bits, shown(reads))
+        });
+        self.meets("listen", EVENTS[kind]);
+        self.count_state("listen", state);
+        if got == 0 && reads[brought.used..].iter().any(|&read| read > 1) {
+            self.meets("listen", "a bad read behind an event");
+        }
+        brought
+    }
+
+    pub fn capture_check(&mut self, bytes: &[u8]) {
+        let mut lent = Lent::new();
+        let summary = lent.numbers("summary", 5, &mut self.rng);
+        let place = lent.number("place", &mut self.rng);
+        let mut expected = lent.clone();
+        let answer = capture::check(bytes);
+        let number = summed(&mut expected, summary, place, bytes, answer);
+        let list = self.edges[0].lend(bytes, &mut self.rng);
+        let got = unsafe {
+            siengulot_capture_check(
+                list,
+                bytes.len(),
+                lent.pointer(summary),
+                lent.pointer(place),
+            )
+        };
+        self.compare("capture_check", (got, &lent), (number, &expected), || {
+            format!("{:?}", shown(bytes))
+        });
+    }
+
+    pub fn capture_read(&mut self, bytes: &[u8], room: Room) {
+        let result = capture::check(bytes).map(|summary| summary.reads);
+        let room = room.of(result.unwrap_or(0));
+        let mut lent = Lent::new();
+        let out = lent.room("out", room, &mut self.rng);
+        let summary = lent.numbers("summary", 5, &mut self.rng);
+        let place = lent.number("place", &mut self.rng);
+        let mut expected = lent.clone();
+        let answer = capture::read(bytes, expected.part(out));
+        let number = summed(&mut expected, summary, place, bytes, answer);
+        let list = self.edges[0].lend(bytes, &mut self.rng);
+        let got = unsafe {
+            siengulot_capture_read(
+                list,
+                bytes.len(),
+                lent.bytes_pointer(out),
+                room,
+                lent.pointer(summary),
+                lent.pointer(place),
+            )
+        };
+        self.compare("capture_read", (got, &lent), (number, &expected), || {
+            format!("{:?} room {}", shown(bytes), room)
+        });
+    }
+
+    pub fn capture_write(&mut self, [k, n, q]: [usize; 3], reads: &[u8], room: Room) {
+        let result = capture::write(k, n, q, reads, &mut self.scratch);
+        let room = room.of(result.unwrap_or(0));
+        let (mut lent, out, [place, count]) = self.lend(room);
+        let mut expected = lent.clone();
+        let answer = capture::write(k, n, q, reads, expected.part(out));
+        let number = told(&mut expected, place, count, answer);
+        let list = self.edges[0].lend(reads, &mut self.rng);
+        let got = unsafe {
+            siengulot_capture_write(
+                k,
+                n,
+                q,
+                list,
+                reads.len(),
+                lent.bytes_pointer(out),
+                room,
+                lent.pointer(place),
+                lent.pointer(count),
+            )
+        };
+        self.compare("capture_write", (got, &lent), (number, &expected), || {
+            format!("{:?} {:?} room {}", [k, n, q], shown(reads), room)
+        });
+    }
+
+    /// An output of this many bytes, a place and a count.
+    fn lend(&mut self, room: usize) -> (Lent, crate::lent::Bytes, [Numbers; 2]) {
+        let mut lent = Lent::new();
+        let out = lent.room("out", room, &mut self.rng);
+        let place = lent.number("place", &mut self.rng);
+        let count = lent.number("count", &mut self.rng);
+        (lent, out, [place, count])
+    }
+}
+
+/// Refusal 1, which leaves the state.
+fn nothing(state: &State) -> Brought {
+    Brought {
+        state: *state,
+        number: 1,
+        used: 0,
+        row: None,
+    }
+}
+
+/// Writes the place and the count of an answer, and gives its number.
+fn told(
+    expected: &mut Lent,
+    place: Numbers,
+    count: Numbers,
+    answer: Result<usize, Refusal>,
+) -> usize {
+    let (number, at, length) = match answer {
+        Ok(length) => (0, 0, length),
+        Err(refusal) => (usize::from(refusal.number), refusal.place, 0),
+    };
+    expected.set(place, &[at]);
+    expected.set(count, &[length]);
+    number
+}
+
+/// Writes the summary of a capture, or the place of its refusal. How many runs there are is counted by the plain reader of numbers.
+fn summed(
+    expected: &mut Lent,
+    summary: Numbers,
+    place: Numbers,
+    bytes: &[u8],
+    answer: Result<Summary, Refusal>,
+) -> usize {
+    match answer {
+        Ok(Summary { k, n, q, reads }) => {
+            let mut reader = Reader::new(bytes).expect("a capture that was read before");
+            let mut numbers = 0;
+            while !reader.at_end() {
+                reader.number().expect("a number that was read before");
+                numbers += 1;
+            }
+            expected.set(summary, &[k, n, q, reads, numbers - 4]);
+            expected.set(place, &[0]);
+            0
+        }
+        Err(refusal) => {
+            expected.set(place, &[refusal.place]);
+            usize::from(refusal.number)
+        }
+    }
+}
+
+/// As much of a list as is worth printing.
+fn shown(list: &[u8]) -> (usize, &[u8]) {
+    (list.len(), &list[..list.len().min(2_000)])
+}

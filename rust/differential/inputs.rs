@@ -1,0 +1,405 @@
+//! Random input, valid and damaged: settings, lists, receivers, captures. A seed gives the same input everywhere.
+
+use siengulot_plain::board::ROW_BYTES;
+use siengulot_plain::settings::{
+    MAX_BITS, MAX_CYCLE, MAX_K, MAX_LIST, MAX_PAD, MAX_QUIET, MAX_ROWS, MAX_SUBCELL, MIN_QUIET,
+};
+
+const CYCLE_MOST: usize = MAX_CYCLE as usize;
+
+/// A xorshift generator.
+pub struct Rng(u64);
+
+impl Rng {
+    pub fn new(seed: u64) -> Rng {
+        let mut rng = Rng(seed.wrapping_mul(0x9e37_79b9_7f4a_7c15) | 1);
+        for _ in 0..8 {
+            rng.next();
+        }
+        rng
+    }
+
+    pub fn next(&mut self) -> u64 {
+        self.0 ^= self.0 << 13;
+        self.0 ^= self.0 >> 7;
+        self.0 ^= self.0 << 17;
+        self.0
+    }
+
+    /// From 0 to `bound` - 1.
+    pub fn below(&mut self, bound: usize) -> usize {
+        ((self.next() >> 16) % bound as u64) as usize
+    }
+
+    /// From `least` to `most`.
+    pub fn within(&mut self, least: usize, most: usize) -> usize {
+        least + self.below(most - least + 1)
+    }
+
+    pub fn one_in(&mut self, times: usize) -> bool {
+        self.below(times) == 0
+    }
+
+    pub fn pick<T: Copy>(&mut self, of: &[T]) -> T {
+        of[self.below(of.len())]
+    }
+
+    /// Makes `bytes` as long as `length` with random bytes.
+    pub fn junk(&mut self, bytes: &mut Vec<u8>, length: usize) {
+        while bytes.len() < length {
+            let junk = self.next().to_le_bytes();
+            let more = junk.len().min(length - bytes.len());
+            bytes.extend_from_slice(&junk[..more]);
+        }
+    }
+
+    /// A number that is not from `least` to `most`: next to it, one whose low part is in range, or far off.
+    pub fn out_of(&mut self, least: usize, most: usize) -> usize {
+        loop {
+            let inside = self.within(least, most);
+            let number = match self.below(8) {
+                0 => least.wrapping_sub(1),
+                1 => most + 1,
+                2 => 0,
+                3 => inside + (1 << self.pick(&[8, 16, 32, 48, 63])),
+                4 => inside | 1 << self.within(8, 63),
+                5 => usize::MAX - self.below(3),
+                6 => 1 << self.below(64),
+                _ => self.next() as usize,
+            };
+            if number < least || most < number {
+                return number;
+            }
+        }
+    }
+
+    /// A setting: mostly in range and up to `usual`, often at an end of its range, now and then out of it.
+    pub fn setting(&mut self, least: usize, usual: usize, most: usize) -> usize {
+        match self.below(50) {
+            0 | 1 => self.out_of(least, most),
+            2 => least,
+            3 => most,
+            4..=8 => self.within(least, most),
+            _ => self.within(least, usual),
+        }
+    }
+
+    /// A length: mostly short, often none or one.
+    pub fn length(&mut self) -> usize {
+        match self.below(16) {
+            0 => 0,
+            1 => 1,
+            2..=4 => self.below(9),
+            5..=11 => self.below(70),
+            12..=14 => self.below(300),
+            _ => self.below(1_500),
+        }
+    }
+
+    /// Entries from 0 to `greatest`: one level, noise, or runs.
+    pub fn entries(&mut self, length: usize, greatest: u8) -> Vec<u8> {
+        let kinds = usize::from(greatest) + 1;
+        match self.below(6) {
+            0 => vec![self.below(kinds) as u8; length],
+            1 | 2 => (0..length).map(|_| self.below(kinds) as u8).collect(),
+            3 => self.runs(length, 3, kinds),
+            4 => self.runs(length, 20, kinds),
+            _ => self.runs(length, 90, kinds),
+        }
+    }
+
+    fn runs(&mut self, length: usize, longest: usize, kinds: usize) -> Vec<u8> {
+        let mut list = Vec::with_capacity(length);
+        while list.len() < length {
+            let run = self.within(1, longest).min(length - list.len());
+            let entry = self.below(kinds) as u8;
+            list.resize(list.len() + run, entry);
+        }
+        list
+    }
+
+    /// Now and then makes entries of a list such that are not of its kind.
+    pub fn damage(&mut self, list: &mut [u8], greatest: u8) {
+        if list.is_empty() || !self.one_in(5) {
+            return;
+        }
+        for _ in 0..self.within(1, 3) {
+            let place = match self.below(4) {
+                0 => 0,
+                1 => list.len() - 1,
+                _ => self.below(list.len()),
+            };
+            list[place] = match self.below(4) {
+                0 => greatest + 1,
+                1 => 1 << self.within(2, 7),
+                2 => 255,
+                _ => self.within(usize::from(greatest) + 1, 255) as u8,
+            };
+        }
+    }
+
+    pub fn list(&mut self, length: usize, greatest: u8) -> Vec<u8> {
+        let mut list = self.entries(length, greatest);
+        self.damage(&mut list, greatest);
+        list
+    }
+
+    pub fn subcell(&mut self) -> usize {
+        self.setting(1, 8, MAX_SUBCELL)
+    }
+
+    pub fn k(&mut self) -> usize {
+        self.setting(1, 12, MAX_K)
+    }
+
+    pub fn row_bits(&mut self) -> usize {
+        self.setting(1, 12, MAX_BITS)
+    }
+
+    pub fn quiet(&mut self) -> usize {
+        self.setting(MIN_QUIET, 20, MAX_QUIET)
+    }
+
+    /// A pad; the greatest ones make long waves, and are rarer.
+    pub fn pad(&mut self) -> usize {
+        match self.below(40) {
+            0 => self.out_of(0, MAX_PAD),
+            1 => self.within(0, MAX_PAD),
+            2 => MAX_PAD,
+            _ => self.below(20),
+        }
+    }
+
+    /// A writer and a read cycle.
+    pub fn cycles(&mut self) -> (usize, usize) {
+        match self.below(20) {
+            0 => (self.out_of(1, CYCLE_MOST), self.within(1, CYCLE_MOST)),
+            1 => (self.within(1, CYCLE_MOST), self.out_of(1, CYCLE_MOST)),
+            2..=4 => (
+                self.pick(&[1, 2, 3, 64, CYCLE_MOST]),
+                self.pick(&[1, 2, 63, 64, 65, 129, CYCLE_MOST]),
+            ),
+            5..=7 => (self.within(1, CYCLE_MOST), self.within(1, CYCLE_MOST)),
+            8..=11 => (100, self.within(60, 150)),
+            12..=13 => (1, self.within(1, 400)),
+            _ => (self.within(1, 12), self.within(1, 12)),
+        }
+    }
+
+    /// A phase, which has to be below w.
+    pub fn phase(&mut self, w: usize) -> usize {
+        let most = w.max(1).min(CYCLE_MOST) - 1;
+        match self.below(16) {
+            0 => w,
+            1 => self.out_of(0, most),
+            2 | 3 => most,
+            4..=7 => 0,
+            _ => self.within(0, most),
+        }
+    }
+
+    /// Settings near those that are accepted, so that a margin of exactly 0 and the next one below it come often.
+    pub fn judged(&mut self) -> [usize; 7] {
+        if self.one_in(3) {
+            return [
+                self.subcell(),
+                self.subcell(),
+                self.k(),
+                self.setting(1, 150, CYCLE_MOST),
+                self.setting(1, 150, CYCLE_MOST),
+                self.quiet(),
+                self.pad(),
+            ];
+        }
+        let most = self.pick(&[4, 12, 150, CYCLE_MOST]);
+        let (w, r) = (self.within(1, most), self.within(1, most));
+        let up = |dividend: usize, divisor: usize| (dividend + divisor - 1) / divisor;
+        let off = |rng: &mut Rng| rng.pick(&[0, 0, 0, 1, 2, usize::MAX]);
+        let a = (1 + up(2 * r, w)).wrapping_add(off(self)).min(300);
+        let k = (1 + up((a + 1) * w, r)).wrapping_add(off(self)).min(600);
+        let b = (1 + up((k + 2) * r, w))
+            .saturating_sub(a)
+            .wrapping_add(off(self))
+            .min(300);
+        let q = (2 + up((a + b + 1) * w, r))
+            .wrapping_add(off(self))
+            .min(9_000);
+        let p1 = (1 + up((q + 1) * r, w)).wrapping_add(off(self)).min(70_000);
+        [a, b, k, w, r, q, p1]
+    }
+
+    /// The lists of a plan: leads, trails, bits.
+    pub fn plan(&mut self, n: usize) -> (Vec<usize>, Vec<usize>, Vec<u8>) {
+        let rows = match self.below(40) {
+            0 => 0,
+            1 => self.within(6, 60),
+            2 => self.pick(&[MAX_ROWS - 1, MAX_ROWS, MAX_ROWS + 1]),
+            _ => self.within(1, 5),
+        };
+        // Long pads now and then, by which the wave becomes as long as it may be or longer.
+        let long = rows < 100 && self.one_in(60);
+        let pads = |rng: &mut Rng| -> Vec<usize> {
+            (0..rows)
+                .map(|_| match (long, rows < 100) {
+                    (true, _) => rng.within(60_000, MAX_PAD),
+                    (_, true) => rng.pad(),
+                    _ => rng.below(3),
+                })
+                .collect()
+        };
+        let leads = pads(self);
+        let mut trails = pads(self);
+        if self.one_in(20) {
+            trails.push(self.below(9));
+        } else if self.one_in(20) {
+            trails.pop();
+        }
+        let fitting = n.saturating_mul(rows);
+        let length = if fitting > 2 * MAX_LIST || self.one_in(20) {
+            self.length()
+        } else {
+            fitting
+        };
+        let bits = self.list(length, 1);
+        (leads, trails, bits)
+    }
+
+    /// A receiver as it crosses: well formed, and then sometimes damaged.
+    pub fn receiver(&mut self) -> ([usize; 8], [u8; ROW_BYTES]) {
+        let k = self.usually(1, 9, MAX_K);
+        let n = self.usually(1, 9, MAX_BITS);
+        let q = self.usually(MIN_QUIET, 12, MAX_QUIET);
+        let mode = self.below(4);
+        let progress = mode >= 2;
+        let run = match (mode, self.below(3)) {
+            (1, _) => q,
+            (_, 0) => 0,
+            (_, 1) => q - 1,
+            _ => self.below(q),
+        };
+        let left = match (mode, self.below(3)) {
+            (2, 0) => 1,
+            (2, 1) => k,
+            (2, _) => self.within(1, k),
+            _ => 0,
+        };
+        let level = if progress { self.below(2) } else { 1 };
+        let found = match (progress, self.below(3)) {
+            (false, _) => 0,
+            (_, 0) => n - 1,
+            _ => self.below(n),
+        };
+        let mut bits = [0; ROW_BYTES];
+        for i in 0..found {
+            bits[i / 8] |= (self.below(2) as u8) << (i % 8);
+        }
+        let mut numbers = [k, n, q, mode, run, left, level, found];
+        if self.one_in(3) {
+            self.damage_receiver(&mut numbers, &mut bits);
+        }
+        (numbers, bits)
+    }
+
+    fn usually(&mut self, least: usize, usual: usize, most: usize) -> usize {
+        let up_to = if self.one_in(8) { most } else { usual };
+        self.within(least, up_to)
+    }
+
+    fn damage_receiver(&mut self, numbers: &mut [usize; 8], bits: &mut [u8; ROW_BYTES]) {
+        for _ in 0..self.within(1, 2) {
+            let place = self.below(8);
+            match self.below(8) {
+                0 => numbers[place] = numbers[place].wrapping_add(1),
+                1 => numbers[place] = numbers[place].wrapping_sub(1),
+                2 => numbers[place] ^= 1 << self.below(64),
+                3 => numbers[place] = self.below(12),
+                4 => numbers[3] = self.pick(&[4, 5, 256, 257, 1 << 32, usize::MAX]),
+                5 => numbers[6] = self.pick(&[2, 255, 256, 257, 1 << 32, usize::MAX]),
+                6 => bits[self.below(ROW_BYTES)] ^= 1 << self.below(8),
+                _ => {
+                    let past = numbers[7].min(1_023);
+                    bits[past / 8] |= 1 << (past % 8);
+                }
+            }
+        }
+        if self.one_in(20) {
+            numbers.fill_with(|| self.next() as usize);
+        }
+    }
+
+    /// Reads such as bring events to a receiver of these numbers.
+    pub fn reads_for(&mut self, numbers: &[usize; 8]) -> Vec<u8> {
+        let [k, _, q, ..] = *numbers;
+        let length = self.length() * self.pick(&[1, 1, 4]);
+        let near = self.pick(&[k, q, q.saturating_mul(3)]).max(1).min(400);
+        let mut reads = match self.below(3) {
+            0 => self.entries(length, 1),
+            1 => self.runs(length, near, 2),
+            _ => self.runs(length, (near / 2).max(1), 2),
+        };
+        self.damage(&mut reads, 1);
+        reads
+    }
+
+    /// The bytes of a capture, number by number, often with a fault somewhere.
+    pub fn capture(&mut self) -> Vec<u8> {
+        if self.one_in(12) {
+            let mut bytes = Vec::new();
+            let length = self.length();
+            self.junk(&mut bytes, length);
+            return bytes;
+        }
+        let mut bytes = Vec::new();
+        let level = if self.one_in(40) {
+            self.out_of(0, 1)
+        } else {
+            self.below(2)
+        };
+        for number in [self.k(), self.row_bits(), self.quiet(), level] {
+            self.spell(number, &mut bytes);
+        }
+        let long = self.one_in(60);
+        for _ in 0..self.pick(&[0, 1, 2, 7, 40]) {
+            let run = match (long, self.below(120)) {
+                (_, 0) => 0,
+                (_, 1) => self.below(1 << 21),
+                (true, _) => self.within(1, MAX_LIST / 2),
+                (_, 2..=20) => self.within(1, 300),
+                _ => self.within(1, 20),
+            };
+            self.spell(run, &mut bytes);
+        }
+        if self.one_in(8) && !bytes.is_empty() {
+            match self.below(3) {
+                0 => bytes.truncate(self.below(bytes.len())),
+                1 => {
+                    let place = self.below(bytes.len());
+                    bytes[place] ^= 1 << self.below(8);
+                }
+                _ => bytes.push(self.next() as u8 | 0x80),
+            }
+        }
+        bytes
+    }
+
+    /// A number in groups of seven bits, now and then in no proper form.
+    fn spell(&mut self, number: usize, bytes: &mut Vec<u8>) {
+        let mut rest = number % (1 << 21);
+        while rest > 0x7f {
+            bytes.push(rest as u8 | 0x80);
+            rest >>= 7;
+        }
+        bytes.push(rest as u8);
+        if self.one_in(150) {
+            let last = bytes.len() - 1;
+            bytes[last] |= 0x80;
+            bytes.extend_from_slice(self.pick::<&[u8]>(&[
+                &[0],
+                &[0x80],
+                &[0x80, 0],
+                &[0x81, 0x80, 1],
+                &[],
+            ]));
+        }
+    }
+}

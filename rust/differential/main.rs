@@ -1,0 +1,429 @@
+//! The static library against the plain Rust implementation: every operation on the same input, seeded, until either all rounds are done or the time
+//! is up. It ends with status 1 at the first difference, and with status 2 if something that can be met never was.
+//!
+//! `.ci/differential` builds it and runs it, and then runs it against copies of the plain implementation with a fault in each, all of which it has to
+//! find.
+
+mod bench;
+mod inputs;
+mod lent;
+mod library;
+
+use bench::{Bench, Room, State};
+use siengulot_plain::settings::{MAX_BITS, MAX_CAPTURE, MAX_LIST, MAX_ROWS};
+use std::time::{Duration, Instant};
+
+/// Rounds of every operation, some of them several times.
+const ROUNDS: u64 = 100_000;
+/// No round begins later than this.
+const TIME: Duration = Duration::from_secs(45);
+
+/// What each operation has to meet: the numbers it returns (of `well_formed`, 0 for no and 1 for yes), and cases that are easy to miss.
+const MUST: [(&str, &[&str], &[&str]); 15] = [
+    ("judge", &["0", "1"], &["yes", "no", "a margin of 0"]),
+    ("judge_quiet", &["0", "1"], &["yes", "no", "a margin of 0"]),
+    ("send", &["0", "1", "2", "3", "4"], &[]),
+    ("plan", &["0", "1", "2", "3", "4"], &["3 by its wave"]),
+    ("smooth", &["0", "2", "3", "4"], &[]),
+    ("warp", &["0", "1", "2", "3", "4"], &["3 by its reads"]),
+    ("settle", &["0", "2", "3", "4"], &["2 by a choice"]),
+    (
+        "counted",
+        &["0", "1", "2", "3", "4", "5"],
+        &["5 after bits"],
+    ),
+    ("fresh", &["0", "1"], &[]),
+    (
+        "well_formed",
+        &["0", "1"],
+        &["no mode", "a level that is no byte"],
+    ),
+    (
+        "step",
+        &["0", "1", "2"],
+        &[
+            "nothing",
+            "row",
+            "broken",
+            "no mode",
+            "a level that is no byte",
+        ],
+    ),
+    (
+        "listen",
+        &["0", "1", "2", "3"],
+        &[
+            "nothing",
+            "row",
+            "broken",
+            "no mode",
+            "a level that is no byte",
+            "a bad read behind an event",
+        ],
+    ),
+    ("capture_check", &["0", "3", "6", "7", "8"], &[]),
+    ("capture_read", &["0", "3", "4", "6", "7", "8"], &[]),
+    ("capture_write", &["0", "1", "2", "3", "4"], &[]),
+];
+
+fn main() {
+    let started = Instant::now();
+    let mut bench = Bench::new(20_261_115);
+    let mut rounds = 0;
+    while rounds < ROUNDS && started.elapsed() < TIME {
+        round(&mut bench);
+        if rounds == 200 {
+            limits(&mut bench);
+            vast(&mut bench);
+        }
+        if rounds % 100 == 0 {
+            hallway(&mut bench);
+        }
+        rounds += 1;
+    }
+    report(&bench, rounds, started.elapsed());
+}
+
+/// Every operation on input of its own.
+fn round(bench: &mut Bench) {
+    let [a, b, k, w, r, q, p1] = bench.rng.judged();
+    bench.judge([a, b, k, w, r]);
+    bench.judge_quiet([a, b, k, w, r, q, p1]);
+
+    let settings = [
+        bench.rng.subcell(),
+        bench.rng.subcell(),
+        bench.rng.pad(),
+        bench.rng.pad(),
+    ];
+    let length = match bench.rng.below(40) {
+        0 => MAX_BITS,
+        1 => MAX_BITS + 1,
+        _ => bench.rng.length(),
+    };
+    let bits = bench.rng.list(length, 1);
+    let room = Room::random(&mut bench.rng);
+    bench.send(settings, &bits, room);
+
+    let n = bench.rng.row_bits();
+    let settings = [bench.rng.subcell(), bench.rng.subcell(), n];
+    let (leads, trails, bits) = bench.rng.plan(n);
+    let room = Room::random(&mut bench.rng);
+    bench.plan(settings, &leads, &trails, &bits, room);
+
+    let length = bench.rng.length();
+    let wave = bench.rng.list(length, 1);
+    let room = Room::random(&mut bench.rng);
+    bench.smooth(&wave, room);
+
+    let (w, r) = bench.rng.cycles();
+    let p = bench.rng.phase(w);
+    let length = bench.rng.length();
+    let wave = bench.rng.list(length, 2);
+    let room = Room::random(&mut bench.rng);
+    bench.warp([w, r, p], &wave, room);
+
+    let length = bench.rng.length();
+    let reads = bench.rng.list(length, 2);
+    let length = bench.rng.length();
+    let choices = bench.rng.list(length, 1);
+    let room = Room::random(&mut bench.rng);
+    bench.settle(&reads, &choices, room);
+
+    let settings = [
+        bench.rng.k(),
+        bench.rng.setting(0, 12, MAX_BITS),
+        bench.rng.setting(0, 1, 1),
+    ];
+    let length = bench.rng.length();
+    let reads = bench.rng.list(length, 1);
+    let room = Room::random(&mut bench.rng);
+    bench.counted(settings, &reads, room);
+
+    let settings = [bench.rng.k(), bench.rng.row_bits(), bench.rng.quiet()];
+    bench.fresh(settings);
+    for _ in 0..2 {
+        let (numbers, bits) = bench.rng.receiver();
+        let state = State { numbers, bits };
+        bench.well_formed(&state);
+        let read = match bench.rng.below(12) {
+            0 => bench.rng.next() as u8,
+            1 => 2,
+            _ => bench.rng.below(2) as u8,
+        };
+        bench.step(&state, read);
+        let reads = bench.rng.reads_for(&state.numbers);
+        bench.listen(&state, &reads);
+
+        let bytes = bench.rng.capture();
+        bench.capture_check(&bytes);
+        let room = Room::random(&mut bench.rng);
+        bench.capture_read(&bytes, room);
+    }
+
+    let settings = [bench.rng.k(), bench.rng.row_bits(), bench.rng.quiet()];
+    let length = bench.rng.length();
+    let reads = bench.rng.list(length, 1);
+    let room = Room::random(&mut bench.rng);
+    bench.capture_write(settings, &reads, room);
+}
+
+/// Lists that are as long as they may be, and one entry longer; outputs that just hold the longest results, and just do not.
+fn limits(bench: &mut Bench) {
+    let (full, short) = (Room::More(0), Room::Less(1));
+    for length in [MAX_BITS, MAX_BITS + 1] {
+        let bits = bench.rng.entries(length, 1);
+        for room in [full, short] {
+            bench.send([255, 255, 65_535, 65_535], &bits, room);
+            bench.send([1, 1, 0, 0], &bits, room);
+        }
+    }
+    for (rows, n, pad) in [
+        (MAX_ROWS, 512, 0),
+        (MAX_ROWS, 511, 1),
+        (MAX_ROWS, 511, 2),
+        (MAX_ROWS, MAX_BITS, 0),
+        (MAX_ROWS + 1, 1, 0),
+        (16, 1, 65_535),
+        (15, 1, 65_535),
+    ] {
+        let (leads, trails) = (vec![pad; rows], vec![0; rows]);
+        let bits = bench.rng.entries(rows * n, 1);
+        for room in [full, short] {
+            bench.plan([1, 1, n], &leads, &trails, &bits, room);
+            bench.plan([1, 1, n], &trails, &leads, &bits, room);
+        }
+    }
+    for length in [MAX_LIST - 1, MAX_LIST, MAX_LIST + 1] {
+        let levels = bench.rng.entries(length, 1);
+        let reads = bench.rng.entries(length, 2);
+        let mut bad = levels.clone();
+        bad[length - 1] = 3;
+        for room in [full, short] {
+            bench.smooth(&levels, room);
+            bench.smooth(&bad, room);
+            bench.settle(&reads, &levels, room);
+            bench.settle(&levels, &reads, room);
+            bench.settle(&levels[..9], &bad, room);
+            bench.warp([3, 3, 0], &reads, room);
+            bench.warp([3, 3, 1], &reads, room);
+            bench.warp([3, 4, 1], &bad, room);
+            bench.counted([10, 1_024, 1], &levels, room);
+            bench.counted([10, 1_024, 1], &bad, room);
+            bench.capture_write([10, 16, 21], &levels, room);
+            bench.capture_write([10, 16, 21], &bad, room);
+        }
+        // One read over all of the cycles, and over as many as it can take.
+        bench.warp([1, 65_535, 0], &vec![1; length], full);
+        bench.warp([1, 65_535, 0], &reads, full);
+        // Each read a run of its own: the longest capture.
+        let turns: Vec<u8> = (0..length).map(|i| (i % 2) as u8).collect();
+        bench.capture_write([511, 1_024, 8_191], &turns, full);
+        for state in [[511, 1_024, 8_191], [1, 1, 2], [10, 16, 21]] {
+            let mut state = bench.fresh(state);
+            let mut taken = 0;
+            for _ in 0..40 {
+                let brought = bench.listen(&state, &levels[taken..]);
+                taken += brought.used;
+                state = brought.state;
+            }
+            bench.listen(&state, &vec![1; length]);
+            bench.listen(&state, &bad);
+        }
+    }
+    // As many reads as a list may have, and one more.
+    for (w, p, cycles) in [
+        (32_768, 0, 32),
+        (32_769, 32, 32),
+        (32_769, 31, 32),
+        (1, 0, MAX_LIST),
+    ] {
+        let wave = bench.rng.entries(cycles, 2);
+        bench.warp([w, 1, p], &wave, full);
+        bench.warp([w, 1, p], &wave, short);
+    }
+    bench.warp([65_535, 1, 65_534], &vec![0; 17], full);
+    bench.warp([65_535, 65_535, 65_534], &vec![2; MAX_LIST], full);
+    bench.warp([65_535, 1, 65_534], &vec![0; MAX_LIST], full);
+
+    // Captures of as many bytes as there may be, and of one more; of as many reads, and of one more.
+    let heading = [0xff, 0x03, 0x80, 0x08, 0xff, 0x3f];
+    for level in [0, 1] {
+        let mut bytes = heading.to_vec();
+        bytes.push(level);
+        bytes.resize(MAX_CAPTURE, 1);
+        let last = bytes.len() - 1;
+        for room in [full, short] {
+            bench.capture_check(&bytes);
+            bench.capture_read(&bytes, room);
+        }
+        bytes[last] = 2;
+        bench.capture_check(&bytes);
+        bytes[last] = 0;
+        bench.capture_check(&bytes);
+        bytes[last] = 0x80;
+        bench.capture_check(&bytes);
+        bytes.push(1);
+        bench.capture_check(&bytes);
+        bench.capture_read(&bytes, full);
+        for runs in [
+            &[0x80, 0x80, 0x40][..],
+            &[0x81, 0x80, 0x40],
+            &[0xff, 0xff, 0x7f],
+            &[0xff, 0xff, 0x3f, 1],
+            &[0xff, 0xff, 0x3f, 2],
+            &[1, 0xff, 0xff, 0x3f],
+            &[2, 0xff, 0xff, 0x3f],
+        ] {
+            let mut bytes = heading.to_vec();
+            bytes.push(level);
+            bytes.extend_from_slice(runs);
+            bench.capture_check(&bytes);
+            bench.capture_read(&bytes, full);
+            bench.capture_read(&bytes, short);
+        }
+    }
+    // Every capture of up to two bytes, and every ending of one byte or two behind a heading.
+    for length in [0, 1, 2] {
+        for number in 0..1_usize << (8 * length) {
+            let ending = &number.to_le_bytes()[..length];
+            bench.capture_check(ending);
+            bench.capture_check(&[&[2, 2, 6][..], ending].concat());
+            bench.capture_check(&[&[2, 2, 6, 0, 5][..], ending].concat());
+        }
+    }
+}
+
+/// Lists whose length does not fit 32 bits, though its low part does.
+fn vast(bench: &mut Bench) {
+    let vast = lent::vast();
+    for list in [vast, &vast[..1 << 32]] {
+        let room = Room::More(5);
+        bench.send([2, 3, 2, 1], list, room);
+        bench.plan([2, 3, 2], &[1], &[1], list, room);
+        bench.smooth(list, room);
+        bench.warp([4, 4, 1], list, room);
+        bench.settle(list, &[1], room);
+        bench.settle(&[2], list, room);
+        bench.counted([3, 2, 1], list, room);
+        bench.capture_check(list);
+        bench.capture_read(list, room);
+        bench.capture_write([2, 2, 6], list, room);
+        let state = bench.fresh([2, 2, 6]);
+        bench.listen(&state, list);
+    }
+}
+
+/// A plan's rows on their way through the whole link, each operation on what the one before it gave.
+fn hallway(bench: &mut Bench) {
+    let [a, b, k, w, r, q, p1] = loop {
+        let judged = bench.rng.judged();
+        let [a, b, k, w, r, q, p1] = judged;
+        let verdict = siengulot_plain::settings::judge_quiet(a, b, k, w as u64, r as u64, q, p1);
+        let accepted = verdict.map_or(false, |verdict| verdict.accepted);
+        if accepted && a + b < 100 && p1 < 400 && w / r < 20 {
+            break judged;
+        }
+    };
+    let (rows, n) = (bench.rng.within(1, 4), bench.rng.within(1, 20));
+    let (leads, trails) = (vec![p1; rows], vec![bench.rng.below(3); rows]);
+    let bits = bench.rng.entries(rows * n, 1);
+    let room = Room::More(0);
+    bench.plan([a, b, n], &leads, &trails, &bits, room);
+    let mut wave = vec![0; MAX_LIST];
+    let length = siengulot_plain::sender::plan(a, b, n, &leads, &trails, &bits, &mut wave)
+        .expect("a plan of few rows");
+    wave.truncate(length);
+    bench.smooth(&wave, room);
+    let mut smoothed = vec![0; length];
+    siengulot_plain::line::smooth(&wave, &mut smoothed).expect("a wave");
+    let p = bench.rng.below(w);
+    bench.warp([w, r, p], &smoothed, room);
+    let mut warped = vec![0; MAX_LIST];
+    let count = siengulot_plain::line::warp(w as u64, r as u64, p as u64, &smoothed, &mut warped)
+        .expect("a wave that is not long");
+    warped.truncate(count);
+    let choices = bench.rng.entries(count / 2, 1);
+    bench.settle(&warped, &choices, room);
+    let mut reads = vec![0; count];
+    siengulot_plain::line::settle(&warped, &choices, &mut reads).expect("reads");
+    bench.counted([k, n, 1], &reads, room);
+    bench.capture_write([k, n, q], &reads, room);
+
+    // Read by read, and in pieces of any length; the rows that come are the rows that were sent.
+    let mut delivered = Vec::new();
+    let mut state = bench.fresh([k, n, q]);
+    for &read in &reads {
+        let brought = bench.step(&state, read);
+        state = brought.state;
+        bench.well_formed(&state);
+        delivered.extend(brought.row);
+    }
+    let mut heard = Vec::new();
+    let mut state = bench.fresh([k, n, q]);
+    let mut place = 0;
+    while place < reads.len() {
+        let until = (place + 1 + bench.rng.below(200)).min(reads.len());
+        let brought = bench.listen(&state, &reads[place..until]);
+        state = brought.state;
+        place += brought.used;
+        heard.extend(brought.row);
+    }
+    let sent: Vec<[u8; 128]> = bits.chunks_exact(n).map(packed).collect();
+    if delivered != sent || heard != sent {
+        println!(
+            "differs: rows sent and delivered, {:?} n {}",
+            [a, b, k, w, r, q, p1, p],
+            n
+        );
+        std::process::exit(1);
+    }
+}
+
+fn packed(bits: &[u8]) -> [u8; 128] {
+    let mut bytes = [0; 128];
+    for (i, &bit) in bits.iter().enumerate() {
+        bytes[i / 8] |= bit << (i % 8);
+    }
+    bytes
+}
+
+/// Prints what was met, and ends the run if something was not.
+fn report(bench: &Bench, rounds: u64, time: Duration) {
+    let met = |operation, thing| bench.met.get(&(operation, thing)).copied().unwrap_or(0);
+    let mut missing = Vec::new();
+    for (operation, numbers, things) in MUST {
+        let counted = |thing: &&&'static str| format!("{} {}", thing, met(operation, **thing));
+        let line: Vec<String> = numbers
+            .iter()
+            .chain(things)
+            .collect::<Vec<_>>()
+            .iter()
+            .map(counted)
+            .collect();
+        println!("{}: {}", operation, line.join(", "));
+        for &thing in numbers.iter().chain(things) {
+            if met(operation, thing) == 0 {
+                missing.push(format!("{} never met {}", operation, thing));
+            }
+        }
+    }
+    for &(operation, thing) in bench.met.keys() {
+        let known = MUST.iter().any(|&(name, numbers, things)| {
+            name == operation && (numbers.contains(&thing) || things.contains(&thing))
+        });
+        if !known {
+            missing.push(format!("{} met {}, which cannot be", operation, thing));
+        }
+    }
+    println!(
+        "{} cases in {} rounds, all the same, in {} s",
+        bench.cases,
+        rounds,
+        time.as_secs()
+    );
+    if !missing.is_empty() {
+        println!("but {}", missing.join("; "));
+        std::process::exit(2);
+    }
+}
