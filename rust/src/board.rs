@@ -2,6 +2,7 @@
 
 use crate::refusal::{need_setting, need_size, Refusal};
 use crate::settings::{k_fits, quiet_fits, row_bits_fit, MAX_LIST};
+use std::mem;
 
 /// Bytes that hold the bits of the longest row.
 pub const ROW_BYTES: usize = 128;
@@ -115,9 +116,9 @@ impl Receiver {
             return Err(Refusal::entry(0));
         }
         let mut machine = self.machine();
-        let event = machine.advance(read, &mut self.bits);
+        let report = machine.advance(read, &mut self.bits);
         self.take(machine);
-        Ok(event)
+        Ok(report.map(|report| report.event(&mut self.bits)))
     }
 
     /// Takes reads up to and with the first that gives an event, or all of them.
@@ -137,9 +138,9 @@ impl Receiver {
             if read > 1 {
                 return Err(Refusal::entry(place));
             }
-            if let Some(event) = machine.advance(read, &mut bits) {
+            if let Some(report) = machine.advance(read, &mut bits) {
                 heard.taken = place + 1;
-                heard.event = Some(event);
+                heard.event = Some(report.event(&mut bits));
                 break;
             }
         }
@@ -186,9 +187,65 @@ impl Receiver {
     }
 }
 
+/// A receiver whose state nobody else can change, so that no read has to judge it.
+#[derive(Clone, Debug)]
+pub struct Listener {
+    machine: Machine,
+    bits: [u8; ROW_BYTES],
+    row: [u8; ROW_BYTES],
+}
+
+impl Listener {
+    /// A receiver that has read nothing; refusal 1 for a setting out of range.
+    pub fn new(k: usize, n: usize, q: usize) -> Result<Listener, Refusal> {
+        let fresh = Receiver::fresh(k, n, q)?;
+        Ok(Listener {
+            machine: fresh.machine(),
+            bits: fresh.bits,
+            row: fresh.bits,
+        })
+    }
+
+    /// Takes one read, 0 or 1, and says what it gave.
+    #[inline]
+    pub fn read(&mut self, read: u8) -> Option<Report> {
+        let report = self.machine.advance(read, &mut self.bits)?;
+        let bits = mem::replace(&mut self.bits, [0; ROW_BYTES]);
+        if report == Report::Row {
+            self.row = bits;
+        }
+        Some(report)
+    }
+
+    /// The row delivered last, packed as in [`Event::Row`]; zeros before the first.
+    pub fn row(&self) -> &[u8; ROW_BYTES] {
+        &self.row
+    }
+}
+
+/// An [`Event`] whose row stands elsewhere.
+#[derive(Clone, Copy, Debug, PartialEq, Eq)]
+pub enum Report {
+    /// A whole row.
+    Row,
+    /// A row in progress was given up; this many of its bits had been found.
+    Broken(usize),
+}
+
+impl Report {
+    /// The event, with the row's bits taken out of `bits`; the next row starts without any.
+    fn event(self, bits: &mut [u8; ROW_BYTES]) -> Event {
+        let row = mem::replace(bits, [0; ROW_BYTES]);
+        match self {
+            Report::Row => Event::Row(row),
+            Report::Broken(found) => Event::Broken(found),
+        }
+    }
+}
+
 /// A [`Receiver`] without its bits, so that a loop over reads can keep it in registers. The
 /// rule for each read is here.
-#[derive(Clone, Copy)]
+#[derive(Clone, Copy, Debug)]
 pub(crate) struct Machine {
     k: usize,
     n: usize,
@@ -201,17 +258,17 @@ pub(crate) struct Machine {
 }
 
 impl Machine {
-    /// One read that is 0 or 1, for a machine and bits that are well formed together; they
-    /// stay so.
+    /// One read that is 0 or 1, for a machine and bits that are well formed together. They
+    /// stay so without a report; after one the bits are the row's, and the caller clears them.
     #[inline]
-    pub(crate) fn advance(&mut self, read: u8, bits: &mut [u8; ROW_BYTES]) -> Option<Event> {
+    pub(crate) fn advance(&mut self, read: u8, bits: &mut [u8; ROW_BYTES]) -> Option<Report> {
         if read == 0 {
             self.run = 0;
         } else if self.run < self.q {
             self.run += 1;
         }
         if self.run == self.q {
-            return self.quiet(bits);
+            return self.quiet();
         }
         match self.mode {
             Mode::Hunting => {}
@@ -234,18 +291,14 @@ impl Machine {
 
     /// The run has its full length: a row in progress is broken off.
     #[inline]
-    fn quiet(&mut self, bits: &mut [u8; ROW_BYTES]) -> Option<Event> {
-        match self.mode {
-            Mode::Hunting | Mode::Ready => {
-                self.mode = Mode::Ready;
-                None
-            }
-            Mode::Counting | Mode::Waiting => {
-                let found = self.found;
-                self.forget(Mode::Ready, bits);
-                Some(Event::Broken(found))
-            }
+    fn quiet(&mut self) -> Option<Report> {
+        let mode = mem::replace(&mut self.mode, Mode::Ready);
+        if mode == Mode::Hunting || mode == Mode::Ready {
+            return None;
         }
+        let found = self.found;
+        self.forget(Mode::Ready);
+        Some(Report::Broken(found))
     }
 
     #[inline]
@@ -257,13 +310,12 @@ impl Machine {
 
     /// The sample's read: one more bit, 1 if it is not the mark's level.
     #[inline]
-    fn sample(&mut self, read: u8, bits: &mut [u8; ROW_BYTES]) -> Option<Event> {
+    fn sample(&mut self, read: u8, bits: &mut [u8; ROW_BYTES]) -> Option<Report> {
         bits[self.found / 8] |= (read ^ self.level) << (self.found % 8);
         self.found += 1;
         if self.found == self.n {
-            let row = *bits;
-            self.forget(Mode::Hunting, bits);
-            return Some(Event::Row(row));
+            self.forget(Mode::Hunting);
+            return Some(Report::Row);
         }
         self.mode = Mode::Waiting;
         self.level = read;
@@ -272,12 +324,11 @@ impl Machine {
 
     /// Leaves the row in progress for `mode`; the run goes on.
     #[inline]
-    fn forget(&mut self, mode: Mode, bits: &mut [u8; ROW_BYTES]) {
+    fn forget(&mut self, mode: Mode) {
         self.mode = mode;
         self.left = 0;
         self.level = 1;
         self.found = 0;
-        *bits = [0; ROW_BYTES];
     }
 }
 

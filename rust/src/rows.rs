@@ -1,6 +1,6 @@
 //! Document 01, "Rows program": from the bytes of a capture to what the program prints.
 
-use crate::board::{Event, Receiver};
+use crate::board::{Listener, Report};
 use crate::capture::{self, Checked};
 use crate::refusal::{need_size, Refusal};
 use crate::settings::MAX_INPUT;
@@ -23,23 +23,22 @@ pub fn output(input: &[u8]) -> Vec<u8> {
 fn print(input: &[u8], out: &mut Vec<u8>) -> Result<(), Refusal> {
     need_size(input.len(), MAX_INPUT)?;
     let Checked { summary, runs } = capture::checked(input)?;
-    let receiver = Receiver::fresh(summary.k, summary.n, summary.q)?;
-    let mut machine = receiver.machine();
-    let mut bits = receiver.bits;
+    let mut listener = Listener::new(summary.k, summary.n, summary.q)?;
     out.extend_from_slice(HEADING);
     let mut place = 0;
     let mut rows = 0;
     for (level, length) in runs {
         for _ in 0..length {
-            match machine.advance(level, &mut bits) {
+            match listener.read(level) {
                 None => {}
-                Some(Event::Row(row)) => {
+                Some(Report::Row) => {
+                    let row = listener.row();
                     rows += 1;
                     text(out, format_args!("{} row ", place));
                     out.extend((0..summary.n).map(|i| b'0' + (row[i / 8] >> (i % 8) & 1)));
                     out.push(b'\n');
                 }
-                Some(Event::Broken(found)) => {
+                Some(Report::Broken(found)) => {
                     line(out, format_args!("{} broken {}", place, found));
                 }
             }

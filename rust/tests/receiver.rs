@@ -4,7 +4,7 @@
 mod common;
 
 use common::{feed, packed, refusal, Rng, RowModel};
-use siengulot_plain::board::{Event, Heard, Mode, Receiver};
+use siengulot_plain::board::{Event, Heard, Listener, Mode, Receiver, Report};
 
 /// One well-formed state for each mode, with k 3, n 20, Q 6.
 fn good_states() -> [Receiver; 4] {
@@ -456,4 +456,28 @@ fn listens_as_it_steps() {
         assert_eq!(listened.listen(&reads), expected);
         assert_eq!(listened, stepped);
     }
+}
+
+#[test]
+fn listener_reports_what_steps_do() {
+    let mut rng = Rng::new(33);
+    for _ in 0..300 {
+        let (k, n, q) = (rng.within(1, 9), rng.within(1, 20), rng.within(2, 12));
+        let mut stepped = Receiver::fresh(k, n, q).unwrap();
+        let mut listener = Listener::new(k, n, q).unwrap();
+        let mut row = [0; 128];
+        for read in rng.reads(400) {
+            let report = match stepped.step(read).unwrap() {
+                None => None,
+                Some(Event::Row(bits)) => {
+                    row = bits;
+                    Some(Report::Row)
+                }
+                Some(Event::Broken(found)) => Some(Report::Broken(found)),
+            };
+            assert_eq!(listener.read(read), report);
+            assert_eq!(*listener.row(), row);
+        }
+    }
+    assert_eq!(Listener::new(0, 1, 2).err(), Some(refusal(1, 0)));
 }
