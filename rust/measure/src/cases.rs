@@ -1,0 +1,721 @@
+//! The measured cases: for each the same input to the static library and to the plain implementation.
+
+use crate::archive::*;
+use crate::inputs::{self, A, B, K, LEAD, N, Q};
+use siengulot_plain::board::{Event, Listener, Mode, Receiver, Report};
+use siengulot_plain::{capture, counted, line, sender, settings};
+
+/// What an operation leaves: lent bytes, and the numbers it tells. Both sides have to leave the same.
+#[derive(PartialEq)]
+pub struct Lent {
+    pub out: Vec<u8>,
+    pub told: [i64; 4],
+}
+
+/// One side of a case, with its name.
+pub type Side = (&'static str, Box<dyn FnMut(&mut Lent)>);
+
+/// A case at one size: how many units it has, how many bytes are lent for the result, and its sides.
+pub struct Work {
+    pub units: usize,
+    pub room: usize,
+    pub sides: Vec<Side>,
+}
+
+/// A case: its name, what a unit is, the greatest ratio wished for, two sizes, and the work at a size.
+pub struct Case {
+    pub name: &'static str,
+    pub unit: &'static str,
+    pub wish: &'static str,
+    pub sizes: [usize; 2],
+    pub work: Box<dyn Fn(usize) -> Work>,
+}
+
+const SIZES: [usize; 2] = [100_000, 1_000_000];
+
+fn case(
+    name: &'static str,
+    unit: &'static str,
+    wish: &'static str,
+    sizes: [usize; 2],
+    work: impl Fn(usize) -> Work + 'static,
+) -> Case {
+    Case {
+        name,
+        unit,
+        wish,
+        sizes,
+        work: Box::new(work),
+    }
+}
+
+/// A work of two sides.
+fn two(
+    units: usize,
+    room: usize,
+    rattle: impl FnMut(&mut Lent) + 'static,
+    rust: impl FnMut(&mut Lent) + 'static,
+) -> Work {
+    let sides: Vec<Side> = vec![("rattle", Box::new(rattle)), ("rust", Box::new(rust))];
+    Work { units, room, sides }
+}
+
+/// Every measured case.
+pub fn all() -> Vec<Case> {
+    vec![
+        case("judge", "call", "1.5", SIZES, judge),
+        case("judge quiet", "call", "1.5", SIZES, judge_quiet),
+        case("send, 5/13 cells", "cycle", "1.5", [100, 1_000], send),
+        case("plan, 5/13 cells, n 80", "cycle", "1.5", [66, 660], plan),
+        case("smooth", "cycle", "1.1", SIZES, smooth),
+        case("warp, w 100 r 100", "cycle", "1.5", SIZES, |size| {
+            warp(100, 100, 50, inputs::smoothed(size))
+        }),
+        case("warp, w 100 r 141", "cycle", "1.5", SIZES, |size| {
+            warp(100, 141, 84, inputs::smoothed(size))
+        }),
+        case(
+            "warp, w 100 r 10",
+            "cycle",
+            "1.5",
+            [10_000, 100_000],
+            |size| warp(100, 10, 50, inputs::smoothed(size)),
+        ),
+        case("warp, w 10 r 100", "cycle", "1.5", SIZES, |size| {
+            warp(10, 100, 5, inputs::smoothed(size))
+        }),
+        case(
+            "warp, w 1 r 65,535, high",
+            "cycle",
+            "1.5",
+            [65_535, 655_350],
+            |size| warp(1, 65_535, 0, vec![1; size]),
+        ),
+        case("settle", "read", "1.1", SIZES, settle),
+        case("counted, 5/13 cells", "read", "1.5", [100, 1_000], |size| {
+            count(K, size, inputs::message(A, B, size))
+        }),
+        case(
+            "counted, 255/255 cells",
+            "read",
+            "1.5",
+            [100, 1_000],
+            |size| count(383, size, inputs::message(255, 255, size)),
+        ),
+        case("fresh", "call", "1.5", SIZES, fresh),
+        case("well formed", "call", "1.5", SIZES, well_formed),
+        case("step, rows", "read", "1.5", SIZES, step),
+        case("listen, quiet", "read", "1.0", SIZES, |size| {
+            listen(K, N, Q, vec![1; size])
+        }),
+        case("listen, rows", "read", "1.0", SIZES, |size| {
+            listen(K, N, Q, inputs::rows(size))
+        }),
+        case("listen, random", "read", "1.0", SIZES, |size| {
+            listen(K, N, Q, inputs::random(size, 9))
+        }),
+        case(
+            "listen, random, k 2 n 80 Q 8",
+            "read",
+            "1.0",
+            SIZES,
+            |size| listen(2, 80, 8, inputs::random(size, 9)),
+        ),
+        case(
+            "listen, k 1 n 1 Q 2, a row every 4 reads",
+            "read",
+            "–",
+            SIZES,
+            |size| listen(1, 1, 2, inputs::repeated(&[1, 1, 0, 0], size)),
+        ),
+        case(
+            "listen, k 1 n 1,024 Q 3, a row every 2,051 reads",
+            "read",
+            "–",
+            SIZES,
+            |size| listen(1, 1_024, 3, few_events(size)),
+        ),
+        case("capture check, rows", "byte", "1.5", SIZES, |size| {
+            capture_check(inputs::rows(size))
+        }),
+        case("capture check, random", "byte", "1.5", SIZES, |size| {
+            capture_check(inputs::random(size, 9))
+        }),
+        case("capture check, runs of 200", "byte", "1.5", SIZES, |size| {
+            capture_check(runs_of_200(size))
+        }),
+        case("capture read, rows", "read", "1.5", SIZES, |size| {
+            capture_read(inputs::rows(size))
+        }),
+        case("capture read, random", "read", "1.5", SIZES, |size| {
+            capture_read(inputs::random(size, 9))
+        }),
+        case("capture write, rows", "read", "1.5", SIZES, |size| {
+            capture_write(inputs::rows(size))
+        }),
+        case("capture write, random", "read", "1.5", SIZES, |size| {
+            capture_write(inputs::random(size, 9))
+        }),
+    ]
+}
+
+/// Settings to judge, 64 of them, so that no call can be worked out beforehand.
+fn many_settings() -> Vec<[usize; 7]> {
+    let (a, b) = (A, B);
+    (0..64)
+        .map(|i| [a + i % 3, b, K, 100, 60 + 2 * i, Q + i % 5, LEAD + i])
+        .collect()
+}
+
+fn judge(calls: usize) -> Work {
+    let (ours, plain) = (many_settings(), many_settings());
+    two(
+        calls,
+        0,
+        move |lent| {
+            let (mut margins, mut accepted) = ([0; 3], 0);
+            for i in 0..calls {
+                let [a, b, k, w, r, ..] = ours[i % 64];
+                let refused =
+                    unsafe { siengulot_judge(a, b, k, w, r, &mut margins, &mut accepted) };
+                assert_eq!(refused, 0);
+                lent.told[0] += accepted as i64;
+                lent.told[1] += margins[2];
+            }
+        },
+        move |lent| {
+            for i in 0..calls {
+                let [a, b, k, w, r, ..] = plain[i % 64];
+                let verdict = settings::judge(a, b, k, w as u64, r as u64);
+                let verdict = verdict.expect("in range");
+                lent.told[0] += verdict.accepted as i64;
+                lent.told[1] += verdict.margins[2];
+            }
+        },
+    )
+}
+
+fn judge_quiet(calls: usize) -> Work {
+    let (ours, plain) = (many_settings(), many_settings());
+    two(
+        calls,
+        0,
+        move |lent| {
+            let (mut margins, mut accepted) = ([0; 5], 0);
+            for i in 0..calls {
+                let [a, b, k, w, r, q, p1] = ours[i % 64];
+                let refused = unsafe {
+                    siengulot_judge_quiet(a, b, k, w, r, q, p1, &mut margins, &mut accepted)
+                };
+                assert_eq!(refused, 0);
+                lent.told[0] += accepted as i64;
+                lent.told[1] += margins[4];
+            }
+        },
+        move |lent| {
+            for i in 0..calls {
+                let [a, b, k, w, r, q, p1] = plain[i % 64];
+                let verdict = settings::judge_quiet(a, b, k, w as u64, r as u64, q, p1);
+                let verdict = verdict.expect("in range");
+                lent.told[0] += verdict.accepted as i64;
+                lent.told[1] += verdict.margins[4];
+            }
+        },
+    )
+}
+
+fn send(bits: usize) -> Work {
+    let ours = inputs::random(bits, 5);
+    let plain = ours.clone();
+    let cycles = LEAD + bits * (A + B);
+    two(
+        cycles,
+        cycles,
+        move |lent| {
+            let (mut place, mut count) = (0, 0);
+            let refused = unsafe {
+                siengulot_send(
+                    A,
+                    B,
+                    LEAD,
+                    0,
+                    ours.as_ptr(),
+                    ours.len(),
+                    lent.out.as_mut_ptr(),
+                    lent.out.len(),
+                    &mut place,
+                    &mut count,
+                )
+            };
+            lent.told = [refused as i64, count as i64, place as i64, 0];
+        },
+        move |lent| {
+            let sent = sender::message(A, B, LEAD, 0, &plain, &mut lent.out);
+            lent.told = [0, sent.expect("can be sent") as i64, 0, 0];
+        },
+    )
+}
+
+fn plan(rows: usize) -> Work {
+    let bits = inputs::random(rows * N, 5);
+    let (leads, trails) = (vec![LEAD; rows], vec![5; rows]);
+    let cycles = rows * (LEAD + N * (A + B) + 5);
+    let plain = (leads.clone(), trails.clone(), bits.clone());
+    two(
+        cycles,
+        cycles,
+        move |lent| {
+            let (mut place, mut count) = (0, 0);
+            let refused = unsafe {
+                siengulot_plan(
+                    A,
+                    B,
+                    N,
+                    leads.as_ptr(),
+                    leads.len(),
+                    trails.as_ptr(),
+                    trails.len(),
+                    bits.as_ptr(),
+                    bits.len(),
+                    lent.out.as_mut_ptr(),
+                    lent.out.len(),
+                    &mut place,
+                    &mut count,
+                )
+            };
+            lent.told = [refused as i64, count as i64, place as i64, 0];
+        },
+        move |lent| {
+            let sent = sender::plan(A, B, N, &plain.0, &plain.1, &plain.2, &mut lent.out);
+            lent.told = [0, sent.expect("can be sent") as i64, 0, 0];
+        },
+    )
+}
+
+fn smooth(cycles: usize) -> Work {
+    let ours = inputs::wave(cycles);
+    let plain = ours.clone();
+    two(
+        cycles,
+        cycles,
+        move |lent| {
+            let (mut place, mut count) = (0, 0);
+            let refused = unsafe {
+                siengulot_smooth(
+                    ours.as_ptr(),
+                    ours.len(),
+                    lent.out.as_mut_ptr(),
+                    lent.out.len(),
+                    &mut place,
+                    &mut count,
+                )
+            };
+            lent.told = [refused as i64, count as i64, place as i64, 0];
+        },
+        move |lent| {
+            let count = line::smooth(&plain, &mut lent.out);
+            lent.told = [0, count.expect("can be smoothed") as i64, 0, 0];
+        },
+    )
+}
+
+fn warp(w: usize, r: usize, p: usize, wave: Vec<u8>) -> Work {
+    let plain = wave.clone();
+    let reads = (wave.len() * w - p) / r;
+    two(
+        wave.len(),
+        reads,
+        move |lent| {
+            let (mut place, mut count) = (0, 0);
+            let refused = unsafe {
+                siengulot_warp(
+                    w,
+                    r,
+                    p,
+                    wave.as_ptr(),
+                    wave.len(),
+                    lent.out.as_mut_ptr(),
+                    lent.out.len(),
+                    &mut place,
+                    &mut count,
+                )
+            };
+            lent.told = [refused as i64, count as i64, place as i64, 0];
+        },
+        move |lent| {
+            let count = line::warp(w as u64, r as u64, p as u64, &plain, &mut lent.out);
+            lent.told = [0, count.expect("can be warped") as i64, 0, 0];
+        },
+    )
+}
+
+fn settle(reads: usize) -> Work {
+    let ours = inputs::unsettled(reads);
+    let unknown = ours.iter().filter(|&&read| read == 2).count();
+    let choices = inputs::random(unknown, 77);
+    let plain = (ours.clone(), choices.clone());
+    two(
+        reads,
+        reads,
+        move |lent| {
+            let (mut place, mut count) = (0, 0);
+            let refused = unsafe {
+                siengulot_settle(
+                    ours.as_ptr(),
+                    ours.len(),
+                    choices.as_ptr(),
+                    choices.len(),
+                    lent.out.as_mut_ptr(),
+                    lent.out.len(),
+                    &mut place,
+                    &mut count,
+                )
+            };
+            lent.told = [refused as i64, count as i64, place as i64, 0];
+        },
+        move |lent| {
+            let count = line::settle(&plain.0, &plain.1, &mut lent.out);
+            lent.told = [0, count.expect("can be settled") as i64, 0, 0];
+        },
+    )
+}
+
+fn count(k: usize, n: usize, reads: Vec<u8>) -> Work {
+    let plain = reads.clone();
+    two(
+        reads.len(),
+        n,
+        move |lent| {
+            let (mut place, mut count) = (0, 0);
+            let refused = unsafe {
+                siengulot_counted(
+                    k,
+                    n,
+                    1,
+                    reads.as_ptr(),
+                    reads.len(),
+                    lent.out.as_mut_ptr(),
+                    lent.out.len(),
+                    &mut place,
+                    &mut count,
+                )
+            };
+            lent.told = [refused as i64, 0, place as i64, 0];
+        },
+        move |lent| {
+            counted::receive(n, 1, k, &plain, &mut lent.out).expect("the bits are there");
+        },
+    )
+}
+
+/// The numbers by which a receiver crosses.
+fn numbers_of(receiver: &Receiver) -> [usize; 8] {
+    let mode = match receiver.mode {
+        Mode::Hunting => 0,
+        Mode::Ready => 1,
+        Mode::Counting => 2,
+        Mode::Waiting => 3,
+    };
+    [
+        receiver.k,
+        receiver.n,
+        receiver.q,
+        mode,
+        receiver.run,
+        receiver.left,
+        receiver.level.into(),
+        receiver.found,
+    ]
+}
+
+fn fresh(calls: usize) -> Work {
+    two(
+        calls,
+        128,
+        move |lent| {
+            let (mut numbers, mut bytes) = ([0; 8], [1; 128]);
+            for i in 0..calls {
+                let (k, n, q) = (1 + i % 64, N, Q);
+                let refused = unsafe { siengulot_fresh(k, n, q, &mut numbers, &mut bytes) };
+                assert_eq!(refused, 0);
+                lent.told[0] += (numbers[0] + usize::from(bytes[i % 128])) as i64;
+            }
+        },
+        move |lent| {
+            for i in 0..calls {
+                let (k, n, q) = (1 + i % 64, N, Q);
+                match Receiver::fresh(k, n, q) {
+                    Ok(fresh) => {
+                        lent.told[0] += (fresh.k + usize::from(fresh.bits[i % 128])) as i64
+                    }
+                    Err(_) => unreachable!("the settings are in range"),
+                }
+            }
+        },
+    )
+}
+
+/// States that a receiver goes through over two rows, in all four modes.
+fn many_states() -> Vec<Receiver> {
+    let mut receiver = Receiver::fresh(K, N, Q).expect("in range");
+    let mut states = vec![];
+    for (i, &read) in inputs::rows(2_000).iter().enumerate() {
+        receiver.step(read).expect("a level");
+        if i % 31 == 0 && states.len() < 64 {
+            states.push(receiver.clone());
+        }
+    }
+    states
+}
+
+fn well_formed(calls: usize) -> Work {
+    let plain = many_states();
+    let ours: Vec<_> = plain.iter().map(|s| (numbers_of(s), s.bits)).collect();
+    assert_eq!(ours.len(), 64);
+    two(
+        calls,
+        0,
+        move |lent| {
+            for i in 0..calls {
+                let (numbers, bytes) = &ours[i % 64];
+                lent.told[0] += unsafe { siengulot_well_formed(numbers, bytes) } as i64;
+            }
+        },
+        move |lent| {
+            for i in 0..calls {
+                lent.told[0] += plain[i % 64].well_formed() as i64;
+            }
+        },
+    )
+}
+
+fn step(reads: usize) -> Work {
+    let ours = inputs::rows(reads);
+    let plain = ours.clone();
+    two(
+        reads,
+        128,
+        move |lent| {
+            let (mut numbers, mut bytes, mut row) = ([0; 8], [0; 128], [0; 128]);
+            let (mut event, mut found, mut place) = (0, 0, 0);
+            unsafe { siengulot_fresh(K, N, Q, &mut numbers, &mut bytes) };
+            for &read in &ours {
+                let refused = unsafe {
+                    siengulot_step(
+                        &mut numbers,
+                        &mut bytes,
+                        read,
+                        &mut row,
+                        &mut event,
+                        &mut found,
+                        &mut place,
+                    )
+                };
+                lent.told[0] |= refused as i64;
+                if event == 1 {
+                    lent.told[1] += 1;
+                } else if event == 2 {
+                    lent.told[2] += 1;
+                    lent.told[3] += found as i64;
+                }
+            }
+            lent.out.copy_from_slice(&row);
+        },
+        move |lent| {
+            let mut receiver = Receiver::fresh(K, N, Q).expect("in range");
+            for &read in &plain {
+                match receiver.step(read) {
+                    Ok(event) => heard(&event, lent),
+                    Err(_) => unreachable!("every read is a level"),
+                }
+            }
+        },
+    )
+}
+
+/// Puts down an event of the plain implementation.
+#[inline]
+fn heard(event: &Option<Event>, lent: &mut Lent) {
+    match event {
+        None => {}
+        Some(Event::Row(row)) => {
+            lent.told[1] += 1;
+            lent.out.copy_from_slice(row);
+        }
+        Some(Event::Broken(found)) => {
+            lent.told[2] += 1;
+            lent.told[3] += *found as i64;
+        }
+    }
+}
+
+/// Listening goes on after each event until the reads are used up. The plain implementation takes one read at a time,
+/// and for comparison also a list of reads.
+fn listen(k: usize, n: usize, q: usize, reads: Vec<u8>) -> Work {
+    let (units, plain, listed) = (reads.len(), reads.clone(), reads.clone());
+    let rattle = move |lent: &mut Lent| {
+        let (mut numbers, mut bytes, mut row) = ([0; 8], [0; 128], [0; 128]);
+        let (mut event, mut found, mut used, mut place) = (0, 0, 0, 0);
+        unsafe { siengulot_fresh(k, n, q, &mut numbers, &mut bytes) };
+        let mut rest = &reads[..];
+        while !rest.is_empty() {
+            let refused = unsafe {
+                siengulot_listen(
+                    &mut numbers,
+                    &mut bytes,
+                    rest.as_ptr(),
+                    rest.len(),
+                    &mut row,
+                    &mut event,
+                    &mut found,
+                    &mut used,
+                    &mut place,
+                )
+            };
+            lent.told[0] |= refused as i64;
+            rest = &rest[used..];
+            if event == 1 {
+                lent.told[1] += 1;
+            } else if event == 2 {
+                lent.told[2] += 1;
+                lent.told[3] += found as i64;
+            }
+        }
+        lent.out.copy_from_slice(&row);
+    };
+    let rust = move |lent: &mut Lent| {
+        let mut listener = Listener::new(k, n, q).expect("in range");
+        for &read in &plain {
+            match listener.read(read) {
+                None => {}
+                Some(Report::Row) => lent.told[1] += 1,
+                Some(Report::Broken(found)) => {
+                    lent.told[2] += 1;
+                    lent.told[3] += found as i64;
+                }
+            }
+        }
+        lent.out.copy_from_slice(listener.row());
+    };
+    let list = move |lent: &mut Lent| {
+        let mut receiver = Receiver::fresh(k, n, q).expect("in range");
+        let mut rest = &listed[..];
+        while !rest.is_empty() {
+            match receiver.listen(rest) {
+                Ok(taken) => {
+                    rest = &rest[taken.taken..];
+                    heard(&taken.event, lent);
+                }
+                Err(_) => unreachable!("every read is a level"),
+            }
+        }
+    };
+    let mut work = two(units, 128, rattle, rust);
+    work.sides.push(("list", Box::new(list)));
+    work
+}
+
+/// Rows of 1,024 bits, two reads each, behind a quiet of three.
+fn few_events(reads: usize) -> Vec<u8> {
+    let mut row = vec![1; 3];
+    row.extend(inputs::repeated(&[0, 0, 1, 1], 2_048));
+    inputs::repeated(&row, reads)
+}
+
+/// Levels that change every 200 reads: runs that take two bytes.
+fn runs_of_200(reads: usize) -> Vec<u8> {
+    (0..reads).map(|i| (i / 200 % 2) as u8).collect()
+}
+
+/// The capture of reads.
+fn captured(reads: &[u8]) -> Vec<u8> {
+    let mut bytes = vec![0; reads.len() + 7];
+    let length = capture::write(K, N, Q, reads, &mut bytes).expect("can be captured");
+    bytes.truncate(length);
+    bytes
+}
+
+fn told(refused: usize, summary: &[usize; 5]) -> [i64; 4] {
+    assert_eq!(refused, 0);
+    [summary[0], summary[1], summary[2], summary[3]].map(|number| number as i64)
+}
+
+fn plain_told(summary: capture::Summary) -> [i64; 4] {
+    [summary.k, summary.n, summary.q, summary.reads].map(|number| number as i64)
+}
+
+fn capture_check(reads: Vec<u8>) -> Work {
+    let ours = captured(&reads);
+    let plain = ours.clone();
+    two(
+        ours.len(),
+        0,
+        move |lent| {
+            let (mut summary, mut place) = ([0; 5], 0);
+            let refused = unsafe {
+                siengulot_capture_check(ours.as_ptr(), ours.len(), &mut summary, &mut place)
+            };
+            lent.told = told(refused, &summary);
+        },
+        move |lent| {
+            lent.told = plain_told(capture::check(&plain).expect("a capture"));
+        },
+    )
+}
+
+fn capture_read(reads: Vec<u8>) -> Work {
+    let ours = captured(&reads);
+    let plain = ours.clone();
+    two(
+        reads.len(),
+        reads.len(),
+        move |lent| {
+            let (mut summary, mut place) = ([0; 5], 0);
+            let refused = unsafe {
+                siengulot_capture_read(
+                    ours.as_ptr(),
+                    ours.len(),
+                    lent.out.as_mut_ptr(),
+                    lent.out.len(),
+                    &mut summary,
+                    &mut place,
+                )
+            };
+            lent.told = told(refused, &summary);
+        },
+        move |lent| {
+            let summary = capture::read(&plain, &mut lent.out).expect("a capture");
+            lent.told = plain_told(summary);
+        },
+    )
+}
+
+fn capture_write(reads: Vec<u8>) -> Work {
+    let plain = reads.clone();
+    let room = captured(&reads).len();
+    two(
+        reads.len(),
+        room,
+        move |lent| {
+            let (mut place, mut count) = (0, 0);
+            let refused = unsafe {
+                siengulot_capture_write(
+                    K,
+                    N,
+                    Q,
+                    reads.as_ptr(),
+                    reads.len(),
+                    lent.out.as_mut_ptr(),
+                    lent.out.len(),
+                    &mut place,
+                    &mut count,
+                )
+            };
+            lent.told = [refused as i64, count as i64, place as i64, 0];
+        },
+        move |lent| {
+            let length = capture::write(K, N, Q, &plain, &mut lent.out).expect("can be written");
+            lent.told = [0, length as i64, 0, 0];
+        },
+    )
+}
