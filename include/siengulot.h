@@ -56,12 +56,12 @@ enum siengulot_refusal {
     SIENGULOT_NO_REFUSAL = 0,
     SIENGULOT_SETTING = 1, /* a setting or a level in force out of range, a plan whose lists do not fit, a receiver that is not well formed */
     SIENGULOT_ENTRY = 2,   /* an entry that is not of the kind taken; `place` is where the first such entry stands */
-    SIENGULOT_LIMIT = 3,   /* a list over its limit, or a result that would be */
-    SIENGULOT_ROOM = 4,    /* a lent output shorter than the result */
+    SIENGULOT_LIMIT = 3,   /* too long a list, lent or to be given */
+    SIENGULOT_ROOM = 4,    /* too little room in a lent output */
     SIENGULOT_RAN_OUT = 5, /* the counted receiver came to the end of the reads */
-    SIENGULOT_CUT = 6,     /* a capture ends inside a number or before its fourth */
-    SIENGULOT_FORM = 7,    /* a capture's number is not in its shortest form, or is longer than three bytes */
-    SIENGULOT_RANGE = 8    /* a capture's number is out of range for its place */
+    SIENGULOT_CUT = 6,     /* a capture stops in the middle of a number, or with fewer than four */
+    SIENGULOT_FORM = 7,    /* a capture's number has more bytes than it needs, or more than three */
+    SIENGULOT_RANGE = 8    /* a capture's number is one that its place does not allow */
 };
 
 /*
@@ -319,8 +319,8 @@ enum siengulot_summary {
  * Refuses with
  *   3  more than 1,048,583 bytes;
  * then number by number from the left, each at the `place` of its first byte,
- *   6  a capture that ends inside a number or before its fourth (`place` is bytes_length where nothing of the number is there);
- *   7  a number that is not in shortest form, or whose third byte has the top bit set;
+ *   6  bytes that stop in the middle of a number, or with fewer than four numbers (`place` is bytes_length where nothing of the number is there);
+ *   7  a number with more bytes than it needs, or with more than three;
  *   8  k, n, Q or the first level out of range, a run of 0, a run with which the reads become more than 1,048,576, or a first level of 0 with no
  *      run behind it (`place` is then the level's).
  * Leaves with a refusal `summary` as it was.
