@@ -1,5 +1,5 @@
 //! Software for a biphase mark link: judging settings, sending, a model of the line,
-//! two receivers, the capture file, and the program that prints the rows of a capture.
+//! two receivers, the capture file, and what the rows program prints.
 //!
 //! Document 01 fixes the rules. Every module follows one of its sections, named at the top
 //! of the module, and the comments name the rule they carry out. Levels and bits are bytes, 0 or 1, and 2 is an unknown

@@ -19,7 +19,7 @@ pub const MIN_QUIET: usize = 2;
 pub const MAX_QUIET: usize = 8_191;
 /// Most rows of a plan.
 pub const MAX_ROWS: usize = 1_024;
-/// Most entries of a wave, a stream of reads or a list of choices.
+/// Most cycles, reads or choices in a list.
 pub const MAX_LIST: usize = 1_048_576;
 /// Most bytes of a capture.
 pub const MAX_CAPTURE: usize = 1_048_583;
@@ -62,7 +62,7 @@ pub(crate) fn pad_fits(pad: usize) -> bool {
     pad <= MAX_PAD
 }
 
-/// The range of n where a row is meant: the row receiver, a plan and a capture.
+/// The range of n where a row is meant, and not a message.
 pub(crate) fn row_bits_fit(n: usize) -> bool {
     (1..=MAX_BITS).contains(&n)
 }

@@ -21,9 +21,9 @@ use siengulot_plain::settings::judge_quiet;
 /// What is known of one row before the receiver is asked.
 struct Row {
     bits: Vec<u8>,
-    /// First read that shares more than a point of time with the lead pad.
+    /// First read that overlaps the lead pad in time.
     quiet_starts: usize,
-    /// The Q-th read that lies wholly within the lead pad without its first cycle.
+    /// The read with which the lead pad's quiet has been heard.
     heard: usize,
     /// The read of the last sample, by the counted rule from behind `heard`.
     last_sample: usize,

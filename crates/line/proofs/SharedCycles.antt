@@ -1,4 +1,4 @@
--- A read looks at exactly the cycles that share more than a point of time with it, and so is the level that they all have: the first one
+-- What a read looks at are the cycles that overlap it in time, these and no others, and so it is the level that they all have: the first one
 -- left is the first that ends after the read's start, and the look goes on just as long as cycles start before its end.
 use mathlib.Core.Path.{_≡_, refl, sym}
 use mathlib.Core.Logic.{⊎-elim, dite}

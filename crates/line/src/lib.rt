@@ -57,7 +57,7 @@ fn smooth_into(wave: &[u8], out: &mut [u8])
     }
 }
 
-// Pass 1, smooth. Gives the wave in which each cycle whose level differs from the cycle before is unknown; high stands before the first.
+// Pass 1, smooth. Gives the wave with each cycle unknown at which the level changed; the line was high before the first.
 // Refuses a wave over its limit (3), an entry that is no level (2, its place), and an output shorter than the wave (4).
 // The output's front holds the smoothed wave, and its rest is untouched; a refusal leaves it whole as it was.
 pub fn smooth(wave: &[u8], out: &mut [u8]) -> Smoothed
@@ -206,7 +206,7 @@ fn reconcile(wave: &[u8], looking: Looking, w: TimeUnits, t: TimeUnits) -> Looke
     leave(at, t)
 }
 
-// One read, which ends at `t`: it looks at the first cycle that is left and then at the rest. A read of up to twice a cycle's length looks at
+// One read, which ends at `t`: it looks at the cycles left over, one after another. A read of up to twice a cycle's length looks at
 // three at most, and those are taken here, without a call.
 fn one_read(wave: &[u8], first: WriterCycles, w: TimeUnits, t: TimeUnits) -> Looked
     requires { ⌜ (cycleLength (w .0) ≡ true) × (length (now wave) ≤ entriesMost)

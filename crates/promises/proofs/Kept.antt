@@ -54,7 +54,7 @@ kept g left v (x ∷ xs) (suc c) u o h e =
         at zero y z = q (omega arith)
         at (suc i) y z = f i (omega arith) (omega arith)
 
--- a read that is v: so is each cycle that shares more than a point of time with it
+-- a read that is v: so is each cycle that overlaps it in time
 shared : {tw tr : ℕ → ℕ} → Clocks tw tr → (levels : List ℕ) (q v : ℕ) → v < 2 → getD (warpBy tw tr levels) q 2 ≡ v
     → (c : ℕ) → Shares tw tr q c → getD levels c 2 ≡ v
 shared {tw} {tr} clocks levels q v known is c shares =

@@ -1,4 +1,4 @@
--- 01, "Margins": for accepted settings the counted receiver, started high, returns every message. Source 002's results are cases of it.
+-- 01, "Margins": with settings that are accepted, no message is lost between sender and counted receiver. Source 002's results are cases of it.
 use Prim.Native.Nat.{ℕ, _+_, _*_, _≤_, _<_}
 use mathlib.Core.Path.{_≡_}
 use mathlib.Core.Bool.{true}

@@ -36,7 +36,7 @@ pub record Fitting (x : Link) : Type 0 where
 
 -- Demand 3 of a receiver that does `step` with each read.
 pub record Demand3 (x : Link) (step : Step) : Type 0 where
-  -- Before the stretch exactly the rows whose last sample is read there are delivered, and nothing is broken.
+  -- Ahead of the stretch: the rows that end there by their last sample are delivered, these and no others, and nothing is broken.
   pub before : (i j : ℕ) (junk : List ℕ) → i ≤ j → j ≤ length (readsOf x)
       → below i (reportsBy step fresh 0 (damaged x i j junk)) ≡ below i (deliveries x 0 (x .rows))
   -- After a row's lead quiet, read wholly after the stretch, has been heard, exactly that row and those after it are. Of the first such row it says most.

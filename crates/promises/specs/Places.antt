@@ -70,7 +70,7 @@ unfoldable pub markPlace : ℕ → ℕ → List ℕ → ℕ
 markPlace level place [] = place
 markPlace level place (read ∷ reads) = choose (eqb read level) (markPlace level (suc place) reads) place
 
--- what follows a sample: it is the new level and the new current read
+-- what follows a sample: the search for the next mark begins with it, at its level
 abbrev pub fromSample : (ℕ → ℕ → List ℕ → ℕ) → ℕ → List ℕ → ℕ
 fromSample next place [] = place
 fromSample next place (sample ∷ reads) = next sample place (sample ∷ reads)

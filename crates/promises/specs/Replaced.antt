@@ -15,7 +15,7 @@ abbrev pub damaged : Link → ℕ → ℕ → List ℕ → List ℕ
 damaged x i j junk = take i (readsOf x) ++ junk ++ drop j (readsOf x)
 
 -- The lead quiet of a row, whose lead begins with this cycle, is read wholly after a stretch that ends before place j:
--- every read that shares more than a point of time with its lead cycles stands at j or later.
+-- no read that overlaps its lead cycles in time stands before j.
 abbrev pub WhollyAfter : Link → ℕ → Row → ℕ → Type 0
 WhollyAfter x cycle row j =
     (i read : ℕ) → cycle ≤ i → i < cycle + row .lead → read < length (readsOf x)

@@ -21,7 +21,7 @@ refusesAll s read = record { state = s; event = nothing }
 abbrev pub leavesState : Settings → Step
 leavesState g s read = record { state = s; event = next g s read .event }
 
--- One that delivers the first row and afterwards hunts. That it has delivered it remembers by a read left in hunting, which the rules never leave.
+-- One that delivers a first row and hunts ever after. That it has delivered it remembers by a read left in hunting, which the rules never leave.
 abbrev pub delivered : State
 delivered = record { mode = Hunting; left = 1; level = 1; run = 0; bits = [] }
 

@@ -57,7 +57,7 @@ cells-placed a b before level bits i at out next h is laid =
     ∙ placed-next out next at (at + a + b) cell (cells a b code (drop (i + 1) bits)) laid (omega (arith, length-cell a b (opposite before) code))
     ∙ rw is
 
--- the longest wave of one message has 653,310 cycles
+-- 65,535 cycles of pad on either side and 1,024 cells of 510: no message has a longer wave
 pub message-most : (a b p1 p2 n : ℕ) → a ≤ 255 → b ≤ 255 → p1 ≤ 65535 → p2 ≤ 65535 → n ≤ 1024 → p1 + n * (a + b) + p2 ≤ 653310
 message-most a b p1 p2 n ha hb h1 h2 hn =
     let cell : a + b ≤ 510 = omega arith in
