@@ -171,6 +171,17 @@ fn round(bench: &mut Bench) {
 /// Lists that are as long as they may be, and one entry longer; outputs that just hold the longest results, and just do not.
 fn limits(bench: &mut Bench) {
     let (full, short) = (Room::More(0), Room::Less(1));
+    // As many reads as a list may have, and one more.
+    for (w, p, cycles) in [
+        (32_768, 0, 32),
+        (32_769, 32, 32),
+        (32_769, 31, 32),
+        (1, 0, MAX_LIST),
+    ] {
+        let wave = bench.rng.entries(cycles, 2);
+        bench.warp([w, 1, p], &wave, full);
+        bench.warp([w, 1, p], &wave, short);
+    }
     for length in [MAX_BITS, MAX_BITS + 1] {
         let bits = bench.rng.entries(length, 1);
         for room in [full, short] {
@@ -230,17 +241,6 @@ fn limits(bench: &mut Bench) {
             bench.listen(&state, &vec![1; length]);
             bench.listen(&state, &bad);
         }
-    }
-    // As many reads as a list may have, and one more.
-    for (w, p, cycles) in [
-        (32_768, 0, 32),
-        (32_769, 32, 32),
-        (32_769, 31, 32),
-        (1, 0, MAX_LIST),
-    ] {
-        let wave = bench.rng.entries(cycles, 2);
-        bench.warp([w, 1, p], &wave, full);
-        bench.warp([w, 1, p], &wave, short);
     }
     bench.warp([65_535, 1, 65_534], &vec![0; 17], full);
     bench.warp([65_535, 65_535, 65_534], &vec![2; MAX_LIST], full);
