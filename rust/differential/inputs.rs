@@ -306,15 +306,25 @@ impl Rng {
     }
 
     fn damage_receiver(&mut self, numbers: &mut [usize; 8], bits: &mut [u8; ROW_BYTES]) {
+        let [k, n, q, ..] = *numbers;
+        // Numbers at and just past the ends of what is well formed.
+        let ends: [&[usize]; 8] = [
+            &[0, 1, MAX_K, MAX_K + 1],
+            &[0, 1, MAX_BITS, MAX_BITS + 1],
+            &[MIN_QUIET - 1, MIN_QUIET, MAX_QUIET, MAX_QUIET + 1],
+            &[0, 1, 2, 3, 4, 5, 256, 1 << 32, usize::MAX],
+            &[0, q - 1, q, q + 1],
+            &[0, 1, k, k + 1],
+            &[0, 1, 2, 255, 256, 257, 1 << 32, usize::MAX],
+            &[0, 1, n - 1, n, n + 1],
+        ];
         for _ in 0..self.within(1, 2) {
             let place = self.below(8);
             match self.below(8) {
                 0 => numbers[place] = numbers[place].wrapping_add(1),
                 1 => numbers[place] = numbers[place].wrapping_sub(1),
                 2 => numbers[place] ^= 1 << self.below(64),
-                3 => numbers[place] = self.below(12),
-                4 => numbers[3] = self.pick(&[4, 5, 256, 257, 1 << 32, usize::MAX]),
-                5 => numbers[6] = self.pick(&[2, 255, 256, 257, 1 << 32, usize::MAX]),
+                3..=5 => numbers[place] = self.pick(ends[place]),
                 6 => bits[self.below(ROW_BYTES)] ^= 1 << self.below(8),
                 _ => {
                     let past = numbers[7].min(1_023);

@@ -73,7 +73,11 @@ fn main() {
     while rounds < ROUNDS && started.elapsed() < TIME {
         round(&mut bench);
         if rounds == 200 {
-            limits(&mut bench);
+            greatest_counts(&mut bench);
+            longest_waves(&mut bench);
+            longest_captures(&mut bench);
+            short_captures(&mut bench);
+            longest_lists(&mut bench);
             vast(&mut bench);
         }
         if rounds % 100 == 0 {
@@ -168,10 +172,12 @@ fn round(bench: &mut Bench) {
     bench.capture_write(settings, &reads, room);
 }
 
-/// Lists that are as long as they may be, and one entry longer; outputs that just hold the longest results, and just do not.
-fn limits(bench: &mut Bench) {
-    let (full, short) = (Room::More(0), Room::Less(1));
-    // As many reads as a list may have, and one more.
+/// An output that just holds the result, and one that just does not.
+const FULL: Room = Room::More(0);
+const SHORT: Room = Room::Less(1);
+
+/// As many reads as a list may have, and one more.
+fn greatest_counts(bench: &mut Bench) {
     for (w, p, cycles) in [
         (32_768, 0, 32),
         (32_769, 32, 32),
@@ -179,12 +185,19 @@ fn limits(bench: &mut Bench) {
         (1, 0, MAX_LIST),
     ] {
         let wave = bench.rng.entries(cycles, 2);
-        bench.warp([w, 1, p], &wave, full);
-        bench.warp([w, 1, p], &wave, short);
+        bench.warp([w, 1, p], &wave, FULL);
+        bench.warp([w, 1, p], &wave, SHORT);
     }
+    bench.warp([65_535, 1, 65_534], &vec![0; 17], FULL);
+    bench.warp([65_535, 65_535, 65_534], &vec![2; MAX_LIST], FULL);
+    bench.warp([65_535, 1, 65_534], &vec![0; MAX_LIST], FULL);
+}
+
+/// Messages and plans of as many bits, rows and cycles as there may be, and of one more.
+fn longest_waves(bench: &mut Bench) {
     for length in [MAX_BITS, MAX_BITS + 1] {
         let bits = bench.rng.entries(length, 1);
-        for room in [full, short] {
+        for room in [FULL, SHORT] {
             bench.send([255, 255, 65_535, 65_535], &bits, room);
             bench.send([1, 1, 0, 0], &bits, room);
         }
@@ -200,17 +213,73 @@ fn limits(bench: &mut Bench) {
     ] {
         let (leads, trails) = (vec![pad; rows], vec![0; rows]);
         let bits = bench.rng.entries(rows * n, 1);
-        for room in [full, short] {
+        for room in [FULL, SHORT] {
             bench.plan([1, 1, n], &leads, &trails, &bits, room);
             bench.plan([1, 1, n], &trails, &leads, &bits, room);
         }
     }
+}
+
+/// Captures of as many bytes and of as many reads as there may be, and of one more.
+fn longest_captures(bench: &mut Bench) {
+    let heading = [0xff, 0x03, 0x80, 0x08, 0xff, 0x3f];
+    for level in [0, 1] {
+        let mut bytes = heading.to_vec();
+        bytes.push(level);
+        bytes.resize(MAX_CAPTURE, 1);
+        let last = bytes.len() - 1;
+        for room in [FULL, SHORT] {
+            bench.capture_check(&bytes);
+            bench.capture_read(&bytes, room);
+        }
+        bytes[last] = 2;
+        bench.capture_check(&bytes);
+        bytes[last] = 0;
+        bench.capture_check(&bytes);
+        bytes[last] = 0x80;
+        bench.capture_check(&bytes);
+        bytes.push(1);
+        bench.capture_check(&bytes);
+        bench.capture_read(&bytes, FULL);
+        for runs in [
+            &[0x80, 0x80, 0x40][..],
+            &[0x81, 0x80, 0x40],
+            &[0xff, 0xff, 0x7f],
+            &[0xff, 0xff, 0x3f, 1],
+            &[0xff, 0xff, 0x3f, 2],
+            &[1, 0xff, 0xff, 0x3f],
+            &[2, 0xff, 0xff, 0x3f],
+        ] {
+            let mut bytes = heading.to_vec();
+            bytes.push(level);
+            bytes.extend_from_slice(runs);
+            bench.capture_check(&bytes);
+            bench.capture_read(&bytes, FULL);
+            bench.capture_read(&bytes, SHORT);
+        }
+    }
+}
+
+/// Every capture of up to two bytes, and every ending of one byte or two behind a heading.
+fn short_captures(bench: &mut Bench) {
+    for length in [0, 1, 2] {
+        for number in 0..1_usize << (8 * length) {
+            let ending = &number.to_le_bytes()[..length];
+            bench.capture_check(ending);
+            bench.capture_check(&[&[2, 2, 6][..], ending].concat());
+            bench.capture_check(&[&[2, 2, 6, 0, 5][..], ending].concat());
+        }
+    }
+}
+
+/// Lists of as many entries as there may be, and of one more.
+fn longest_lists(bench: &mut Bench) {
     for length in [MAX_LIST - 1, MAX_LIST, MAX_LIST + 1] {
         let levels = bench.rng.entries(length, 1);
         let reads = bench.rng.entries(length, 2);
         let mut bad = levels.clone();
         bad[length - 1] = 3;
-        for room in [full, short] {
+        for room in [FULL, SHORT] {
             bench.smooth(&levels, room);
             bench.smooth(&bad, room);
             bench.settle(&reads, &levels, room);
@@ -225,11 +294,11 @@ fn limits(bench: &mut Bench) {
             bench.capture_write([10, 16, 21], &bad, room);
         }
         // One read over all of the cycles, and over as many as it can take.
-        bench.warp([1, 65_535, 0], &vec![1; length], full);
-        bench.warp([1, 65_535, 0], &reads, full);
+        bench.warp([1, 65_535, 0], &vec![1; length], FULL);
+        bench.warp([1, 65_535, 0], &reads, FULL);
         // Each read a run of its own: the longest capture.
         let turns: Vec<u8> = (0..length).map(|i| (i % 2) as u8).collect();
-        bench.capture_write([511, 1_024, 8_191], &turns, full);
+        bench.capture_write([511, 1_024, 8_191], &turns, FULL);
         for state in [[511, 1_024, 8_191], [1, 1, 2], [10, 16, 21]] {
             let mut state = bench.fresh(state);
             let mut taken = 0;
@@ -240,56 +309,6 @@ fn limits(bench: &mut Bench) {
             }
             bench.listen(&state, &vec![1; length]);
             bench.listen(&state, &bad);
-        }
-    }
-    bench.warp([65_535, 1, 65_534], &vec![0; 17], full);
-    bench.warp([65_535, 65_535, 65_534], &vec![2; MAX_LIST], full);
-    bench.warp([65_535, 1, 65_534], &vec![0; MAX_LIST], full);
-
-    // Captures of as many bytes as there may be, and of one more; of as many reads, and of one more.
-    let heading = [0xff, 0x03, 0x80, 0x08, 0xff, 0x3f];
-    for level in [0, 1] {
-        let mut bytes = heading.to_vec();
-        bytes.push(level);
-        bytes.resize(MAX_CAPTURE, 1);
-        let last = bytes.len() - 1;
-        for room in [full, short] {
-            bench.capture_check(&bytes);
-            bench.capture_read(&bytes, room);
-        }
-        bytes[last] = 2;
-        bench.capture_check(&bytes);
-        bytes[last] = 0;
-        bench.capture_check(&bytes);
-        bytes[last] = 0x80;
-        bench.capture_check(&bytes);
-        bytes.push(1);
-        bench.capture_check(&bytes);
-        bench.capture_read(&bytes, full);
-        for runs in [
-            &[0x80, 0x80, 0x40][..],
-            &[0x81, 0x80, 0x40],
-            &[0xff, 0xff, 0x7f],
-            &[0xff, 0xff, 0x3f, 1],
-            &[0xff, 0xff, 0x3f, 2],
-            &[1, 0xff, 0xff, 0x3f],
-            &[2, 0xff, 0xff, 0x3f],
-        ] {
-            let mut bytes = heading.to_vec();
-            bytes.push(level);
-            bytes.extend_from_slice(runs);
-            bench.capture_check(&bytes);
-            bench.capture_read(&bytes, full);
-            bench.capture_read(&bytes, short);
-        }
-    }
-    // Every capture of up to two bytes, and every ending of one byte or two behind a heading.
-    for length in [0, 1, 2] {
-        for number in 0..1_usize << (8 * length) {
-            let ending = &number.to_le_bytes()[..length];
-            bench.capture_check(ending);
-            bench.capture_check(&[&[2, 2, 6][..], ending].concat());
-            bench.capture_check(&[&[2, 2, 6, 0, 5][..], ending].concat());
         }
     }
 }
