@@ -2,7 +2,7 @@
 //! copy of what is lent. Afterwards the two have to be equal, each byte and number, the guards included.
 
 use crate::inputs::Rng;
-use crate::lent::{Edge, Lent, Numbers};
+use crate::lent::{Bytes, Edge, Lent, Numbers};
 use crate::library::*;
 use siengulot_plain::board::{Event, Mode, Receiver, ROW_BYTES};
 use siengulot_plain::capture::{self, Reader, Summary};
@@ -93,21 +93,68 @@ impl State {
 /// What reads brought, with the receiver after them.
 pub struct Brought {
     pub state: State,
-    pub number: usize,
+    number: usize,
+    event: usize,
     pub used: usize,
     pub row: Option<[u8; ROW_BYTES]>,
 }
 
-/// How an event crosses: its number, and the bits of a broken row.
-fn crossed(event: &Option<Event>) -> (usize, usize) {
-    match event {
-        None => (0, 0),
-        Some(Event::Row(_)) => (1, 0),
-        Some(Event::Broken(found)) => (2, *found),
-    }
+/// The events by the numbers that they cross as.
+const EVENTS: [&str; 3] = ["nothing", "row", "broken"];
+
+/// The refusal of numbers that stand for no receiver.
+const NO_RECEIVER: Refusal = Refusal {
+    number: 1,
+    place: 0,
+};
+
+/// Where a receiver and what reads bring are lent.
+struct At {
+    numbers: Numbers,
+    bits: Bytes,
+    row: Bytes,
+    event: Numbers,
+    found: Numbers,
+    place: Numbers,
 }
 
-const EVENTS: [&str; 3] = ["nothing", "row", "broken"];
+impl At {
+    /// Writes what the plain side answered, an event and how many reads that took, and the receiver as that left it. Numbers that stand for no
+    /// receiver are left.
+    fn tell(
+        &self,
+        expected: &mut Lent,
+        state: &State,
+        receiver: Option<Receiver>,
+        answer: Result<(Option<Event>, usize), Refusal>,
+    ) -> Brought {
+        let state = receiver.map_or(*state, |receiver| State::of(&receiver));
+        let (number, place, happened, used) = match answer {
+            Ok((happened, used)) => (0, 0, happened, used),
+            Err(refusal) => (usize::from(refusal.number), refusal.place, None, 0),
+        };
+        let (event, found, row) = match happened {
+            None => (0, 0, None),
+            Some(Event::Row(row)) => (1, 0, Some(row)),
+            Some(Event::Broken(found)) => (2, found, None),
+        };
+        expected.set(self.numbers, &state.numbers);
+        expected.write(self.bits, &state.bits);
+        expected.set(self.event, &[event]);
+        expected.set(self.found, &[found]);
+        expected.set(self.place, &[place]);
+        if let Some(row) = &row {
+            expected.write(self.row, row);
+        }
+        Brought {
+            state,
+            number,
+            event,
+            used,
+            row,
+        }
+    }
+}
 
 pub struct Bench {
     pub rng: Rng,
@@ -471,137 +518,83 @@ impl Bench {
     }
 
     pub fn step(&mut self, state: &State, read: u8) -> Brought {
-        let mut lent = Lent::new();
-        let numbers = lent.numbers("numbers", 8, &mut self.rng);
-        let bits = lent.bytes("bits", &state.bits, &mut self.rng);
-        let row = lent.room("row", ROW_BYTES, &mut self.rng);
-        let event = lent.number("event", &mut self.rng);
-        let found = lent.number("found", &mut self.rng);
-        let place = lent.number("place", &mut self.rng);
-        lent.set(numbers, &state.numbers);
+        let (mut lent, at) = self.lend_receiver(state);
         let mut expected = lent.clone();
-
-        let mut brought = nothing(state);
-        let mut refused_at = 0;
-        let mut happened = None;
-        if let Some(mut receiver) = state.receiver() {
-            match receiver.step(read) {
-                Ok(event) => {
-                    happened = event;
-                    brought = Brought {
-                        state: State::of(&receiver),
-                        number: 0,
-                        used: 1,
-                        row: None,
-                    };
-                }
-                Err(refusal) => {
-                    brought.number = usize::from(refusal.number);
-                    refused_at = refusal.place;
-                    // A state that a refusal has changed is a fault of the plain side; let it show.
-                    brought.state = State::of(&receiver);
-                }
-            }
-        }
-        expected.set(numbers, &brought.state.numbers);
-        expected.write(bits, &brought.state.bits);
-        if let Some(Event::Row(delivered)) = happened {
-            expected.write(row, &delivered);
-            brought.row = Some(delivered);
-        }
-        let (kind, dropped) = crossed(&happened);
-        expected.set(event, &[kind]);
-        expected.set(found, &[dropped]);
-        expected.set(place, &[refused_at]);
-
+        let mut receiver = state.receiver();
+        let answer = match &mut receiver {
+            Some(receiver) => receiver.step(read).map(|event| (event, 1)),
+            None => Err(NO_RECEIVER),
+        };
+        let brought = at.tell(&mut expected, state, receiver, answer);
         let got = unsafe {
             siengulot_step(
-                lent.pointer(numbers),
-                lent.bytes_pointer(bits),
+                lent.pointer(at.numbers),
+                lent.bytes_pointer(at.bits),
                 read,
-                lent.bytes_pointer(row),
-                lent.pointer(event),
-                lent.pointer(found),
-                lent.pointer(place),
+                lent.bytes_pointer(at.row),
+                lent.pointer(at.event),
+                lent.pointer(at.found),
+                lent.pointer(at.place),
             )
         };
         self.compare("step", (got, &lent), (brought.number, &expected), || {
             format!("{:?} {:?} read {}", state.numbers, state.bits, read)
         });
-        self.meets("step", EVENTS[kind]);
+        self.meets("step", EVENTS[brought.event]);
         self.count_state("step", state);
         brought
     }
 
     pub fn listen(&mut self, state: &State, reads: &[u8]) -> Brought {
-        let mut lent = Lent::new();
-        let numbers = lent.numbers("numbers", 8, &mut self.rng);
-        let bits = lent.bytes("bits", &state.bits, &mut self.rng);
-        let row = lent.room("row", ROW_BYTES, &mut self.rng);
-        let event = lent.number("event", &mut self.rng);
-        let found = lent.number("found", &mut self.rng);
+        let (mut lent, at) = self.lend_receiver(state);
         let used = lent.number("used", &mut self.rng);
-        let place = lent.number("place", &mut self.rng);
-        lent.set(numbers, &state.numbers);
         let mut expected = lent.clone();
-
-        let mut brought = nothing(state);
-        let mut refused_at = 0;
-        let mut happened = None;
-        if let Some(mut receiver) = state.receiver() {
-            match receiver.listen(reads) {
-                Ok(heard) => {
-                    happened = heard.event;
-                    brought = Brought {
-                        state: State::of(&receiver),
-                        number: 0,
-                        used: heard.taken,
-                        row: None,
-                    };
-                }
-                Err(refusal) => {
-                    brought.number = usize::from(refusal.number);
-                    refused_at = refusal.place;
-                    // A state that a refusal has changed is a fault of the plain side; let it show.
-                    brought.state = State::of(&receiver);
-                }
-            }
-        }
-        expected.set(numbers, &brought.state.numbers);
-        expected.write(bits, &brought.state.bits);
-        if let Some(Event::Row(delivered)) = happened {
-            expected.write(row, &delivered);
-            brought.row = Some(delivered);
-        }
-        let (kind, dropped) = crossed(&happened);
-        expected.set(event, &[kind]);
-        expected.set(found, &[dropped]);
+        let mut receiver = state.receiver();
+        let answer = match &mut receiver {
+            Some(receiver) => receiver.listen(reads).map(|it| (it.event, it.taken)),
+            None => Err(NO_RECEIVER),
+        };
+        let brought = at.tell(&mut expected, state, receiver, answer);
         expected.set(used, &[brought.used]);
-        expected.set(place, &[refused_at]);
-
         let list = self.edges[0].lend(reads, &mut self.rng);
         let got = unsafe {
             siengulot_listen(
-                lent.pointer(numbers),
-                lent.bytes_pointer(bits),
+                lent.pointer(at.numbers),
+                lent.bytes_pointer(at.bits),
                 list,
                 reads.len(),
-                lent.bytes_pointer(row),
-                lent.pointer(event),
-                lent.pointer(found),
+                lent.bytes_pointer(at.row),
+                lent.pointer(at.event),
+                lent.pointer(at.found),
                 lent.pointer(used),
-                lent.pointer(place),
+                lent.pointer(at.place),
             )
         };
         self.compare("listen", (got, &lent), (brought.number, &expected), || {
             format!("{:?} {:?} {:?}", state.numbers, state.bits, shown(reads))
         });
-        self.meets("listen", EVENTS[kind]);
+        self.meets("listen", EVENTS[brought.event]);
         self.count_state("listen", state);
         if got == 0 && reads[brought.used..].iter().any(|&read| read > 1) {
             self.meets("listen", "a bad read behind an event");
         }
         brought
+    }
+
+    /// A receiver, room for a row, and the numbers of an event.
+    fn lend_receiver(&mut self, state: &State) -> (Lent, At) {
+        let rng = &mut self.rng;
+        let mut lent = Lent::new();
+        let at = At {
+            numbers: lent.numbers("numbers", 8, rng),
+            bits: lent.bytes("bits", &state.bits, rng),
+            row: lent.room("row", ROW_BYTES, rng),
+            event: lent.number("event", rng),
+            found: lent.number("found", rng),
+            place: lent.number("place", rng),
+        };
+        lent.set(at.numbers, &state.numbers);
+        (lent, at)
     }
 
     pub fn capture_check(&mut self, bytes: &[u8]) {
@@ -678,22 +671,12 @@ impl Bench {
     }
 
     /// An output of this many bytes, a place and a count.
-    fn lend(&mut self, room: usize) -> (Lent, crate::lent::Bytes, [Numbers; 2]) {
+    fn lend(&mut self, room: usize) -> (Lent, Bytes, [Numbers; 2]) {
         let mut lent = Lent::new();
         let out = lent.room("out", room, &mut self.rng);
         let place = lent.number("place", &mut self.rng);
         let count = lent.number("count", &mut self.rng);
         (lent, out, [place, count])
-    }
-}
-
-/// Refusal 1, which leaves the state.
-fn nothing(state: &State) -> Brought {
-    Brought {
-        state: *state,
-        number: 1,
-        used: 0,
-        row: None,
     }
 }
 
