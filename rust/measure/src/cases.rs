@@ -1,7 +1,7 @@
 //! The measured cases: for each the same input to the static library and to the plain implementation.
 
-use crate::archive::*;
 use crate::inputs::{self, A, B, K, LEAD, N, Q};
+use crate::library::*;
 use siengulot_plain::board::{Event, Listener, Mode, Receiver, Report};
 use siengulot_plain::{capture, counted, line, sender, settings};
 
@@ -173,14 +173,14 @@ fn judge(calls: usize) -> Work {
         calls,
         0,
         move |lent| {
-            let (mut margins, mut accepted) = ([0; 3], 0);
+            let (mut margins, mut accepted) = ([0usize; 3], 0);
             for i in 0..calls {
                 let [a, b, k, w, r, ..] = ours[i % 64];
                 let refused =
-                    unsafe { siengulot_judge(a, b, k, w, r, &mut margins, &mut accepted) };
+                    unsafe { siengulot_judge(a, b, k, w, r, margins.as_mut_ptr(), &mut accepted) };
                 assert_eq!(refused, 0);
                 lent.told[0] += accepted as i64;
-                lent.told[1] += margins[2];
+                lent.told[1] += margins[2] as i64;
             }
         },
         move |lent| {
@@ -201,15 +201,15 @@ fn judge_quiet(calls: usize) -> Work {
         calls,
         0,
         move |lent| {
-            let (mut margins, mut accepted) = ([0; 5], 0);
+            let (mut margins, mut accepted) = ([0usize; 5], 0);
             for i in 0..calls {
                 let [a, b, k, w, r, q, p1] = ours[i % 64];
                 let refused = unsafe {
-                    siengulot_judge_quiet(a, b, k, w, r, q, p1, &mut margins, &mut accepted)
+                    siengulot_judge_quiet(a, b, k, w, r, q, p1, margins.as_mut_ptr(), &mut accepted)
                 };
                 assert_eq!(refused, 0);
                 lent.told[0] += accepted as i64;
-                lent.told[1] += margins[4];
+                lent.told[1] += margins[4] as i64;
             }
         },
         move |lent| {
@@ -436,7 +436,8 @@ fn fresh(calls: usize) -> Work {
             let (mut numbers, mut bytes) = ([0; 8], [1; 128]);
             for i in 0..calls {
                 let (k, n, q) = (1 + i % 64, N, Q);
-                let refused = unsafe { siengulot_fresh(k, n, q, &mut numbers, &mut bytes) };
+                let refused =
+                    unsafe { siengulot_fresh(k, n, q, numbers.as_mut_ptr(), bytes.as_mut_ptr()) };
                 assert_eq!(refused, 0);
                 lent.told[0] += (numbers[0] + usize::from(bytes[i % 128])) as i64;
             }
@@ -478,7 +479,8 @@ fn well_formed(calls: usize) -> Work {
         move |lent| {
             for i in 0..calls {
                 let (numbers, bytes) = &ours[i % 64];
-                lent.told[0] += unsafe { siengulot_well_formed(numbers, bytes) } as i64;
+                lent.told[0] +=
+                    unsafe { siengulot_well_formed(numbers.as_ptr(), bytes.as_ptr()) } as i64;
             }
         },
         move |lent| {
@@ -498,14 +500,14 @@ fn step(reads: usize) -> Work {
         move |lent| {
             let (mut numbers, mut bytes, mut row) = ([0; 8], [0; 128], [0; 128]);
             let (mut event, mut found, mut place) = (0, 0, 0);
-            unsafe { siengulot_fresh(K, N, Q, &mut numbers, &mut bytes) };
+            unsafe { siengulot_fresh(K, N, Q, numbers.as_mut_ptr(), bytes.as_mut_ptr()) };
             for &read in &ours {
                 let refused = unsafe {
                     siengulot_step(
-                        &mut numbers,
-                        &mut bytes,
+                        numbers.as_mut_ptr(),
+                        bytes.as_mut_ptr(),
                         read,
-                        &mut row,
+                        row.as_mut_ptr(),
                         &mut event,
                         &mut found,
                         &mut place,
@@ -556,16 +558,16 @@ fn listen(k: usize, n: usize, q: usize, reads: Vec<u8>) -> Work {
     let rattle = move |lent: &mut Lent| {
         let (mut numbers, mut bytes, mut row) = ([0; 8], [0; 128], [0; 128]);
         let (mut event, mut found, mut used, mut place) = (0, 0, 0, 0);
-        unsafe { siengulot_fresh(k, n, q, &mut numbers, &mut bytes) };
+        unsafe { siengulot_fresh(k, n, q, numbers.as_mut_ptr(), bytes.as_mut_ptr()) };
         let mut rest = &reads[..];
         while !rest.is_empty() {
             let refused = unsafe {
                 siengulot_listen(
-                    &mut numbers,
-                    &mut bytes,
+                    numbers.as_mut_ptr(),
+                    bytes.as_mut_ptr(),
                     rest.as_ptr(),
                     rest.len(),
-                    &mut row,
+                    row.as_mut_ptr(),
                     &mut event,
                     &mut found,
                     &mut used,
@@ -653,7 +655,7 @@ fn capture_check(reads: Vec<u8>) -> Work {
         move |lent| {
             let (mut summary, mut place) = ([0; 5], 0);
             let refused = unsafe {
-                siengulot_capture_check(ours.as_ptr(), ours.len(), &mut summary, &mut place)
+                siengulot_capture_check(ours.as_ptr(), ours.len(), summary.as_mut_ptr(), &mut place)
             };
             lent.told = told(refused, &summary);
         },
@@ -677,7 +679,7 @@ fn capture_read(reads: Vec<u8>) -> Work {
                     ours.len(),
                     lent.out.as_mut_ptr(),
                     lent.out.len(),
-                    &mut summary,
+                    summary.as_mut_ptr(),
                     &mut place,
                 )
             };

@@ -5,9 +5,10 @@
 //! runs at the smaller size, the sides taking turns. A word behind that keeps to the cases whose
 //! names begin with it.
 
-mod archive;
 mod cases;
 mod inputs;
+#[path = "../../differential/library.rs"]
+mod library;
 
 use cases::{Lent, Work};
 use std::os::unix::process::parent_id;
