@@ -10,7 +10,7 @@ number-requires : tie.Need-number-requires
 number-requires c κs = search needs
 
 returns : tie.Need-returns
-returns c = cc (c .number .ensures, c .before .place .ensures)
+returns c = rw (c .number .ensures, c .before .place .ensures)
 
 pub refuses-spec : {M : Type 1} → statement M
 refuses-spec = tie.close (tie.spec place-requires number-requires returns)

@@ -19,7 +19,7 @@ returns : tie.Need-returns
 returns c = rw (c .before .before .answer .given .1)
 
 returns-2 : tie.Need-returns-2
-returns-2 c = rw (c .before .before .before .answer2 .given .1) (cc (c .number .ensures, c .before .place .ensures))
+returns-2 c = rw (c .before .before .before .answer2 .given .1, c .number .ensures, c .before .place .ensures)
 
 pub of-checked-spec : {M : Type 1} → statement M
 of-checked-spec =

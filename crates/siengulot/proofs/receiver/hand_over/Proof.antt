@@ -31,16 +31,16 @@ number-requires : tie.Need-number-requires
 number-requires c κs = search needs
 
 returns : tie.Need-returns
-returns c = rw (c .before .before .before .enum-told .given .1) (cc (c .keep .ensures .0, c .keep .ensures .1))
+returns c = rw (c .before .before .before .enum-told .given .1, c .keep .ensures .0, c .keep .ensures .1)
 
 returns-2 : tie.Need-returns-2
-returns-2 c = rw (c .before .before .before .enum-told2 .given .1) (cc (c .keep2 .ensures .0, c .keep2 .ensures .1))
+returns-2 c = rw (c .before .before .before .enum-told2 .given .1, c .keep2 .ensures .0, c .keep2 .ensures .1)
 
 returns-3 : tie.Need-returns-3
-returns-3 c = rw (c .before .before .before .before .happened .given .1) (cc (c .keep3 .ensures .0, c .keep3 .ensures .1))
+returns-3 c = rw (c .before .before .before .before .happened .given .1, c .keep3 .ensures .0, c .keep3 .ensures .1)
 
 returns-4 : tie.Need-returns-4
-returns-4 c = rw (c .before .before .before .happened2 .given .1) (cc (c .number .ensures, c .before .place .ensures))
+returns-4 c = rw (c .before .before .before .happened2 .given .1, c .number .ensures, c .before .place .ensures)
 
 pub hand-over-spec : {M : Type 1} → statement M
 hand-over-spec =

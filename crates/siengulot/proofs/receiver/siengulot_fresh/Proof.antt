@@ -1,5 +1,7 @@
 -- `siengulot_fresh` meets its contract: the receiver with which to start is kept as it came, and its refusal's number is returned.
+use mathlib.Core.Path.{ap, _∙_}
 use borrow.Author.Needs.{needs}
+use Rattle.siengulot.specs.Receivers.{begunLent}
 use Rattle.siengulot.proofs.receiver.siengulot_fresh.Statement.{statement}
 use Rattle.siengulot.proofs.receiver.siengulot_fresh.Tie as tie
 
@@ -19,10 +21,14 @@ number-requires : tie.Need-number-requires
 number-requires c κs = search needs
 
 returns : tie.Need-returns
-returns c = rw (c .before .before .before .before .before .before .fresh .ensures, c .enum-told .given .1) (cc (c .before .before .keep .ensures .0, c .before .before .keep .ensures .1))
+returns c =
+    ap begunLent (c .before .before .before .before .before .before .fresh .ensures)
+    ∙ rw (c .enum-told .given .1, c .before .before .keep .ensures .0, c .before .before .keep .ensures .1)
 
 returns-2 : tie.Need-returns-2
-returns-2 c = rw (c .before .before .before .before .before .before .before .before .fresh .ensures, c .before .before .start .given .1) (cc (c .before .before .before .before .keep .ensures .0, c .before .before .before .before .keep .ensures .1, c .number .ensures))
+returns-2 c =
+    ap begunLent (c .before .before .before .before .before .before .before .before .fresh .ensures)
+    ∙ rw (c .before .before .start .given .1, c .before .before .before .before .keep .ensures .0, c .before .before .before .before .keep .ensures .1, c .number .ensures)
 
 pub siengulot-fresh-spec : {M : Type 1} → statement M
 siengulot-fresh-spec =
