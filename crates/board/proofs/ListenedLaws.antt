@@ -87,16 +87,15 @@ listened-is x reads =
     (from-first x (settingsOf x) (stateOf x) (someAbove 1 reads) (firstAbove 1 reads) (levelsOf reads) (reports (settingsOf x) (stateOf x) 0 (levelsOf reads)))
     ∙ by-reads x (settingsOf x) (stateOf x) 0 reads)
 
--- the method for one read has the outcome of a list of one read
-pub stepped-is : (x : Receiver) (read : ℕ) → stepped x read ≡ listened x (read ∷ []) .0
+-- the outcome of the method for one read
+pub stepped-is : (x : Receiver) (read : ℕ)
+    → stepped x read ≡ choose (wellFormed x) (heardFrom x (settingsOf x) (stateOf x) 0 (read ∷ []) .0) (refusing x 1 0)
 unfolding stepped heardFrom
-stepped-is x read =
-    go (wellFormed x) (leb read 1) (next (settingsOf x) (stateOf x) read .state) (next (settingsOf x) (stateOf x) read .event)
-    ∙ ap (λ (heard : Outcome × ℕ). heard .0) (sym (listened-is x (read ∷ [])))
+stepped-is x read = go (wellFormed x) (leb read 1) (next (settingsOf x) (stateOf x) read .state) (next (settingsOf x) (stateOf x) read .event)
   where
     go : (well level : Bool) (s : State) (event : Happening)
         → choose well (choose level (reached (settingsOf x) s event) (refusing x 2 0)) (refusing x 1 0)
-        ≡ (choose well (choose level (onward (settingsOf x) s event 1 (reached (settingsOf x) s nothing, 1)) (refusing x 2 0, 0)) (refusing x 1 0, 0)) .0
+        ≡ choose well ((choose level (onward (settingsOf x) s event 1 (reached (settingsOf x) s nothing, 1)) (refusing x 2 0, 0)) .0) (refusing x 1 0)
     go true true s nothing = refl
     go true true s (row bits) = refl
     go true true s (broken found) = refl

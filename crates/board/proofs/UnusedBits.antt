@@ -8,8 +8,8 @@ use native.Mathlib.Omega.{arith}
 use native.Mathlib.Decide.{decLt, decLe}
 use borrow.Author.Tests.{lt-ltb, le-ltb, le-leb, lt-leb, eq-eqb, ne-eqb, eqb-true}
 use lib.Dec.{eqb, ltb, eqb·suc-suc, eqb·zero-suc}
-use lib.ListN.{length, getD, drop, replicate}
-use lib.Seq.{drop-append-le, drop-append-add, drop-at, drop-cons}
+use lib.ListN.{length, getD, drop, set, replicate}
+use lib.Seq.{drop-append-le, drop-append-add, drop-at}
 use Rattle.measure.specs.Lists.{firstAbove}
 use Rattle.board.specs.Packed.{digits, packed, unpacked}
 use Rattle.board.specs.WellFormed.{allZero, unusedZero}
@@ -37,6 +37,23 @@ zero-replicate (suc n) = zero-replicate n
 zero-append : (l t : List ℕ) → allZero (l ++ t) ≡ (allZero l && allZero t)
 zero-append [] t = refl
 zero-append (x ∷ l) t = rw (zero-append l t) (sym (and-assoc (eqb x 0) (allZero l) (allZero t)))
+
+-- entries 0 in front of a list change nothing
+pub zero-behind : (n : ℕ) (l : List ℕ) → allZero (replicate n 0 ++ l) ≡ allZero l
+zero-behind zero l = refl
+zero-behind (suc n) l = zero-behind n l
+
+-- the first entry that is not cleared
+pub cleared-next : (l : List ℕ) (i : ℕ) → i < length l → getD (replicate i 0 ++ drop i l) i 0 ≡ getD l i 0
+cleared-next [] i h = absurd (omega arith)
+cleared-next (x ∷ l) zero h = refl
+cleared-next (x ∷ l) (suc i) h = cleared-next l i (omega arith)
+
+-- one entry more is cleared
+pub clear-one : (l : List ℕ) (i : ℕ) → i < length l → set (replicate i 0 ++ drop i l) i 0 ≡ replicate (suc i) 0 ++ drop (suc i) l
+clear-one [] i h = absurd (omega arith)
+clear-one (x ∷ l) zero h = refl
+clear-one (x ∷ l) (suc i) h = ap (λ (t : List ℕ). 0 ∷ t) (clear-one l i (omega arith))
 
 -- no entry is above 0
 pub zero-above : (l : List ℕ) → allZero l ≡ eqb (firstAbove 0 l) (length l)
@@ -122,16 +139,7 @@ split-bytes bytes found h words =
 pub unused-over : (bytes : List ℕ) (found : ℕ) → found / 8 < length bytes → Words 8 bytes → 2 ^ (found % 8) ≤ getD bytes (found / 8) 0 → unusedZero found bytes ≡ false
 unused-over bytes found h words p = split-bytes bytes found h words ∙ rw (le-ltb (getD bytes (found / 8) 0) (2 ^ (found % 8)) p)
 
--- otherwise all turns on the bytes that hold no bit found, of which that byte may be the first
+-- otherwise all turns on the bytes after that one
 pub unused-rest : (bytes : List ℕ) (found : ℕ) → found / 8 < length bytes → Words 8 bytes → getD bytes (found / 8) 0 < 2 ^ (found % 8)
-    → unusedZero found bytes ≡ allZero (drop ((found + 7) / 8) bytes)
-unused-rest bytes found h words p =
-    split-bytes bytes found h words ∙ rw (lt-ltb (getD bytes (found / 8) 0) (2 ^ (found % 8)) p) (go (decLe (found % 8) 0))
-  where
-    go : Dec (found % 8 ≤ 0) → allZero (drop (suc (found / 8)) bytes) ≡ allZero (drop ((found + 7) / 8) bytes)
-    go (yes z) =
-        let r : found % 8 ≡ 0 = omega arith in
-        let e : (found + 7) / 8 ≡ found / 8 = omega arith in
-        let low : getD bytes (found / 8) 0 < 1 = rw r at p in
-        rw (e, drop-cons bytes (found / 8) 0 h, eq-eqb (getD bytes (found / 8) 0) 0 (omega arith)) refl
-    go (no z) = let e : (found + 7) / 8 ≡ suc (found / 8) = omega arith in rw e
+    → unusedZero found bytes ≡ allZero (drop (suc (found / 8)) bytes)
+unused-rest bytes found h words p = split-bytes bytes found h words ∙ rw (lt-ltb (getD bytes (found / 8) 0) (2 ^ (found % 8)) p)

@@ -3,10 +3,10 @@ ghost use mathlib.Core.Path.{_≡_};
 ghost use mathlib.Core.Bool.{true};
 ghost use mathlib.Core.List.{List, [], _∷_, _++_};
 ghost use Prim.Native.Nat.{ℕ, _+_, _*_, _/_, _%_, _^_, _≤_, _<_};
-ghost use lib.ListN.{length, getD, set, drop};
+ghost use lib.ListN.{length, getD, set, drop, replicate};
 ghost use Rattle.board.specs.declared.Receiver.{Receiver};
 ghost use Rattle.board.specs.Rows.{hunting, ready, counting, waiting, collected, marked};
-ghost use Rattle.board.specs.Packed.{kept, stateOf, receiverOf};
+ghost use Rattle.board.specs.Packed.{kept, settingsOf, stateOf, receiverOf};
 ghost use Rattle.board.specs.WellFormed.{runFits, leftFits, foundFits, levelFits, unusedZero, wellFormed};
 ghost use Rattle.measure.specs.Ranges.{bitsMost, settingsFit};
 ghost use Rattle.measure.specs.Refusals.{numberOf, placeOf};
@@ -189,20 +189,59 @@ fn weight(place: usize) -> u8
     1u8 << place
 }
 
+// The bytes, with 0 in those before a place.
+fn cleared(bits: [u8; 128], before: usize) -> [u8; 128]
+    requires { ⌜ before ≤ 128 ⌝ }
+    ensures { λ x. ⌜ replicate before 0 ++ drop before bits ≡ x ⌝ }
+{
+    let mut rest = bits;
+    let mut i = 0;
+    while i < before {
+        rest[i] = 0;
+        i += 1;
+    }
+    rest
+}
+
 // Whether the places from the number found on hold 0: those of the byte that the next bit falls in, and whole bytes by their
-// greatest, which has no early way out and so is done many at a time.
-fn unused_zero(bits: &[u8], found: usize) -> bool
-    requires { ⌜ (found < bitsMost) × (length (now bits) ≡ 128) ⌝ }
-    ensures { λ x. ⌜ unusedZero found (now (bits .entry)) ≡ x ⌝ }
+// greatest. The bytes before are cleared and not left out, since the greatest of a fixed number of bytes takes no loop.
+fn unused_zero(bits: [u8; 128], found: usize) -> bool
+    requires { ⌜ found < bitsMost ⌝ }
+    ensures { λ x. ⌜ unusedZero found bits ≡ x ⌝ }
 {
     let at = found / 8;
-    let byte = bits[at];
+    let mut rest = cleared(bits, at);
+    let byte = rest[at];
     if weight(found % 8) <= byte {
         return false;
     }
-    let used = (found + 7) / 8;
-    let rest = &bits[used..];
-    measure::first_above(rest, 0) == rest.len()
+    rest[at] = 0;
+    measure::first_above(&rest, 0) == rest.len()
+}
+
+// Whether settings, numbers and bits make a well formed receiver.
+fn fits(numbers: Numbers, bits: &[u8; 128], k: usize, n: usize, q: usize) -> bool
+    ensures { λ x. ⌜ x ≡ wellFormed (keeping (settings k n q) numbers (now (bits .entry))) ⌝ }
+{
+    let mode = numbers.mode;
+    let found = numbers.found;
+    if !measure::settings_fit(k, n, q) {
+        return false;
+    }
+    if !run_fits(mode, numbers.run, q) {
+        return false;
+    }
+    if !left_fits(mode, numbers.left, k) {
+        return false;
+    }
+    if !found_fits(mode, found, n) {
+        return false;
+    }
+    if !level_fits(mode, numbers.level) {
+        return false;
+    }
+    let whole = *bits;
+    unused_zero(whole, found)
 }
 
 // The run after a read, where it was below Q before and so cannot pass it.
@@ -484,6 +523,20 @@ fn hear(reads: &[u8], bits: &mut [u8; 128], start: Numbers, k: usize, n: usize, 
     }
 }
 
+// After a single read: the same without the number of reads used.
+fn of_one(listened: Listened) -> Stepped
+    ensures { λ x. ⌜ listenTold listened .0 ≡ stepTold x ⌝ }
+{
+    let receiver = listened.receiver;
+    let event = listened.event;
+    let row = listened.row;
+    Stepped {
+        receiver: receiver,
+        event: event,
+        row: row,
+    }
+}
+
 impl Receiver {
     // Gives a receiver that has read nothing yet. Refused with 1 where k, n or Q is out of range: the
     // receiver that comes back is then hunting with all numbers 0.
@@ -505,30 +558,28 @@ impl Receiver {
         }
     }
 
+    // What a read can change beside the bits.
+    fn numbers(self) -> Numbers
+        ensures { λ x. ⌜ keeping (settingsOf self) x (self .bits) ≡ self ⌝ }
+    {
+        let mode = self.mode;
+        Numbers {
+            mode: mode,
+            run: self.run.0,
+            left: self.left.0,
+            level: self.level,
+            found: self.found,
+        }
+    }
+
     // Tells whether the state is well formed. Refuses nothing. The operations refuse any other state, and hand back a well
     // formed one for a well formed one.
     pub fn well_formed(self) -> bool
         ensures { λ x. ⌜ x ≡ wellFormed self ⌝ }
     {
-        let mode = self.mode;
-        let found = self.found;
+        let numbers = self.numbers();
         let bits = self.bits;
-        if !measure::settings_fit(self.k.0, self.n, self.q.0) {
-            return false;
-        }
-        if !run_fits(mode, self.run.0, self.q.0) {
-            return false;
-        }
-        if !left_fits(mode, self.left.0, self.k.0) {
-            return false;
-        }
-        if !found_fits(mode, found, self.n) {
-            return false;
-        }
-        if !level_fits(mode, self.level) {
-            return false;
-        }
-        unused_zero(&bits, found)
+        fits(numbers, &bits, self.k.0, self.n, self.q.0)
     }
 
     // The receiver as it came, nothing done.
@@ -544,33 +595,13 @@ impl Receiver {
         }
     }
 
-    // Gives the receiver after reads up to and with the first that brings an event, or after all, with that event and the number
-    // of reads used; a delivered row's bits stand beside the event, and otherwise 0 in every place there. Refused with 1
-    // where the state is not well formed, with 3 where there are more reads than a list may have, and with 2 and its place at a
-    // read that is no level where no event comes before it. After a refusal the receiver is as it came, and no read is used.
-    // Reads after the event are not looked at, so whoever goes on from there pays for each read once.
-    pub fn listen(self, reads: &[u8]) -> Listened
-        ensures { λ x. ⌜ listened self (now (reads .entry)) ≡ listenTold x ⌝ }
+    // The answer to what was heard of so many reads, with the bits that it left.
+    fn answer(self, heard: Heard, bits: [u8; 128], all: usize) -> Listened
+        ensures { λ x. ⌜ heardTold self (settingsOf self) all bits heard ≡ listenTold x ⌝ }
     {
-        if !self.well_formed() {
-            return self.refused(Refusal::Setting);
-        }
-        if ENTRIES_MOST < reads.len() {
-            return self.refused(Refusal::Limit);
-        }
         let k = self.k.0;
         let n = self.n;
         let q = self.q.0;
-        let mode = self.mode;
-        let mut bits = self.bits;
-        let start = Numbers {
-            mode: mode,
-            run: self.run.0,
-            left: self.left.0,
-            level: self.level,
-            found: self.found,
-        };
-        let heard = hear(reads, &mut bits, start, k, n, q);
         match heard {
             Heard::Bad(place) => self.refused(Refusal::Entry(place)),
             Heard::Full(run, used) => {
@@ -609,27 +640,55 @@ impl Receiver {
                     },
                     event: Event::Nothing,
                     row: zeros,
-                    used: ReadCycles(reads.len()),
+                    used: ReadCycles(all),
                 }
             }
         }
     }
 
+    // Gives the receiver after reads up to and with the first that brings an event, or after all, with that event and the number
+    // of reads used; a delivered row's bits stand beside the event, and otherwise 0 in every place there. Refused with 1
+    // where the state is not well formed, with 3 where there are more reads than a list may have, and with 2 and its place at a
+    // read that is no level where no event comes before it. After a refusal the receiver is as it came, and no read is used.
+    // Reads after the event are not looked at, so whoever goes on from there pays for each read once.
+    pub fn listen(self, reads: &[u8]) -> Listened
+        ensures { λ x. ⌜ listened self (now (reads .entry)) ≡ listenTold x ⌝ }
+    {
+        let k = self.k.0;
+        let n = self.n;
+        let q = self.q.0;
+        let start = self.numbers();
+        let mut bits = self.bits;
+        if !fits(start, &bits, k, n, q) {
+            return self.refused(Refusal::Setting);
+        }
+        if ENTRIES_MOST < reads.len() {
+            return self.refused(Refusal::Limit);
+        }
+        let heard = hear(reads, &mut bits, start, k, n, q);
+        self.answer(heard, bits, reads.len())
+    }
+
     // Gives the receiver after one read, with its event; a delivered row's bits stand beside the event, and otherwise 0 in every
     // place there. Refused with 1 where the state is not well formed and with 2 where the read is no level; the receiver is
     // then as it came.
+    // It does not go by way of `listen`: with two callers `hear` stays a function of its own, and the rest of both is small
+    // enough to be built into whoever calls them, which saves copies of the receiver.
     pub fn step(self, read: u8) -> Stepped
         ensures { λ x. ⌜ stepped self read ≡ stepTold x ⌝ }
     {
-        let reads = [read];
-        let out = self.listen(&reads);
-        let receiver = out.receiver;
-        let event = out.event;
-        let row = out.row;
-        Stepped {
-            receiver: receiver,
-            event: event,
-            row: row,
+        let k = self.k.0;
+        let n = self.n;
+        let q = self.q.0;
+        let start = self.numbers();
+        let mut bits = self.bits;
+        if !fits(start, &bits, k, n, q) {
+            let refused = self.refused(Refusal::Setting);
+            return of_one(refused);
         }
+        let reads = [read];
+        let heard = hear(&reads, &mut bits, start, k, n, q);
+        let answer = self.answer(heard, bits, 1);
+        of_one(answer)
     }
 }

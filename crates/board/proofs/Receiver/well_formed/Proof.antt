@@ -1,123 +1,18 @@
--- `well_formed` meets its contract: its six tests are those of the definition, in the same order.
-use mathlib.Core.Path.{_≡_, sym, _∙_}
-use mathlib.Core.Bool.{true}
+-- `well_formed` meets its contract: a receiver is what its settings, numbers and bits make.
+use mathlib.Core.Path.{_∙_, ap}
 use borrow.Author.Needs.{needs}
-use borrow.Author.Tests.{not-true, not-false}
-use lib.ListN.{length}
-use Rattle.measure.specs.Ranges.{settingsFit}
-use Rattle.board.specs.WellFormed.{runFits, leftFits, foundFits, levelFits, wellFormed}
-use Rattle.board.proofs.Standing.{found-fits-most}
+use Rattle.board.specs.WellFormed.{wellFormed}
 use Rattle.board.proofs.Receiver.well_formed.Statement.{statement}
 use Rattle.board.proofs.Receiver.well_formed.Tie as tie
 
-long : (c : tie.Start) → length (c .args .self .bits) ≡ 128
-long c = search needs
+numbers-requires : tie.Need-numbers-requires
+numbers-requires c κs = search needs
 
-abbrev start1 : tie.Else1 → tie.Start
-start1 c = c .before .before .before
-
-fits1 : (c : tie.Else1) → settingsFit (start1 c .args .self .k .0) (start1 c .args .self .n) (start1 c .args .self .q .0) ≡ true
-fits1 c = sym (c .before .settings-fit .ensures) ∙ not-false _ (c .if1 .left)
-
-abbrev start2 : tie.Else2 → tie.Start
-start2 c = start1 (c .before .before)
-
-fits2 : (c : tie.Else2) → runFits (start2 c .args .self .mode) (start2 c .args .self .run .0) (start2 c .args .self .q .0) ≡ true
-fits2 c = c .before .run-fits .ensures ∙ not-false _ (c .if2 .left)
-
-abbrev start3 : tie.Else3 → tie.Start
-start3 c = start2 (c .before .before)
-
-fits3 : (c : tie.Else3) → leftFits (start3 c .args .self .mode) (start3 c .args .self .left .0) (start3 c .args .self .k .0) ≡ true
-fits3 c = c .before .left-fits .ensures ∙ not-false _ (c .if3 .left)
-
-abbrev start4 : tie.Else4 → tie.Start
-start4 c = start3 (c .before .before)
-
-fits4 : (c : tie.Else4) → foundFits (start4 c .args .self .mode) (start4 c .args .self .found) (start4 c .args .self .n) ≡ true
-fits4 c = c .before .found-fits .ensures ∙ not-false _ (c .if4 .left)
-
-abbrev start5 : tie.Else5 → tie.Start
-start5 c = start4 (c .before .before)
-
-fits5 : (c : tie.Else5) → levelFits (start5 c .args .self .mode) (start5 c .args .self .level) ≡ true
-fits5 c = c .before .level-fits .ensures ∙ not-false _ (c .if5 .left)
-
-settings-fit-requires : tie.Need-settings-fit-requires
-settings-fit-requires c κs = search needs
+fits-requires : tie.Need-fits-requires
+fits-requires c κs = search needs
 
 returns : tie.Need-returns
-unfolding wellFormed
-returns c = simp (sym (c .before .settings-fit .ensures) ∙ not-true _ (c .if1 .taken))
-
-run-fits-requires : tie.Need-run-fits-requires
-run-fits-requires c κs = search needs
-
-returns-2 : tie.Need-returns-2
-unfolding wellFormed
-returns-2 c = simp (fits1 (c .before .before), c .before .run-fits .ensures ∙ not-true _ (c .if2 .taken))
-
-left-fits-requires : tie.Need-left-fits-requires
-left-fits-requires c κs = search needs
-
-returns-3 : tie.Need-returns-3
-unfolding wellFormed
-returns-3 c = let d = c .before .before in simp (fits1 (d .before .before), fits2 d, c .before .left-fits .ensures ∙ not-true _ (c .if3 .taken))
-
-found-fits-requires : tie.Need-found-fits-requires
-found-fits-requires c κs = search needs
-
-returns-4 : tie.Need-returns-4
-unfolding wellFormed
-returns-4 c =
-    let d = c .before .before in
-    let e = d .before .before in
-    simp (fits1 (e .before .before), fits2 e, fits3 d, c .before .found-fits .ensures ∙ not-true _ (c .if4 .taken))
-
-level-fits-requires : tie.Need-level-fits-requires
-level-fits-requires c κs = search needs
-
-returns-5 : tie.Need-returns-5
-unfolding wellFormed
-returns-5 c =
-    let d = c .before .before in
-    let e = d .before .before in
-    let f = e .before .before in
-    simp (fits1 (f .before .before), fits2 f, fits3 e, fits4 d, c .before .level-fits .ensures ∙ not-true _ (c .if5 .taken))
-
-slice-aggregate-unused-zero : tie.Need-slice-aggregate-unused-zero
-slice-aggregate-unused-zero c = search needs
-
-unused-zero-requires : tie.Need-unused-zero-requires
-unused-zero-requires c κs =
-    let b = c .before in
-    let d = b .before .before in
-    let x = start5 b .args .self in
-    (found-fits-most (x .mode) (x .k .0) (x .n) (x .q .0) (x .found) (fits1 (d .before .before .before .before .before .before)) (fits4 d), long (start5 b))
-
-returns-6 : tie.Need-returns-6
-unfolding wellFormed
-returns-6 c =
-    let b = c .before .before in
-    let d = b .before .before in
-    let e = d .before .before in
-    let f = e .before .before in
-    sym (simp (fits1 (f .before .before), fits2 f, fits3 e, fits4 d, fits5 b) (c .unused-zero .ensures))
+returns c = c .fits2 .ensures ∙ ap wellFormed (c .before .before .before .numbers .ensures)
 
 pub well-formed-spec : {M : Type 1} → statement M
-well-formed-spec =
-    tie.close
-    (tie.spec
-    settings-fit-requires
-    returns
-    run-fits-requires
-    returns-2
-    left-fits-requires
-    returns-3
-    found-fits-requires
-    returns-4
-    level-fits-requires
-    returns-5
-    slice-aggregate-unused-zero
-    unused-zero-requires
-    returns-6)
+well-formed-spec = tie.close (tie.spec numbers-requires fits-requires returns)
