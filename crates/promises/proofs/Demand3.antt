@@ -28,7 +28,7 @@ use Rattle.promises.proofs.Deliveries.{lead-enough, heard-is, placed-is
 
 module _ (x : Link) (fits : Fitting x) where
   -- M2 leaves no room for a read that takes no time, and M4 none for a quiet count of 0
-  timed : 0 < x .r
+  pub timed : 0 < x .r
   timed = lt-of-mul-lt-mul-left (x .k) (omega (arith, leb-true, rw m2-met at (fits .m2), fits .phase))
 
   ok : Margins (x .a) (x .b) 1 (x .k) (x .w) (x .w) (x .r) (x .r)

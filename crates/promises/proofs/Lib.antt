@@ -34,3 +34,4 @@ pub mod WhatNoMeans
 pub mod Limits
 pub mod OneMeaning
 pub mod Operations
+pub mod Demands

@@ -10,3 +10,4 @@ pub mod CountedReturns
 pub mod WhatNoMeans
 pub mod OneMeaning
 pub mod Operations
+pub mod Demands
