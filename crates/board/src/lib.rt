@@ -18,7 +18,7 @@ use measure::HIGH;
 use measure::ReadCycles;
 use measure::Refusal;
 
-// What the receiver is doing. A row is in progress in counting and in waiting.
+// What the receiver is doing. It is in the middle of a row in two of the four.
 pub enum Mode {
     // Listening for quiet.
     Hunting,
@@ -225,7 +225,7 @@ fn fits(numbers: Numbers, bits: &[u8; 128], k: usize, n: usize, q: usize) -> boo
 {
     let mode = numbers.mode;
     let found = numbers.found;
-    if !measure::settings_fit(k, n, q) {
+    if !measure::settings_fit(ReadCycles(k), n, ReadCycles(q)) {
         return false;
     }
     if !run_fits(mode, numbers.run, q) {
@@ -543,7 +543,7 @@ impl Receiver {
     pub fn fresh(k: ReadCycles, n: usize, q: ReadCycles) -> Started
         ensures { λ x. ⌜ begun (k .0) n (q .0) ≡ (startTold (x .start), x .receiver) ⌝ }
     {
-        if measure::settings_fit(k.0, n, q.0) {
+        if measure::settings_fit(k, n, q) {
             let receiver = idle(Mode::Hunting, 0, k.0, n, q.0);
             return Started {
                 receiver: receiver,

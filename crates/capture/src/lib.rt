@@ -499,7 +499,7 @@ pub fn write_capture(
 {
     let sampling = k.0;
     let quiet = q.0;
-    if !measure::settings_fit(sampling, n, quiet) {
+    if !measure::settings_fit(k, n, q) {
         return Written::Refused(Refusal::Setting);
     }
     if ENTRIES_MOST < reads.len() {

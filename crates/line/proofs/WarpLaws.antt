@@ -9,7 +9,7 @@ use native.Mathlib.Decide.{decLt}
 use native.Mathlib.Omega.{arith}
 use lib.ListN.{length}
 use Rattle.line.specs.Warp.{cycleStart, readStart, warpBy, warp}
-use Rattle.line.specs.Sharing.{readCount, WarpLaws}
+use Rattle.line.specs.Sharing.{readCount, WarpLaws, WarpLawsHold}
 use Rattle.line.proofs.Clocks.{even-clocks}
 use Rattle.line.proofs.ReadsThere.{read-there, read-ends, read-looks}
 use Rattle.line.proofs.SharedCycles.{shared-looked-at, looks-at-shared, read-is}
@@ -61,3 +61,6 @@ module _ (w r p : ℕ) (levels : List ℕ) (some-r : 0 < r) (phase : p < w) wher
     shared-looked-at = λ j i h within. shared-looked-at (even-clocks w r p some-r phase) levels j i;
     is = λ j. read-is (even-clocks w r p some-r phase) levels j;
   }
+
+pub warp-laws-hold : WarpLawsHold
+warp-laws-hold w r p levels = warp-laws w r p levels

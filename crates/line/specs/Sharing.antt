@@ -34,7 +34,7 @@ abbrev pub readCount : ℕ → ℕ → ℕ → ℕ → ℕ
 readCount w r p zero = 0
 readCount w r p (suc cycles) = (suc cycles * w - p) / r
 
--- the laws of warp, for cycles of one length, reads of another and a phase
+-- The laws of warp, for cycles of one length, reads of another and a phase
 pub record WarpLaws (w r p : ℕ) (levels : List ℕ) : Type 0 where
   -- how many reads there are
   pub count : length (warp w r p levels) ≡ readCount w r p (length levels)
@@ -50,3 +50,7 @@ pub record WarpLaws (w r p : ℕ) (levels : List ℕ) : Type 0 where
       → Shares (cycleStart w) (readStart p r) j i → LooksAt (cycleStart w) (readStart p r) levels j i
   -- and it is the level that they all have, else unknown
   pub is : (j : ℕ) → j < length (warp w r p levels) → ReadIs (cycleStart w) (readStart p r) levels j (getD (warp w r p levels) j 2)
+
+-- they hold of every wave, wherever a read takes time and the phase is below one writer cycle
+abbrev pub WarpLawsHold : Type 0
+WarpLawsHold = (w r p : ℕ) (levels : List ℕ) → 0 < r → p < w → WarpLaws w r p levels

@@ -9,7 +9,7 @@ use Rattle.measure.specs.Lists.{firstAbove, someAbove, onto}
 use Rattle.measure.specs.declared.Refusal.{Refusal}
 use Rattle.measure.specs.declared.Refusal.the-variants.{Setting, Entry, Limit, Room, Cut, Form, Range}
 
--- An operation gives its result, or refuses with a number of the table and a place. One that had found something by then, as with refusal 5, says how much too.
+-- An operation gives its result, or refuses with a number of the table and a place. Refusal 5 says as well how much had been found by then.
 pub data Answer (A : Type 0) : Type 0 where
   given : A → Answer A
   refused : ℕ → ℕ → Answer A

@@ -117,19 +117,19 @@ pub fn between(least: usize, most: usize, x: usize) -> bool
 }
 
 // Tells whether k, n and Q are what a row receiver and a capture can be set to.
-pub fn settings_fit(k: usize, n: usize, q: usize) -> bool
-    ensures { λ fits. ⌜ fits ≡ settingsFit k n q ⌝ }
+pub fn settings_fit(k: ReadCycles, n: usize, q: ReadCycles) -> bool
+    ensures { λ fits. ⌜ fits ≡ settingsFit (k .0) n (q .0) ⌝ }
 {
-    if !between(SAMPLING_LEAST, SAMPLING_MOST, k) {
+    if !between(SAMPLING_LEAST, SAMPLING_MOST, k.0) {
         return false;
     }
     if !between(BITS_LEAST, BITS_MOST, n) {
         return false;
     }
-    between(QUIET_LEAST, QUIET_MOST, q)
+    between(QUIET_LEAST, QUIET_MOST, q.0)
 }
 
-// Gives the greatest entry of a list, or 0 of an empty one. It has no early way out, so that it is done many entries at a time.
+// Gives the greatest entry of a list, or 0 of an empty one; that no entry is above it is all that is promised. It has no early way out, so that it is done many entries at a time.
 fn greatest(entries: &[u8]) -> u8
     ensures { λ g. ⌜ ((m : ℕ) → g ≤ m → firstAbove m (now (entries .entry)) ≡ length (now (entries .entry))) ⌝ }
 {

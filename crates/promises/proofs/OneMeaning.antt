@@ -50,7 +50,7 @@ use Rattle.lines.specs.declared.Put.{Put}
 use Rattle.lines.specs.declared.Put.the-variants as P
 use Rattle.lines.specs.Lines.{headingLine, eventLine, endLine, refusedLine}
 use Rattle.lines.specs.Refusals.{told as putTold}
-use Rattle.promises.specs.OneMeaning.{One, OneLeft, OneMeaning}
+use Rattle.promises.specs.OneMeaning.{One, Only, OneLeft, OneMeaning}
 
 -- the one lemma: where the answer can be had back from what it tells, two answers that tell the same are equal
 one : {X Y : Type 0} (told : X → Y) (back : Y → X) → ((x : X) → back (told x) ≡ x) → (defined : Y) → One told defined
@@ -61,6 +61,9 @@ one-left {X} {Y} {Z} told back turns defined x y left right this other = (
   one told back turns (defined .0) x y (ap (λ (p : Y × Z). p .0) this) (ap (λ (p : Y × Z). p .0) other),
   ap (λ (p : Y × Z). p .1) (sym this ∙ other),
 )
+
+only : {X : Type 0} {defined : X} → Only defined
+only x y this other = this ∙ sym other
 
 -- a refusal from its number and place
 refusal : ℕ → ℕ → Refusal
@@ -144,7 +147,16 @@ one-meaning = record {
   put-broken = λ place found output. line (lent (eventLine place (broken found)) output);
   put-end = λ reads rows output. line (lent (endLine reads rows) output);
   put-refused = λ refusal output. line (lent (refusedLine (numberOf refusal) (placeOf refusal)) output);
-  given-itself = λ defined x y this other. sym this ∙ other;
+  number = λ refusal. only;
+  place = λ refusal. only;
+  between = λ least most x. only;
+  settings-fit = λ k n Q. only;
+  first-above = λ most entries. only;
+  well-formed = λ receiver. only;
+  held-new = λ bytes. only;
+  held-advance = λ reader. only;
+  held-place = λ reader. only;
+  entry-points = λ defined. only;
 }
   where
     judge-back : (x : Judged) → plain judged J.Refused (judgeTold x) ≡ x

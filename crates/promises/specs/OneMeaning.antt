@@ -5,6 +5,10 @@ use mathlib.Core.Path.{_≡_}
 use mathlib.Core.List.{List}
 use lib.ListN.{take}
 use Rattle.measure.specs.declared.Refusal.{Refusal}
+use denote.Ref.{RefT}
+use Rattle.measure.specs.Choose.{between as isBetween}
+use Rattle.measure.specs.Ranges.{settingsFit}
+use Rattle.measure.specs.Lists.{firstAbove}
 use Rattle.measure.specs.Refusals.{lent, numberOf, placeOf}
 use Rattle.settings.specs.Refusals.{judgement, told as judgeTold, quietJudgement, quietTold}
 use Rattle.sender.specs.Refusals.{sentMessage, sentPlan, told as sendTold}
@@ -13,9 +17,12 @@ use Rattle.counted.specs.Refusals.{countedBits, told as countTold}
 use Rattle.board.specs.declared.Receiver.{Receiver}
 use Rattle.board.specs.Rows.{row, broken}
 use Rattle.board.specs.Packed.{unpacked}
+use Rattle.board.specs.WellFormed.{wellFormed}
 use Rattle.board.specs.Refusals.{begun, startTold, stepped, stepTold, listened, listenTold}
 use Rattle.capture.specs.Numbers.{numberAt}
 use Rattle.capture.specs.Capture.{header}
+use Rattle.capture.specs.declared.held.CaptureReader.{CaptureReader}
+use Rattle.capture.specs.Held.{begun as begunReader, advanced}
 use Rattle.capture.specs.Refusals.{numberTold, headTold, checked, readBack, told as captureTold, written, writtenTold}
 use Rattle.lines.specs.Lines.{headingLine, eventLine, endLine, refusedLine}
 use Rattle.lines.specs.Refusals.{told as putTold}
@@ -23,6 +30,10 @@ use Rattle.lines.specs.Refusals.{told as putTold}
 -- one answer tells what is defined: any two are equal
 abbrev pub One : {X Y : Type 0} → (X → Y) → Y → Type 0
 One {X} told defined = (x y : X) → defined ≡ told x → defined ≡ told y → x ≡ y
+
+-- what is given is what is defined: any two are equal
+abbrev pub Only : {X : Type 0} → X → Type 0
+Only {X} defined = (x y : X) → x ≡ defined → y ≡ defined → x ≡ y
 
 -- and so are two answers with what each leaves in a lent output, or with the receiver that it hands back
 abbrev pub OneLeft : {X Y Z : Type 0} → (X → Y) → Y × Z → Type 0
@@ -52,6 +63,15 @@ pub record OneMeaning : Type 1 where
   pub put-broken : (place found : ℕ) (output : List ℕ) → OneLeft putTold (lent (eventLine place (broken found)) output)
   pub put-end : (reads rows : ℕ) (output : List ℕ) → OneLeft putTold (lent (endLine reads rows) output)
   pub put-refused : (refusal : Refusal) (output : List ℕ) → OneLeft putTold (lent (refusedLine (numberOf refusal) (placeOf refusal)) output)
-  -- Whose promise is the very thing given: those of `measure`, a receiver's well_formed, the held reader's new, advance and place, and each C entry
-  -- point, all of whose answer is numbers and lists.
-  pub given-itself : {X : Type 0} (defined : X) → One (λ (x : X). x) defined
+  -- promises of the very thing given: those of `measure`, a receiver's well_formed, the held reader's new, advance and place
+  pub number : (refusal : Refusal) → Only (numberOf refusal)
+  pub place : (refusal : Refusal) → Only (placeOf refusal)
+  pub between : (least most x : ℕ) → Only (isBetween least most x)
+  pub settings-fit : (k n Q : ℕ) → Only (settingsFit k n Q)
+  pub first-above : (most : ℕ) (entries : List ℕ) → Only (firstAbove most entries)
+  pub well-formed : (receiver : Receiver) → Only (wellFormed receiver)
+  pub held-new : (bytes : RefT (List ℕ)) → Only (begunReader bytes)
+  pub held-advance : (reader : CaptureReader) → Only (advanced reader)
+  pub held-place : (reader : CaptureReader) → Only (reader .at)
+  -- and each C entry point's, which is a number, with lent numbers and lists
+  pub entry-points : {X : Type 0} (defined : X) → Only defined

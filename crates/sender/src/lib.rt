@@ -111,7 +111,7 @@ fn in_range(a: usize, b: usize, p1: usize, p2: usize) -> bool
 }
 
 // Sends a message. Gives the number of cycles of its wave.
-// Refuses by 1 (a, b or a pad), 3 (more than 1,024 bits: with fewer, no wave is over its own limit), 2 (the place of the first entry that is no bit), 4.
+// Refuses by 1 (a, b or a pad), 3 (more than 1,024 bits; up to that number no wave is over its own limit), 2 (the place of the first entry that is no bit), 4.
 // The output holds the wave at its front and is otherwise untouched; every refusal leaves all of it.
 pub fn send(
     a: WriterCycles,

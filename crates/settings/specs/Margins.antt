@@ -7,7 +7,7 @@ use lib.IntN.{ℤ, pos, negsuc, _-ℤ_, _*ℤ_}
 abbrev pub signed : ℕ → ℤ
 signed n = pos n
 
--- M1: the mark subcell less one cycle is two reads long or longer by this
+-- M1: the mark subcell less one cycle passes two reads by this
 unfoldable pub m1 : ℕ → ℕ → ℕ → ℤ
 m1 a w r = (signed a -ℤ signed 1) *ℤ signed w -ℤ signed 2 *ℤ signed r
 
