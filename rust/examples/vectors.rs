@@ -1,6 +1,5 @@
 //! Prints, from the plain implementation, what the program `vectors` has to print, so that the
-//! stored expected output does not come from the code under test; and behind it the failing run
-//! of source 002 and the longest lists, which `vectors` does not run yet.
+//! stored expected output does not come from the code under test.
 
 use siengulot_plain::{counted, line, sender, settings, Refusal};
 
@@ -294,8 +293,13 @@ mod whole {
 
     fn tally(list: &[u8]) -> String {
         let count = |level: u8| list.iter().filter(|&&entry| entry == level).count();
-        let unknown = list.iter().filter(|&&entry| entry > 1).count();
-        format!(" low {} high {} unknown {}", count(0), count(1), unknown)
+        let step = |sum: u64, &entry: &u8| (sum * 31 + u64::from(entry)) % 65521;
+        let digest = list.iter().fold(0, step);
+        let (low, high, unknown) = (count(0), count(1), count(2));
+        format!(
+            " low {} high {} unknown {} digest {}",
+            low, high, unknown, digest
+        )
     }
 
     fn told(word: &str, answer: Result<usize, Refusal>) -> String {
@@ -306,29 +310,41 @@ mod whole {
     }
 
     fn greatest() {
-        let wave = vec![1; 1048576];
+        let bits: Vec<u8> = (0..2048).map(|i| u8::from(i % 3 == 0)).collect();
+        let mut wave = vec![9; 1048576];
+        let pads = [1024; 2];
+        let sent = sender::plan(255, 255, 1024, &pads, &pads, &bits, &mut wave);
+        let sent = told("cycles", sent);
+        println!("the longest wave{}{}", sent, tally(&wave));
+
         let mut smoothed = vec![9; 1048576];
-        let mut reads = vec![9; 1048576];
-        let answer = line::smooth(&wave, &mut smoothed);
-        println!(
-            "1,048,576 cycles smoothed{}{}",
-            told("cycles", answer),
-            tally(&smoothed)
-        );
-        let answer = line::warp(100, 101, 99, &smoothed, &mut reads);
-        println!(
-            "warped at w 100 r 101{}{}",
-            told("reads", answer),
-            tally(&reads)
-        );
-        let answer = line::warp(1, 65535, 0, &smoothed, &mut reads);
-        println!(
-            "warped at w 1 r 65535{}{}",
-            told("reads", answer),
-            levels(&reads[..17])
-        );
-        let answer = line::settle(&smoothed, &[1], &mut reads);
-        println!("settled{}{}", told("reads", answer), tally(&reads));
+        let answer = told("cycles", line::smooth(&wave, &mut smoothed));
+        println!("smoothed{}{}", answer, tally(&smoothed));
+
+        let mut warped = vec![9; 1048576];
+        let answer = told("reads", line::warp(100, 100, 0, &smoothed, &mut warped));
+        println!("warped at w 100 r 100 p 0{}{}", answer, tally(&warped));
+
+        let answer = line::warp(100, 101, 99, &smoothed, &mut warped);
+        let warped = &warped[..answer.unwrap_or(0)];
+        let answer = told("reads", answer);
+        println!("warped at w 100 r 101 p 99{}{}", answer, tally(warped));
+
+        let mut reads = vec![9; warped.len()];
+        let answer = told("reads", line::settle(warped, &wave, &mut reads));
+        let all = tally(&reads);
+        println!("settled by 1,048,576 choices{}{}", answer, all);
+
+        let mut out = [9; 1024];
+        let answer = counted::receive(1024, 1, 378, &reads, &mut out);
+        println!("counted{}{}", counting::told(answer, 1024), tally(&out));
+    }
+
+    fn flat() {
+        let wave = vec![1; 1048576];
+        let mut out = [9; 17];
+        let answer = told("reads", line::warp(1, 65535, 0, &wave, &mut out));
+        println!("warped at w 1 r 65535{} |{}", answer, levels(&out));
     }
 
     fn above() {
@@ -353,6 +369,7 @@ mod whole {
     pub fn run() {
         failing();
         greatest();
+        flat();
         above();
     }
 }

@@ -5,11 +5,9 @@ use measure::ReadCycles;
 // The wave of P1, taken as reads.
 const SENT: [u8; 13] = [1, 1, 0, 0, 1, 1, 1, 0, 0, 0, 0, 0, 1];
 
-// One case: the answer, then the lent output, whose four bytes are 9 before.
-fn case(name: &[u8], k: ReadCycles, n: usize, level: u8, reads: &[u8]) {
-    crate::show::text(name);
-    let mut out = [9u8; 4];
-    match counted::count_bits(k, n, level, reads, &mut out) {
+// What the counted receiver answered.
+pub fn told(answer: Counted) {
+    match answer {
         Counted::Bits(found) => {
             crate::show::text(b" bits ");
             crate::show::number(found);
@@ -20,6 +18,13 @@ fn case(name: &[u8], k: ReadCycles, n: usize, level: u8, reads: &[u8]) {
         }
         Counted::Refused(refusal) => crate::show::refused(refusal),
     }
+}
+
+// One case: the answer, then the lent output, whose four bytes are 9 before.
+pub fn case(name: &[u8], k: ReadCycles, n: usize, level: u8, reads: &[u8]) {
+    crate::show::text(name);
+    let mut out = [9u8; 4];
+    told(counted::count_bits(k, n, level, reads, &mut out));
     crate::show::text(b" |");
     crate::show::levels(&out, 4);
     crate::show::text(b"\n");

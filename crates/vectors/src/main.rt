@@ -4,10 +4,12 @@ mod judging;
 mod passing;
 mod sending;
 mod show;
+mod whole;
 
 fn main() {
     judging::run();
     sending::run();
     passing::run();
     counting::run();
+    whole::run();
 }

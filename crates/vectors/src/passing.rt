@@ -10,13 +10,26 @@ const SMOOTHED: [u8; 13] = [1, 1, 2, 0, 2, 1, 1, 2, 0, 0, 0, 0, 2];
 
 const WARPED: [u8; 12] = [1, 2, 2, 2, 2, 1, 2, 2, 0, 0, 0, 2];
 
-fn left(out: &[u8]) {
+// What is left in a lent output.
+pub fn left(out: &[u8]) {
     crate::show::text(b" |");
-    crate::show::levels(out, 14);
+    crate::show::levels(out, out.len());
     crate::show::text(b"\n");
 }
 
-fn reads(answer: Read) {
+// What smoothing answered.
+pub fn cycles(answer: Smoothed) {
+    match answer {
+        Smoothed::Wave(cycles) => {
+            crate::show::text(b" cycles ");
+            crate::show::number(cycles.0);
+        }
+        Smoothed::Refused(refusal) => crate::show::refused(refusal),
+    }
+}
+
+// What warping or settling answered.
+pub fn reads(answer: Read) {
     match answer {
         Read::Reads(count) => {
             crate::show::text(b" reads ");
@@ -26,16 +39,18 @@ fn reads(answer: Read) {
     }
 }
 
+// How many reads there are; none after a refusal.
+pub fn count(answer: Read) -> usize {
+    match answer {
+        Read::Reads(count) => count.0,
+        Read::Refused(_) => 0,
+    }
+}
+
 fn smooth(name: &[u8], wave: &[u8]) {
     let mut out = [9u8; 14];
     crate::show::text(name);
-    match line::smooth(wave, &mut out) {
-        Smoothed::Wave(cycles) => {
-            crate::show::text(b" cycles ");
-            crate::show::number(cycles.0);
-        }
-        Smoothed::Refused(refusal) => crate::show::refused(refusal),
-    }
+    cycles(line::smooth(wave, &mut out));
     left(&out);
 }
 

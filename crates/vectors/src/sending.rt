@@ -2,8 +2,8 @@
 use measure::WriterCycles;
 use sender::Sent;
 
-// What a sending answered and left in a lent output of so many bytes, all 9 before.
-fn answer(sent: Sent, out: &[u8]) {
+// What a sending answered.
+pub fn told(sent: Sent) {
     match sent {
         Sent::Wave(cycles) => {
             crate::show::text(b" cycles ");
@@ -11,6 +11,11 @@ fn answer(sent: Sent, out: &[u8]) {
         }
         Sent::Refused(refusal) => crate::show::refused(refusal),
     }
+}
+
+// What a sending answered and left in a lent output of so many bytes, all 9 before.
+fn answer(sent: Sent, out: &[u8]) {
+    told(sent);
     crate::show::text(b" |");
     crate::show::levels(out, 24);
     crate::show::text(b"\n");
