@@ -30,19 +30,31 @@ pub fn case(name: &[u8], k: ReadCycles, n: usize, level: u8, reads: &[u8]) {
     crate::show::text(b"\n");
 }
 
-pub fn run() {
+fn counts() {
     case(b"P7 n 2", ReadCycles(3), 2, 1, &SENT);
     case(b"P7 n 3", ReadCycles(3), 3, 1, &SENT);
     case(b"P7 n 0", ReadCycles(3), 0, 1, &SENT);
     case(b"no read at all", ReadCycles(3), 1, 1, &[]);
     case(b"a mark and no sample", ReadCycles(3), 1, 1, &[1, 0, 0, 0]);
     case(b"started low", ReadCycles(1), 2, 0, &[0, 1, 1, 0, 1]);
+}
+
+fn settings() {
     case(b"k 0", ReadCycles(0), 2, 1, &SENT);
     case(b"k 512", ReadCycles(512), 2, 1, &SENT);
     case(b"n 1,025", ReadCycles(3), 1025, 1, &SENT);
     case(b"a level in force of 2", ReadCycles(3), 2, 2, &SENT);
+}
+
+fn refusals() {
     case(b"a read of 2", ReadCycles(3), 2, 1, &[1, 0, 2, 0]);
     case(b"1 before 2", ReadCycles(0), 2, 1, &[1, 0, 2, 0]);
     case(b"an output shorter than n", ReadCycles(3), 5, 1, &SENT);
     case(b"2 before 4", ReadCycles(3), 5, 1, &[2]);
+}
+
+pub fn run() {
+    counts();
+    settings();
+    refusals();
 }

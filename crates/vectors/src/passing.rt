@@ -87,6 +87,9 @@ fn warps() {
     warp(b"P5 r 4", 2, 4, 0, &[1, 2, 0, 0]);
     warp(b"P6 p 0", 3, 3, 0, &[1]);
     warp(b"P6 p 1", 3, 3, 1, &[1]);
+}
+
+fn warp_settings() {
     warp(b"warp no cycle", 3, 3, 1, &[]);
     warp(b"warp no cycle, p not below w", 3, 3, 3, &[]);
     warp(b"warp w 0", 0, 3, 0, &[1]);
@@ -94,6 +97,9 @@ fn warps() {
     warp(b"warp r 0", 3, 0, 0, &[1]);
     warp(b"warp r 65536", 3, 65536, 0, &[1]);
     warp(b"warp p not below w", 3, 3, 3, &[1]);
+}
+
+fn warp_refusals() {
     warp(
         b"warp into more than 1,048,576 reads",
         65535,
@@ -111,6 +117,9 @@ fn settles() {
     settle(b"settle with no choice", &WARPED, &[]);
     settle(b"settle with a choice left over", &[2, 0], &[1, 1]);
     settle(b"settle nothing", &[], &[1]);
+}
+
+fn settle_refusals() {
     settle(b"settle a 3", &[0, 3], &[1]);
     settle(b"settle by a choice of 2", &[0, 1], &[1, 0, 2]);
     settle(
@@ -128,5 +137,8 @@ fn settles() {
 pub fn run() {
     smooths();
     warps();
+    warp_settings();
+    warp_refusals();
     settles();
+    settle_refusals();
 }

@@ -104,6 +104,7 @@ fn bits() -> [u8; 2048] {
 // Whether the counted receiver finds the first row again.
 fn counted(reads: &[u8]) {
     let mut out = [9u8; 1024];
+    tally(reads);
     crate::show::text(b"counted");
     crate::counting::told(counted::count_bits(ReadCycles(378), 1024, 1, reads, &mut out));
     tally(&out);
@@ -125,44 +126,46 @@ fn sent(wave: &mut [u8]) {
     tally(wave);
 }
 
-// A wave through the three passes and the counted receiver; its levels serve as choices.
-fn passed(wave: &[u8], smoothed: &mut [u8], reads: &mut [u8]) {
+fn smoothed(wave: &[u8], out: &mut [u8]) {
     crate::show::text(b"smoothed");
-    crate::passing::cycles(line::smooth(wave, smoothed));
-    tally(smoothed);
+    crate::passing::cycles(line::smooth(wave, out));
+    tally(out);
+}
+
+// At clocks that are equal and in step, the reads are the cycles.
+fn in_step(wave: &[u8], out: &mut [u8]) {
     crate::show::text(b"warped at w 100 r 100 p 0");
-    crate::passing::reads(line::warp(
-        smoothed,
-        TimeUnits(100),
-        TimeUnits(100),
-        TimeUnits(0),
-        reads,
-    ));
-    tally(reads);
+    crate::passing::reads(line::warp(wave, TimeUnits(100), TimeUnits(100), TimeUnits(0), out));
+    tally(out);
+}
+
+fn warped(wave: &[u8], out: &mut [u8]) -> usize {
     crate::show::text(b"warped at w 100 r 101 p 99");
-    let answer = line::warp(
-        smoothed,
-        TimeUnits(100),
-        TimeUnits(101),
-        TimeUnits(99),
-        reads,
-    );
+    let answer = line::warp(wave, TimeUnits(100), TimeUnits(101), TimeUnits(99), out);
     crate::passing::reads(answer);
-    let many = crate::passing::count(answer);
-    if many <= reads.len() {
-        settled(&reads[..many], wave, smoothed);
-    }
+    crate::passing::count(answer)
 }
 
 // What settling makes of the warped reads, and the counted receiver of that.
 fn settled(reads: &[u8], choices: &[u8], out: &mut [u8]) {
+    let from = 0;
+    let many = reads.len();
     tally(reads);
     crate::show::text(b"settled by 1,048,576 choices");
     crate::passing::reads(line::settle(reads, choices, out));
-    let many = reads.len();
     if many <= out.len() {
-        tally(&out[..many]);
-        counted(&out[..many]);
+        counted(&out[from..many]);
+    }
+}
+
+// A wave through the three passes and the counted receiver; its levels serve as choices.
+fn passed(wave: &[u8], smooth: &mut [u8], reads: &mut [u8]) {
+    smoothed(wave, smooth);
+    in_step(smooth, reads);
+    let from = 0;
+    let many = warped(smooth, reads);
+    if many <= reads.len() {
+        settled(&reads[from..many], wave, smooth);
     }
 }
 
@@ -195,25 +198,37 @@ fn flat() {
 }
 
 // A list of an entry too many is refused wherever one is taken, and the lent output is left.
-fn refused(list: &[u8]) {
-    let mut out = [9u8; 4];
+fn refused_waves(list: &[u8], out: &mut [u8]) {
     crate::show::text(b"1,048,577 entries smoothed");
-    crate::passing::cycles(line::smooth(list, &mut out));
+    crate::passing::cycles(line::smooth(list, out));
     crate::show::text(b" warped");
-    crate::passing::reads(line::warp(list, TimeUnits(1), TimeUnits(1), TimeUnits(0), &mut out));
+    crate::passing::reads(line::warp(list, TimeUnits(1), TimeUnits(1), TimeUnits(0), out));
+}
+
+fn refused_reads(list: &[u8], out: &mut [u8]) {
     crate::show::text(b" settled");
-    crate::passing::reads(line::settle(list, &[], &mut out));
+    crate::passing::reads(line::settle(list, &[], out));
     crate::show::text(b" as choices");
-    crate::passing::reads(line::settle(&[], list, &mut out));
+    crate::passing::reads(line::settle(&[], list, out));
+}
+
+fn refused_counting(list: &[u8], out: &mut [u8]) {
     crate::show::text(b" counted");
-    crate::counting::told(counted::count_bits(ReadCycles(1), 1, 1, list, &mut out));
-    crate::show::levels(&out, 4);
+    crate::counting::told(counted::count_bits(ReadCycles(1), 1, 1, list, out));
+    crate::show::levels(out, out.len());
     crate::show::text(b"\n");
+}
+
+fn refused(list: &[u8], out: &mut [u8]) {
+    refused_waves(list, out);
+    refused_reads(list, out);
+    refused_counting(list, out);
 }
 
 fn above() {
     let list = [1u8; ENTRIES_MOST + 1];
-    refused(&list);
+    let mut out = [9u8; 4];
+    refused(&list, &mut out);
 }
 
 pub fn run() {

@@ -9,6 +9,9 @@ use Rattle.vectors.proofs.whole.above.Tie as tie
 slice-aggregate-refused : tie.Need-slice-aggregate-refused
 slice-aggregate-refused c = sym (length-replicate {A = ℕ} 1048577 1)
 
+slice-aggregate-refused-2 : tie.Need-slice-aggregate-refused-2
+slice-aggregate-refused-2 c = search needs
+
 refused-requires : tie.Need-refused-requires
 refused-requires c κs = search needs
 
@@ -16,4 +19,4 @@ returns : tie.Need-returns
 returns c = search needs
 
 pub above-spec : {M : Type 1} → statement M
-above-spec = tie.close (tie.spec slice-aggregate-refused refused-requires returns)
+above-spec = tie.close (tie.spec slice-aggregate-refused slice-aggregate-refused-2 refused-requires returns)
