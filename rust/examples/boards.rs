@@ -389,31 +389,26 @@ mod refusing {
 
 mod capturing {
     use super::*;
-    use siengulot_plain::capture::{self, Reader, Summary};
+    use siengulot_plain::capture::{self, Summary};
 
     fn number(name: &str, bytes: &[u8]) {
-        let mut reader = Reader::new(bytes).unwrap();
-        let told = match reader.number() {
-            Ok(value) => format!(" is {} after {}", value, reader.place()),
-            Err(refusal) => refused(refusal),
-        };
-        println!("{}{}", name, told);
+        println!("{}{}", name, told(capture::check(bytes)));
     }
 
     fn numbers() {
-        number("P11 7F", &[127]);
-        number("P11 80 01", &[128, 1]);
-        number("P11 80 80 40", &[128, 128, 64]);
-        number("P11 80 00", &[128, 0]);
-        number("00", &[0]);
-        number("FF 7F", &[255, 127]);
-        number("80 80 01", &[128, 128, 1]);
-        number("FF FF 7F", &[255, 255, 127]);
-        number("80 80 00", &[128, 128, 0]);
-        number("80 80 80 01", &[128, 128, 128, 1]);
-        number("80, cut", &[128]);
-        number("80 80, cut", &[128, 128]);
-        number("no byte", &[]);
+        number("P11 7F", &[2, 2, 6, 1, 127]);
+        number("P11 80 01", &[2, 2, 6, 1, 128, 1]);
+        number("P11 80 80 40", &[2, 2, 6, 1, 128, 128, 64]);
+        number("P11 80 00", &[2, 2, 6, 1, 128, 0]);
+        number("00", &[2, 2, 6, 1, 0]);
+        number("FF 7F", &[2, 2, 6, 1, 255, 127]);
+        number("80 80 01", &[2, 2, 6, 1, 128, 128, 1]);
+        number("FF FF 7F", &[2, 2, 6, 1, 255, 255, 127]);
+        number("80 80 00", &[2, 2, 6, 1, 128, 128, 0]);
+        number("80 80 80 01", &[2, 2, 6, 1, 128, 128, 128, 1]);
+        number("80, cut", &[2, 2, 6, 1, 128]);
+        number("80 80, cut", &[2, 2, 6, 1, 128, 128]);
+        number("no byte", &[2, 2, 6, 1]);
     }
 
     fn told(checked: Result<Summary, Refusal>) -> String {

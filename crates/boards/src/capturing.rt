@@ -1,41 +1,34 @@
 // The capture file: P11, and checking, reading and writing with their refusals.
 use capture::Checked;
-use capture::Number;
 use capture::Written;
 use measure::CAPTURE_MOST;
 use measure::ENTRIES_MOST;
 use measure::ReadCycles;
 
-// A number at the front of bytes.
+// A number as the only run of a capture, behind k 2, n 2, Q 6 and the level 1.
 fn number(name: &[u8], bytes: &[u8]) {
     crate::show::text(name);
-    match capture::number_at(bytes, 0) {
-        Number::Is(value, after) => {
-            crate::show::named(b" is ", value);
-            crate::show::named(b" after ", after);
-        }
-        Number::Refused(refusal) => crate::show::refused(refusal),
-    }
+    told(capture::check(bytes));
     crate::show::text(b"\n");
 }
 
 fn numbers() {
-    number(b"P11 7F", &[127]);
-    number(b"P11 80 01", &[128, 1]);
-    number(b"P11 80 80 40", &[128, 128, 64]);
-    number(b"P11 80 00", &[128, 0]);
-    number(b"00", &[0]);
-    number(b"FF 7F", &[255, 127]);
+    number(b"P11 7F", &[2, 2, 6, 1, 127]);
+    number(b"P11 80 01", &[2, 2, 6, 1, 128, 1]);
+    number(b"P11 80 80 40", &[2, 2, 6, 1, 128, 128, 64]);
+    number(b"P11 80 00", &[2, 2, 6, 1, 128, 0]);
+    number(b"00", &[2, 2, 6, 1, 0]);
+    number(b"FF 7F", &[2, 2, 6, 1, 255, 127]);
 }
 
 fn more_numbers() {
-    number(b"80 80 01", &[128, 128, 1]);
-    number(b"FF FF 7F", &[255, 255, 127]);
-    number(b"80 80 00", &[128, 128, 0]);
-    number(b"80 80 80 01", &[128, 128, 128, 1]);
-    number(b"80, cut", &[128]);
-    number(b"80 80, cut", &[128, 128]);
-    number(b"no byte", &[]);
+    number(b"80 80 01", &[2, 2, 6, 1, 128, 128, 1]);
+    number(b"FF FF 7F", &[2, 2, 6, 1, 255, 255, 127]);
+    number(b"80 80 00", &[2, 2, 6, 1, 128, 128, 0]);
+    number(b"80 80 80 01", &[2, 2, 6, 1, 128, 128, 128, 1]);
+    number(b"80, cut", &[2, 2, 6, 1, 128]);
+    number(b"80 80, cut", &[2, 2, 6, 1, 128, 128]);
+    number(b"no byte", &[2, 2, 6, 1]);
 }
 
 // What checking or reading answered.
@@ -45,7 +38,7 @@ fn told(checked: Checked) {
             crate::show::named(b" k ", summary.k.0);
             crate::show::named(b" n ", summary.n);
             crate::show::named(b" Q ", summary.q.0);
-            crate::show::named(b" reads ", summary.reads);
+            crate::show::named(b" reads ", summary.reads.0);
         }
         Checked::Refused(refusal) => crate::show::refused(refusal),
     }

@@ -102,7 +102,7 @@ fn unrolled(name: &[u8], bytes: &[u8], reads: &mut [u8]) {
     match checked {
         Checked::Capture(summary) => {
             let from = 0;
-            let count = summary.reads;
+            let count = summary.reads.0;
             if count <= reads.len() {
                 begun(name, summary, &reads[from..count]);
             }
