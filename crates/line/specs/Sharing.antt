@@ -5,7 +5,7 @@ use mathlib.Core.List.{List}
 use lib.ListN.{length, drop, getD}
 use Rattle.line.specs.Warp.{cycleStart, readStart, look, dropped, warp}
 
--- cycle i and read j share more than a point of time
+-- cycle i and read j overlap: each starts before the other has ended
 pub record Shares (starts reads : ℕ → ℕ) (j i : ℕ) : Type 0 where
   pub before-the-end : starts i < reads (suc j)
   pub after-the-start : reads j < starts (suc i)
@@ -17,7 +17,7 @@ firstLeft starts reads levels (suc j) =
     firstLeft starts reads levels j
     + dropped starts (reads (suc j)) (firstLeft starts reads levels j) (drop (firstLeft starts reads levels j) levels)
 
--- read j looks at cycle i: that is the first one left, or every cycle looked at before it ends strictly before the read does
+-- read j looks at cycle i: it comes to it from the first one left, over cycles that are all over before the read is
 pub record LooksAt (starts reads : ℕ → ℕ) (levels : List ℕ) (j i : ℕ) : Type 0 where
   pub left : firstLeft starts reads levels j ≤ i
   pub onward : (m : ℕ) → firstLeft starts reads levels j ≤ m → m < i → starts (suc m) < reads (suc j)

@@ -5,11 +5,11 @@ use lib.ListN.{length, drop}
 use lib.Dec.{eqb, leb, ltb}
 use Rattle.measure.specs.Choose.{choose}
 
--- Writer cycle i covers the time from i·w to (i + 1)·w. A clock is given by when each of its cycles starts.
+-- A clock is given by when each of its cycles starts: the writer's cycle i at i·w.
 abbrev pub cycleStart : ℕ → ℕ → ℕ
 cycleStart w i = i * w
 
--- read j covers the time from p + j·r to p + (j + 1)·r
+-- and read j at p + j·r
 abbrev pub readStart : ℕ → ℕ → ℕ → ℕ
 readStart p r j = p + j * r
 

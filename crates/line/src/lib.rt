@@ -279,7 +279,7 @@ pub fn warp(wave: &[u8], w: TimeUnits, r: TimeUnits, p: TimeUnits, out: &mut [u8
     Read::Reads(n)
 }
 
-// The next choice where so many are used up, and low once choices have run out.
+// The choice behind those used, or low where there is none.
 fn choice(choices: &[u8], used: usize) -> u8
     ensures { λ v. ⌜ nextOf (drop used (now (choices .entry))) ≡ v ⌝ }
 {
@@ -308,7 +308,7 @@ fn settle_into(reads: &[u8], choices: &[u8], out: &mut [u8])
     }
 }
 
-// Pass 3, settle. Gives the reads with each unknown one made the next choice, or low once choices have run out.
+// Pass 3, settle. Gives the reads with each unknown one made the next choice, or low where none is left.
 // Refuses reads or choices over their limit (3), a read that is no level and not unknown and then a choice that is no level (2, its place
 // in its own list), and an output shorter than the reads (4).
 // The output's front holds the settled reads, and its rest is untouched; a refusal leaves it whole as it was.

@@ -1,4 +1,4 @@
--- 01, "Holding the promises to one meaning": any pair of results that satisfy a promise are equal.
+-- 01, "Holding the promises to one meaning": no promise leaves room for two results.
 -- Each promise is an equation: on the left the operation's definition, on the right what its answer tells and what it leaves. Here they stand one by one.
 use Prim.Native.Nat.{ℕ}
 use mathlib.Core.Path.{_≡_}

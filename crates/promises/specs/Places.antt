@@ -61,7 +61,7 @@ wholly x from to read =
 unfoldable pub withinLead : Link → ℕ → Row → List ℕ
 withinLead x cycle row = passing (wholly x (suc cycle) (cycle + row .lead)) 0 (length (readsOf x))
 
--- its lead quiet has been heard with the Q-th of them
+-- the read at which its lead counts as heard: number Q of these
 unfoldable pub heard : Link → ℕ → Row → ℕ
 heard x cycle row = numbered (x .Q) (withinLead x cycle row)
 

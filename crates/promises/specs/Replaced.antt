@@ -14,7 +14,7 @@ use Rattle.promises.specs.Places.{Link, readsOf, keep}
 abbrev pub damaged : Link → ℕ → ℕ → List ℕ → List ℕ
 damaged x i j junk = take i (readsOf x) ++ junk ++ drop j (readsOf x)
 
--- The lead quiet of a row, whose lead begins with this cycle, is read wholly after a stretch that ends before place j:
+-- 01, on which leads count after a stretch that ends before place j, for a row whose lead begins with this cycle:
 -- no read that overlaps its lead cycles in time stands before j.
 abbrev pub WhollyAfter : Link → ℕ → Row → ℕ → Type 0
 WhollyAfter x cycle row j =

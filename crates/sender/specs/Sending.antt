@@ -9,7 +9,7 @@ use Rattle.measure.specs.Choose.{choose}
 abbrev pub opposite : ℕ → ℕ
 opposite level = 1 - level
 
--- the level of a cell's code subcell: the level before the cell if the bit is 1, and the mark's level still if the bit is 0
+-- the level of a cell's code subcell: a 1 brings back what was on the line before the cell, a 0 stays at the mark's
 abbrev pub codeLevel : ℕ → ℕ → ℕ
 codeLevel before bit = choose (eqb bit 1) before (opposite before)
 
