@@ -1,22 +1,28 @@
 /*
  * How much stack each entry point takes, as measured: the stack of a thread of 2 MiB is painted, the thread makes one call, and the deepest byte that
- * is then no longer paint tells. Counted from the frame of the function that calls, so that what the call itself pushes is in it. Prints for each
- * entry point the most that any of its calls here took, in bytes.
+ * is then no longer paint tells. Counted from the frame of the function that calls, so that what the call itself pushes is in it. Each call is the
+ * first of a process, in which nothing has yet called the C library's memcpy or memset: where these are bound when they are first called, that is
+ * seen. Prints for each entry point the most that any of its calls here took, in bytes.
  */
 #define _GNU_SOURCE
 #include <siengulot.h>
 #include <pthread.h>
 #include <stdio.h>
 #include <stdlib.h>
-#include <string.h>
 #include <sys/mman.h>
+#include <sys/wait.h>
+#include <unistd.h>
 
 enum { STACK = 2 * 1024 * 1024, PAGE = 65536, LIST = SIENGULOT_ENTRIES_MOST, ROWS = SIENGULOT_ROWS_MOST };
 
 static uint8_t high[LIST + 1], turns[LIST], unknown[LIST], mixed[LIST], bad[LIST], out[SIENGULOT_CAPTURE_MOST], bytes[SIENGULOT_CAPTURE_MOST];
 static size_t pads[ROWS], summary[5], place, count, accepted, event, found, used;
 static int64_t margins[5];
-static siengulot_receiver receiver, hunting, delivering, breaking; /* the last two bring an event with a high read */
+static siengulot_receiver receiver;
+static const siengulot_receiver hunting = {{511, 1024, 8191, SIENGULOT_HUNTING, 0, 0, 1, 0}, {0}};
+/* These bring an event with a high read: the row of one bit is in, or its second high read breaks a row off. */
+static const siengulot_receiver delivering = {{1, 1, 3, SIENGULOT_COUNTING, 0, 1, 0, 0}, {0}};
+static const siengulot_receiver breaking = {{511, 1024, 2, SIENGULOT_COUNTING, 1, 510, 0, 0}, {0}};
 static uint8_t row[SIENGULOT_ROW_BYTES];
 
 static char *volatile frame; /* of the function that made the call */
@@ -102,7 +108,7 @@ CALL(listen_entry, 2, LISTEN(hunting, receiver.bits, unknown, LIST))
 CALL(listen_limit, 3, LISTEN(hunting, receiver.bits, high, LIST + 1))
 
 /* The longest capture there is, and its parts. */
-CALL(write_most, 0, siengulot_capture_write(511, 1024, 8191, turns, LIST, bytes, sizeof bytes, &place, &count))
+CALL(write_most, 0, siengulot_capture_write(511, 1024, 8191, turns, LIST, out, sizeof out, &place, &count))
 CALL(write_high, 0, siengulot_capture_write(511, 1024, 8191, high, LIST, out, sizeof out, &place, &count))
 CALL(write_setting, 1, siengulot_capture_write(0, 1024, 8191, turns, LIST, out, sizeof out, &place, &count))
 CALL(write_entry, 2, siengulot_capture_write(511, 1024, 8191, unknown, LIST, out, sizeof out, &place, &count))
@@ -138,7 +144,7 @@ static const struct {
     {"siengulot_step", {step_high, step_low, step_row, step_broken, step_setting, step_entry}},
     {"siengulot_listen",
      {listen_high, listen_turns, listen_row, listen_broken, listen_mixed, listen_setting, listen_entry, listen_limit}},
-    {"siengulot_capture_write", {write_high, write_setting, write_entry, write_limit, write_room, write_most}},
+    {"siengulot_capture_write", {write_most, write_high, write_setting, write_entry, write_limit, write_room}},
     {"siengulot_capture_check", {check_most, check_cut, check_form, check_range}},
     {"siengulot_capture_read", {read_most, read_room, read_cut}},
 };
@@ -155,14 +161,22 @@ static void *in_thread(void *call)
     return NULL;
 }
 
+/* Byte by byte, so that no compiler makes a call of memset of it. */
+static void fill(volatile uint8_t *at, uint8_t with, size_t length)
+{
+    while (length > 0) {
+        at[--length] = with;
+    }
+}
+
 /* How deep a call goes on a stack of this paint. */
-static size_t depth(char *stack, called *call, int paint)
+static size_t depth(char *stack, called *call, uint8_t paint)
 {
     pthread_attr_t attributes;
     pthread_t thread;
     size_t clean = 0;
 
-    memset(stack, paint, STACK);
+    fill((uint8_t *)stack, paint, STACK);
     if (pthread_attr_init(&attributes) || pthread_attr_setstack(&attributes, stack, STACK) ||
         pthread_create(&thread, &attributes, in_thread, &call) || pthread_join(thread, NULL)) {
         stop("no thread could be run");
@@ -173,14 +187,21 @@ static size_t depth(char *stack, called *call, int paint)
     return (size_t)(frame - (stack + clean));
 }
 
-/* A receiver that has taken so many of these reads. */
-static void prepare(siengulot_receiver *it, size_t k, size_t n, size_t q, size_t length)
+/* How deep a call goes, at most, in a process of its own. */
+static size_t deepest(char *stack, called *call, const char *name, size_t *most)
 {
-    uint8_t reads[4] = {1, 1, (uint8_t)(q > 2), (uint8_t)(q == 2)};
-    siengulot_heard heard;
-    if (siengulot_receiver_fresh(it, k, n, q) || siengulot_receiver_listen(it, reads, length, &heard) || heard.event != SIENGULOT_NOTHING) {
-        stop("no receiver could be prepared");
+    int status;
+    pid_t child = fork();
+    if (child == 0) {
+        /* Two paints, since what a call writes may look like one of them. */
+        size_t first = depth(stack, call, 0xA5), second = depth(stack, call, 0x5A);
+        *most = first > second ? first : second;
+        _exit(answer != expected);
     }
+    if (child < 0 || waitpid(child, &status, 0) != child || status != 0) {
+        stop(name);
+    }
+    return *most;
 }
 
 int main(void)
@@ -190,26 +211,26 @@ int main(void)
     if (ground == MAP_FAILED || mprotect(ground, PAGE, PROT_NONE)) {
         stop("no stack could be had");
     }
-    memset(high, 1, sizeof high);
-    memset(unknown, 2, sizeof unknown);
-    memset(bad, 3, sizeof bad);
+    size_t *told = mmap(NULL, sizeof *told, PROT_READ | PROT_WRITE, MAP_SHARED | MAP_ANONYMOUS, -1, 0);
+    if (told == MAP_FAILED) {
+        stop("no memory could be shared");
+    }
+    fill(high, 1, sizeof high);
+    fill(unknown, 2, sizeof unknown);
+    fill(bad, 3, sizeof bad);
+    fill(bytes, 1, sizeof bytes); /* runs of 1, behind k 511, n 1,024, Q 8,191 and a first level of 0 */
+    for (size_t i = 0; i < 7; i++) {
+        bytes[i] = ((const uint8_t[]){0xFF, 0x03, 0x80, 0x08, 0xFF, 0x3F, 0x00})[i];
+    }
     for (size_t i = 0; i < LIST; i++) {
         turns[i] = i % 2;
         mixed[i] = (i * i / 7 + i / 5) % 3 % 2;
     }
-    prepare(&hunting, 511, 1024, 8191, 0);
-    prepare(&delivering, 1, 1, 3, 4); /* three high reads, and the mark */
-    prepare(&breaking, 511, 1024, 2, 4); /* two high reads, the mark, and a high read */
     for (size_t i = 0; i < sizeof points / sizeof points[0]; i++) {
         size_t most = 0;
         for (size_t j = 0; points[i].calls[j] != NULL; j++) {
-            /* Two paints, since what a call writes may look like one of them. */
-            size_t first = depth(ground + PAGE, points[i].calls[j], 0xA5), second = depth(ground + PAGE, points[i].calls[j], 0x5A);
-            if (answer != expected) {
-                stop(points[i].name);
-            }
-            most = first > most ? first : most;
-            most = second > most ? second : most;
+            size_t call = deepest(ground + PAGE, points[i].calls[j], points[i].name, told);
+            most = call > most ? call : most;
         }
         printf("%s %zu\n", points[i].name, most);
     }
