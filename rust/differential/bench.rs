@@ -95,6 +95,7 @@ pub struct Brought {
     pub state: State,
     number: usize,
     event: usize,
+    found: usize,
     pub used: usize,
     pub row: Option<[u8; ROW_BYTES]>,
 }
@@ -150,6 +151,7 @@ impl At {
             state,
             number,
             event,
+            found,
             used,
             row,
         }
@@ -540,7 +542,7 @@ impl Bench {
         self.compare("step", (got, &lent), (brought.number, &expected), || {
             format!("{:?} {:?} read {}", state.numbers, state.bits, read)
         });
-        self.meets("step", EVENTS[brought.event]);
+        self.count_event("step", &brought);
         self.count_state("step", state);
         brought
     }
@@ -573,12 +575,22 @@ impl Bench {
         self.compare("listen", (got, &lent), (brought.number, &expected), || {
             format!("{:?} {:?} {:?}", state.numbers, state.bits, shown(reads))
         });
-        self.meets("listen", EVENTS[brought.event]);
+        self.count_event("listen", &brought);
         self.count_state("listen", state);
         if got == 0 && reads[brought.used..].iter().any(|&read| read > 1) {
             self.meets("listen", "a bad read behind an event");
         }
         brought
+    }
+
+    fn count_event(&mut self, operation: &'static str, brought: &Brought) {
+        self.meets(operation, EVENTS[brought.event]);
+        if brought.row.is_some() && brought.state.numbers[1] == 1_024 {
+            self.meets(operation, "a row of 1,024 bits");
+        }
+        if brought.found == 1_023 {
+            self.meets(operation, "a row broken after 1,023 bits");
+        }
     }
 
     /// A receiver, room for a row, and the numbers of an event.

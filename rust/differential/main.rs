@@ -1,5 +1,5 @@
-//! The static library against the plain Rust implementation: every operation on the same input, seeded, until either all rounds are done or the time
-//! is up. It ends with status 1 at the first difference, and with status 2 if something that can be met never was.
+//! The static library against the plain Rust implementation: every operation on the same input, seeded. The rounds up to a least number are always
+//! done, so that what they cover is the same on every machine; then come more, until all rounds are done or the time is up. It ends with status 1 at the first difference, and with status 2 if something that can be met never was.
 //!
 //! `.ci/differential` builds it and runs it, and then runs it against copies of the plain implementation with a fault in each, all of which it has to
 //! find.
@@ -13,9 +13,11 @@ use bench::{Bench, Room, State};
 use siengulot_plain::settings::{MAX_BITS, MAX_CAPTURE, MAX_LIST, MAX_ROWS};
 use std::time::{Duration, Instant};
 
-/// Rounds of every operation, some of them several times.
+/// Rounds of every operation, some of them several times, that are done however long they take.
+const LEAST_ROUNDS: u64 = 10_000;
+/// No more are done than these.
 const ROUNDS: u64 = 100_000;
-/// No round begins later than this.
+/// No round beyond the least number begins later than this.
 const TIME: Duration = Duration::from_secs(45);
 
 /// What each operation has to meet: the numbers it returns (of `well_formed`, 0 for no and 1 for yes), and cases that are easy to miss.
@@ -45,6 +47,8 @@ const MUST: [(&str, &[&str], &[&str]); 15] = [
             "nothing",
             "row",
             "broken",
+            "a row of 1,024 bits",
+            "a row broken after 1,023 bits",
             "no mode",
             "a level that is no byte",
         ],
@@ -56,6 +60,8 @@ const MUST: [(&str, &[&str], &[&str]); 15] = [
             "nothing",
             "row",
             "broken",
+            "a row of 1,024 bits",
+            "a row broken after 1,023 bits",
             "no mode",
             "a level that is no byte",
             "a bad read behind an event",
@@ -70,7 +76,7 @@ fn main() {
     let started = Instant::now();
     let mut bench = Bench::new(20_261_115);
     let mut rounds = 0;
-    while rounds < ROUNDS && started.elapsed() < TIME {
+    while rounds < LEAST_ROUNDS || (rounds < ROUNDS && started.elapsed() < TIME) {
         round(&mut bench);
         if rounds == 200 {
             greatest_counts(&mut bench);
@@ -78,6 +84,7 @@ fn main() {
             longest_captures(&mut bench);
             short_captures(&mut bench);
             longest_lists(&mut bench);
+            longest_rows(&mut bench);
             vast(&mut bench);
         }
         if rounds % 100 == 0 {
@@ -311,6 +318,52 @@ fn longest_lists(bench: &mut Bench) {
             bench.listen(&state, &bad);
         }
     }
+}
+
+/// Rows of as many bits as there may be, and rows broken off one bit before that, through step and listen. With k 1 a cell is two reads: a mark, and a
+/// sample, which is not the mark's level for a 1. So no more than two high reads come one behind another, and Q is 3.
+fn longest_rows(bench: &mut Bench) {
+    let mut rows = vec![vec![1; MAX_BITS], bench.rng.entries(MAX_BITS, 1)];
+    for alone in [0, 1, 511, 512, MAX_BITS - 2, MAX_BITS - 1] {
+        let mut bits = vec![0; MAX_BITS];
+        bits[alone] = 1;
+        rows.push(bits);
+    }
+    for bits in rows {
+        let mut reads = vec![1; 3];
+        for (i, bit) in bits.iter().enumerate() {
+            let level = reads[reads.len() - 1];
+            // Where the level is low, quiet would begin with a mark.
+            if i == MAX_BITS - 1 && level == 1 {
+                heard_both_ways(bench, &[&reads[..], &[1; 3]].concat());
+            }
+            let mark = 1 - level;
+            reads.extend([mark, mark ^ bit]);
+        }
+        let row = heard_both_ways(bench, &reads);
+        if row != Some(packed(&bits)) {
+            println!("differs: the longest row sent and delivered, {:?}", bits);
+            std::process::exit(1);
+        }
+    }
+}
+
+/// Gives reads to receivers of k 1, n 1,024 and Q 3, one by one and as lists. The answer is the row that was delivered.
+fn heard_both_ways(bench: &mut Bench, reads: &[u8]) -> Option<[u8; 128]> {
+    let fresh = bench.fresh([1, MAX_BITS, 3]);
+    let mut row = None;
+    let mut state = fresh;
+    for &read in reads {
+        let brought = bench.step(&state, read);
+        state = brought.state;
+        row = row.or(brought.row);
+    }
+    // As a whole, and with the last read in a call of its own.
+    bench.listen(&fresh, reads);
+    let (last, before) = reads.split_last().expect("reads");
+    let state = bench.listen(&fresh, before).state;
+    bench.listen(&state, &[*last]);
+    row
 }
 
 /// Lists whose length does not fit 32 bits, though its low part does.
