@@ -92,6 +92,94 @@ fn the_bounds_are_those_of_the_margins() {
     assert!(accepted > 2_000, "{}", accepted);
 }
 
+/// The page's table from top to bottom, each number at its least.
+fn least(w: usize, r: usize) -> Fit {
+    let a = 1 + up(2 * r, w);
+    let k = 1 + up((a + 1) * w, r);
+    let b = up((k + 2) * r, w) + 1 - a;
+    let q = 2 + up((a + b + 1) * w, r);
+    let p1 = 1 + up((q + 1) * r, w);
+    Fit {
+        a,
+        b,
+        k,
+        w,
+        r,
+        q,
+        p1,
+    }
+}
+
+#[test]
+fn the_order_of_the_table_leads_to_a_yes() {
+    let mut rng = Rng::new(73);
+    let mut fits = 0;
+    for _ in 0..2_000 {
+        let fit = least(rng.within(1, 300), rng.within(1, 300));
+        if fit.a > 255 || fit.b > 255 || fit.k > 510 || fit.q > 8191 || fit.p1 > 65535 {
+            continue;
+        }
+        fits += 1;
+        assert!(fit.judged().1, "{:?}", fit);
+        // One less of a, of Q or of p1 is a no, and so is one less of b whatever k is.
+        let Fit { a, b, q, p1, .. } = fit;
+        assert!(!Fit { a: a - 1, ..fit }.judged().1, "{:?}", fit);
+        assert!(!Fit { q: q - 1, ..fit }.judged().1, "{:?}", fit);
+        assert!(!Fit { p1: p1 - 1, ..fit }.judged().1, "{:?}", fit);
+        let shorter = Fit { b: b - 1, ..fit };
+        let bears = |k| Fit { k, ..shorter }.judged().1;
+        assert!(!(1..=511).any(bears), "{:?}", fit);
+    }
+    assert!(fits > 1_000, "{}", fits);
+}
+
+#[test]
+fn the_shortest_settings_of_the_first_board() {
+    let fit = least(100, 141);
+    let Fit { a, b, k, q, p1, .. } = fit;
+    assert_eq!([a, b, k, q, p1], [4, 7, 5, 11, 18]);
+    assert_eq!(fit.judged(), ([18, 64, 13, 69, 8], true));
+    // Cells of 10 cycles are a no, however they are shared out and sampled.
+    for a in 1..10 {
+        for k in 1..=511 {
+            let shorter = Fit {
+                a,
+                b: 10 - a,
+                k,
+                q: 8191,
+                p1: 65535,
+                ..fit
+            };
+            assert!(!shorter.judged().1, "{:?}", shorter);
+        }
+    }
+    // The tolerance: 100 parts in a million of 10 and of 14.1 microseconds, in nanoseconds, rounded outward.
+    let (w, r) = (10_000, 14_100);
+    let (slack_w, slack_r) = (up(w * 100, 1_000_000), up(r * 100, 1_000_000));
+    let fast = Fit {
+        w: w - slack_w,
+        r: r + slack_r,
+        ..fit
+    };
+    let slow = Fit {
+        w: w + slack_w,
+        r: r - slack_r,
+        ..fit
+    };
+    assert_eq!(
+        [fast.w, fast.r, slow.w, slow.r],
+        [9_999, 14_102, 10_001, 14_098]
+    );
+    assert_eq!(fast.judged(), ([1_793, 6_413, 1_276, 6_930, 759], true));
+    assert_eq!(slow.judged(), ([1_807, 6_387, 1_324, 6_870, 841], true));
+    let coarse = Fit {
+        w: 99,
+        r: 142,
+        ..fit
+    };
+    assert_eq!(coarse.judged(), ([13, 73, -4, 90, -21], false));
+}
+
 #[test]
 fn a_yes_at_both_corners_is_a_yes_between_them() {
     let mut rng = Rng::new(72);
