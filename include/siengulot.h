@@ -10,7 +10,8 @@
  *   siengulot_capture_check.
  * - Each single number that is lent (place, count, accepted, event, found, used) is written with every answer, a refusal included. `place` is 0 but
  *   for refusals 2, 6, 7 and 8.
- * - A result stands at the front of its lent output, and the rest of the output is untouched. With every refusal but 5 the whole output is untouched.
+ * - A result stands at the front of its lent output, and the rest of the output is untouched. With every refusal but 5 the whole output is untouched;
+ *   siengulot_fresh alone writes zeros where it refuses.
  * - Levels and bits are bytes, 0 or 1. An unknown level is 2.
  * - A pointer must be valid for its length, and not NULL even where that is 0. What a function writes must not overlap anything else that is lent
  *   to the same call.
@@ -69,7 +70,10 @@ enum siengulot_refusal {
  */
 
 /*
- * The judge. Gives the margins M1, M2 and M3, and in `accepted` 1 if all three are zero or more, else 0.
+ * The judge. Gives the margins M1, M2 and M3, in time units, and in `accepted` 1 if all three are zero or more, else 0:
+ *   M1 = (a - 1) * w - 2 * r
+ *   M2 = (k - 1) * r - (a + 1) * w
+ *   M3 = (a + b - 1) * w - (k + 2) * r
  * Refuses with
  *   1  a or b out of 1 to 255, k out of 1 to 511, or w or r out of 1 to 65,535.
  * Leaves with a refusal `margins` as they were, and 0 in `accepted`.
@@ -77,7 +81,9 @@ enum siengulot_refusal {
 size_t siengulot_judge(size_t a, size_t b, size_t k, size_t w, size_t r, int64_t margins[3], size_t *accepted);
 
 /*
- * The quiet judge. Gives the margins M1 to M5, and in `accepted` 1 if all five are zero or more, else 0.
+ * The quiet judge. Gives the margins M1 to M5, the first three as above, and in `accepted` 1 if all five are zero or more, else 0:
+ *   M4 = (Q - 2) * r - (a + b + 1) * w
+ *   M5 = (p1 - 1) * w - (Q + 1) * r
  * Refuses with
  *   1  what the judge refuses, Q out of 2 to 8,191, or p1 above 65,535.
  * Leaves with a refusal `margins` as they were, and 0 in `accepted`.
@@ -177,6 +183,15 @@ size_t siengulot_counted(size_t k, size_t n, size_t level, const uint8_t *reads,
  * The row receiver
  *
  * A receiver is the caller's memory: a siengulot_receiver, started once, and then given reads as they come. What a read brings is an event.
+ *
+ * A receiver is well formed if all of this holds of its numbers and bits, which are named below:
+ * - k is 1 to 511, n 1 to 1,024 and Q 2 to 8,191, and the mode is one of the four;
+ * - the run is Q in ready, and below Q in every other mode;
+ * - left is 1 to k in counting, and 0 in every other mode;
+ * - the level is 0 or 1; in hunting and ready it is 1;
+ * - found is below n; in hunting and ready it is 0;
+ * - every place of the bits from `found` on holds 0.
+ * One that was started and is changed by these functions alone always is.
  */
 
 /* Where each number of a receiver stands in `numbers`. */
@@ -238,7 +253,7 @@ typedef struct siengulot_heard {
 size_t siengulot_fresh(size_t k, size_t n, size_t q, size_t numbers[SIENGULOT_NUMBERS], uint8_t bits[SIENGULOT_ROW_BYTES]);
 
 /*
- * Gives 1 if a receiver is well formed, else 0. Any numbers and bytes may be asked about.
+ * Gives 1 if a receiver is well formed, as said above, else 0. Any numbers and bytes may be asked about.
  * Refuses nothing.
  * Leaves everything as it was.
  */
