@@ -191,7 +191,7 @@ size_t siengulot_counted(size_t k, size_t n, size_t level, const uint8_t *reads,
  * - the level is 0 or 1; in hunting and ready it is 1;
  * - found is below n; in hunting and ready it is 0;
  * - every place of the bits from `found` on holds 0.
- * One that was started and is changed by these functions alone always is.
+ * One that was started without a refusal, and is changed by these functions alone, always is.
  */
 
 /* Where each number of a receiver stands in `numbers`. */
