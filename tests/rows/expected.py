@@ -17,7 +17,7 @@ class Refused(Exception):
 
 
 def number_at(data, at):
-    """Groups of seven bits, lowest first, the top bit on every byte but the last, shortest form, at most three bytes."""
+    """The number that begins at byte `at`, and the place behind it. Byte i has bits 7 i to 7 i + 6 of it, and is above 127 if another follows."""
     value = 0
     for i in range(3):
         if at + i >= len(data):

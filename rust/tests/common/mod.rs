@@ -139,8 +139,8 @@ pub fn count_model(cycles: usize, w: u64, r: u64, p: u64) -> usize {
     }
 }
 
-/// The other account of warp: a read is what all the cycles say that share more than a
-/// point of time with it.
+/// Warp told by times: a read is the level on which all the cycles agree that overlap it,
+/// where to touch is not to overlap.
 pub fn warp_model(w: u64, r: u64, p: u64, cycles: &[u8]) -> Vec<u8> {
     let count = count_model(cycles.len(), w, r, p) as u64;
     (0..count)
