@@ -1,5 +1,6 @@
 //! The static library against the plain Rust implementation: every operation on the same input, seeded. The rounds up to a least number are always
-//! done, so that what they cover is the same on every machine; then come more, until all rounds are done or the time is up. It ends with status 1 at the first difference, and with status 2 if something that can be met never was.
+//! done, so that what they cover is the same on every machine; then come more, until all rounds are done or the time is up. It ends with status 1 at
+//! the first difference, and with status 2 if something that can be met never was.
 //!
 //! `.ci/differential` builds it and runs it, and then runs it against copies of the plain implementation with a fault in each, all of which it has to
 //! find.
