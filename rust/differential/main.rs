@@ -80,12 +80,12 @@ fn main() {
     while rounds < LEAST_ROUNDS || (rounds < ROUNDS && started.elapsed() < TIME) {
         round(&mut bench);
         if rounds == 200 {
+            longest_rows(&mut bench);
             greatest_counts(&mut bench);
             longest_waves(&mut bench);
             longest_captures(&mut bench);
             short_captures(&mut bench);
             longest_lists(&mut bench);
-            longest_rows(&mut bench);
             vast(&mut bench);
         }
         if rounds % 100 == 0 {
