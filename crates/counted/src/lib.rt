@@ -25,11 +25,10 @@ pub enum Counted {
     Refused(Refusal),
 }
 
-// Tells whether k, n and the level in force are in range.
-fn in_range(k: usize, n: usize, level: u8) -> bool
-    ensures { λ fits. ⌜ fits ≡ (sampling k && leb n bitsMost && leb level 1) ⌝ }
+fn in_range(k: ReadCycles, n: usize, level: u8) -> bool
+    ensures { λ fits. ⌜ fits ≡ (sampling (k .0) && leb n bitsMost && leb level 1) ⌝ }
 {
-    if !measure::between(SAMPLING_LEAST, SAMPLING_MOST, k) {
+    if !measure::between(SAMPLING_LEAST, SAMPLING_MOST, k.0) {
         return false;
     }
     if n > BITS_MOST {
@@ -53,12 +52,12 @@ fn find_mark(reads: &[u8], current: usize, level: u8) -> usize
     i
 }
 
-// Gives the place of a mark's sample.
-fn sample_after(mark: usize, k: usize) -> usize
-    requires { ⌜ mark + k < 2 ^ 64 ⌝ }
-    ensures { λ r. ⌜ r ≡ mark + k ⌝ }
+// A sample stands so many reads behind its mark.
+fn sample_after(mark: usize, k: ReadCycles) -> usize
+    requires { ⌜ mark + k .0 < 2 ^ 64 ⌝ }
+    ensures { λ r. ⌜ r ≡ mark + k .0 ⌝ }
 {
-    mark + k
+    mark + k.0
 }
 
 // Gives the bit that a mark and its sample stand for.
@@ -69,9 +68,9 @@ fn bit(mark: u8, sample: u8) -> u8
 }
 
 // Finds n bits, or as many as there are, and writes them.
-fn count_into(k: usize, n: usize, level: u8, reads: &[u8], out: &mut [u8]) -> Counted
+fn count_into(k: ReadCycles, n: usize, level: u8, reads: &[u8], out: &mut [u8]) -> Counted
     requires { ⌜ n ≤ length (now out) ⌝ }
-    ensures { λ x. ⌜ found n (counted k n level (now (reads .entry))) (now (out .entry)) ≡ (told x, now (out .exit)) ⌝ }
+    ensures { λ x. ⌜ found n (counted (k .0) n level (now (reads .entry))) (now (out .entry)) ≡ (told x, now (out .exit)) ⌝ }
 {
     let mut held = level;
     let mut current = 0;
@@ -79,7 +78,7 @@ fn count_into(k: usize, n: usize, level: u8, reads: &[u8], out: &mut [u8]) -> Co
     while i < n {
         let mark = find_mark(reads, current, held);
         let left = reads.len() - mark;
-        if left <= k {
+        if left <= k.0 {
             return Counted::RanOut(i);
         }
         current = sample_after(mark, k);
@@ -96,8 +95,7 @@ fn count_into(k: usize, n: usize, level: u8, reads: &[u8], out: &mut [u8]) -> Co
 pub fn count_bits(k: ReadCycles, n: usize, level: u8, reads: &[u8], out: &mut [u8]) -> Counted
     ensures { λ x. ⌜ countedBits (k .0) n level (now (reads .entry)) (now (out .entry)) ≡ (told x, now (out .exit)) ⌝ }
 {
-    let places = k.0;
-    if !in_range(places, n, level) {
+    if !in_range(k, n, level) {
         return Counted::Refused(Refusal::Setting);
     }
     if reads.len() > ENTRIES_MOST {
@@ -110,5 +108,5 @@ pub fn count_bits(k: ReadCycles, n: usize, level: u8, reads: &[u8], out: &mut [u
     if out.len() < n {
         return Counted::Refused(Refusal::Room);
     }
-    count_into(places, n, level, reads, out)
+    count_into(k, n, level, reads, out)
 }

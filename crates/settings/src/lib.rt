@@ -55,39 +55,46 @@ pub enum QuietJudged {
     Refused(Refusal),
 }
 
-// Tells whether a, b, k, w and r are in range.
-fn in_range(a: usize, b: usize, k: usize, w: usize, r: usize) -> bool
-    ensures { λ fits. ⌜ fits ≡ inRange a b k w r ⌝ }
+fn in_range(a: WriterCycles, b: WriterCycles, k: ReadCycles, w: TimeUnits, r: TimeUnits) -> bool
+    ensures { λ fits. ⌜ fits ≡ inRange (a .0) (b .0) (k .0) (w .0) (r .0) ⌝ }
 {
-    if !measure::between(SUBCELL_LEAST, SUBCELL_MOST, a) {
+    if !measure::between(SUBCELL_LEAST, SUBCELL_MOST, a.0) {
         return false;
     }
-    if !measure::between(SUBCELL_LEAST, SUBCELL_MOST, b) {
+    if !measure::between(SUBCELL_LEAST, SUBCELL_MOST, b.0) {
         return false;
     }
-    if !measure::between(SAMPLING_LEAST, SAMPLING_MOST, k) {
+    if !measure::between(SAMPLING_LEAST, SAMPLING_MOST, k.0) {
         return false;
     }
-    if !measure::between(CYCLE_LEAST, CYCLE_MOST, w) {
+    if !measure::between(CYCLE_LEAST, CYCLE_MOST, w.0) {
         return false;
     }
-    measure::between(CYCLE_LEAST, CYCLE_MOST, r)
+    measure::between(CYCLE_LEAST, CYCLE_MOST, r.0)
 }
 
-// Tells whether Q and p1 are in range as well.
-fn quiet_in_range(a: usize, b: usize, k: usize, w: usize, r: usize, q: usize, p1: usize) -> bool
-    ensures { λ fits. ⌜ fits ≡ (inRange a b k w r && quiet q && leb p1 padMost) ⌝ }
+fn quiet_in_range(
+    a: WriterCycles,
+    b: WriterCycles,
+    k: ReadCycles,
+    w: TimeUnits,
+    r: TimeUnits,
+    q: ReadCycles,
+    p1: WriterCycles,
+) -> bool
+    ensures { λ fits. ⌜ fits ≡ (inRange (a .0) (b .0) (k .0) (w .0) (r .0) && quiet (q .0) && leb (p1 .0) padMost) ⌝ }
 {
     if !in_range(a, b, k, w, r) {
         return false;
     }
-    if !measure::between(QUIET_LEAST, QUIET_MOST, q) {
+    if !measure::between(QUIET_LEAST, QUIET_MOST, q.0) {
         return false;
     }
-    p1 <= PAD_MOST
+    p1.0 <= PAD_MOST
 }
 
-// Gives a margin. Each of the five has this form: so many cycles of one clock less the spare ones, against so many of the other.
+// Gives a margin. Each of the five has this form: so many cycles of one clock less the spare ones, against so many of the other. Either clock may
+// come first, so these are bare numbers.
 fn margin(count: usize, spare: usize, cycle: usize, others: usize, other: usize) -> i64
     requires { ⌜ (count ≤ 65536) × (spare ≤ 65536) × (cycle ≤ 65536) × (others ≤ 65536) × (other ≤ 65536) ⌝ }
     ensures { λ m. ⌜ m ≡ (signed count -ℤ signed spare) *ℤ signed cycle -ℤ signed others *ℤ signed other ⌝ }
@@ -99,43 +106,43 @@ fn margin(count: usize, spare: usize, cycle: usize, others: usize, other: usize)
 }
 
 // Gives M1: the mark subcell against two reads.
-fn margin1(a: usize, w: usize, r: usize) -> i64
-    requires { ⌜ (a ≤ 255) × (w ≤ 65535) × (r ≤ 65535) ⌝ }
-    ensures { λ m. ⌜ m ≡ m1 a w r ⌝ }
+fn margin1(a: WriterCycles, w: TimeUnits, r: TimeUnits) -> i64
+    requires { ⌜ (a .0 ≤ 255) × (w .0 ≤ 65535) × (r .0 ≤ 65535) ⌝ }
+    ensures { λ m. ⌜ m ≡ m1 (a .0) (w .0) (r .0) ⌝ }
 {
-    margin(a, 1, w, 2, r)
+    margin(a.0, 1, w.0, 2, r.0)
 }
 
 // Gives M2: the sampling count against the mark subcell.
-fn margin2(a: usize, k: usize, w: usize, r: usize) -> i64
-    requires { ⌜ (a ≤ 255) × (k ≤ 511) × (w ≤ 65535) × (r ≤ 65535) ⌝ }
-    ensures { λ m. ⌜ m ≡ m2 a k w r ⌝ }
+fn margin2(a: WriterCycles, k: ReadCycles, w: TimeUnits, r: TimeUnits) -> i64
+    requires { ⌜ (a .0 ≤ 255) × (k .0 ≤ 511) × (w .0 ≤ 65535) × (r .0 ≤ 65535) ⌝ }
+    ensures { λ m. ⌜ m ≡ m2 (a .0) (k .0) (w .0) (r .0) ⌝ }
 {
-    margin(k, 1, r, a + 1, w)
+    margin(k.0, 1, r.0, a.0 + 1, w.0)
 }
 
 // Gives M3: the whole cell against the sampling count.
-fn margin3(a: usize, b: usize, k: usize, w: usize, r: usize) -> i64
-    requires { ⌜ (a ≤ 255) × (b ≤ 255) × (k ≤ 511) × (w ≤ 65535) × (r ≤ 65535) ⌝ }
-    ensures { λ m. ⌜ m ≡ m3 a b k w r ⌝ }
+fn margin3(a: WriterCycles, b: WriterCycles, k: ReadCycles, w: TimeUnits, r: TimeUnits) -> i64
+    requires { ⌜ (a .0 ≤ 255) × (b .0 ≤ 255) × (k .0 ≤ 511) × (w .0 ≤ 65535) × (r .0 ≤ 65535) ⌝ }
+    ensures { λ m. ⌜ m ≡ m3 (a .0) (b .0) (k .0) (w .0) (r .0) ⌝ }
 {
-    margin(a + b, 1, w, k + 2, r)
+    margin(a.0 + b.0, 1, w.0, k.0 + 2, r.0)
 }
 
 // Gives M4: the quiet count against a cell.
-fn margin4(a: usize, b: usize, q: usize, w: usize, r: usize) -> i64
-    requires { ⌜ (a ≤ 255) × (b ≤ 255) × (q ≤ 8191) × (w ≤ 65535) × (r ≤ 65535) ⌝ }
-    ensures { λ m. ⌜ m ≡ m4 a b q w r ⌝ }
+fn margin4(a: WriterCycles, b: WriterCycles, q: ReadCycles, w: TimeUnits, r: TimeUnits) -> i64
+    requires { ⌜ (a .0 ≤ 255) × (b .0 ≤ 255) × (q .0 ≤ 8191) × (w .0 ≤ 65535) × (r .0 ≤ 65535) ⌝ }
+    ensures { λ m. ⌜ m ≡ m4 (a .0) (b .0) (q .0) (w .0) (r .0) ⌝ }
 {
-    margin(q, 2, r, a + b + 1, w)
+    margin(q.0, 2, r.0, a.0 + b.0 + 1, w.0)
 }
 
 // Gives M5: the lead pad against the quiet count.
-fn margin5(p1: usize, q: usize, w: usize, r: usize) -> i64
-    requires { ⌜ (p1 ≤ 65535) × (q ≤ 8191) × (w ≤ 65535) × (r ≤ 65535) ⌝ }
-    ensures { λ m. ⌜ m ≡ m5 p1 q w r ⌝ }
+fn margin5(p1: WriterCycles, q: ReadCycles, w: TimeUnits, r: TimeUnits) -> i64
+    requires { ⌜ (p1 .0 ≤ 65535) × (q .0 ≤ 8191) × (w .0 ≤ 65535) × (r .0 ≤ 65535) ⌝ }
+    ensures { λ m. ⌜ m ≡ m5 (p1 .0) (q .0) (w .0) (r .0) ⌝ }
 {
-    margin(p1, 1, w, q + 1, r)
+    margin(p1.0, 1, w.0, q.0 + 1, r.0)
 }
 
 // Answers yes or no by the signs of three margins.
@@ -182,18 +189,13 @@ fn quiet_by_signs(m1: i64, m2: i64, m3: i64, m4: i64, m5: i64) -> QuietJudged
 pub fn judge(a: WriterCycles, b: WriterCycles, k: ReadCycles, w: TimeUnits, r: TimeUnits) -> Judged
     ensures { λ x. ⌜ judgement (a .0) (b .0) (k .0) (w .0) (r .0) ≡ told x ⌝ }
 {
-    let mark = a.0;
-    let code = b.0;
-    let places = k.0;
-    let writer = w.0;
-    let reader = r.0;
-    if !in_range(mark, code, places, writer, reader) {
+    if !in_range(a, b, k, w, r) {
         return Judged::Refused(Refusal::Setting);
     }
     by_signs(
-        margin1(mark, writer, reader),
-        margin2(mark, places, writer, reader),
-        margin3(mark, code, places, writer, reader),
+        margin1(a, w, r),
+        margin2(a, k, w, r),
+        margin3(a, b, k, w, r),
     )
 }
 
@@ -209,21 +211,14 @@ pub fn judge_quiet(
 ) -> QuietJudged
     ensures { λ x. ⌜ quietJudgement (a .0) (b .0) (k .0) (w .0) (r .0) (q .0) (p1 .0) ≡ quietTold x ⌝ }
 {
-    let mark = a.0;
-    let code = b.0;
-    let places = k.0;
-    let writer = w.0;
-    let reader = r.0;
-    let quiet = q.0;
-    let lead = p1.0;
-    if !quiet_in_range(mark, code, places, writer, reader, quiet, lead) {
+    if !quiet_in_range(a, b, k, w, r, q, p1) {
         return QuietJudged::Refused(Refusal::Setting);
     }
     quiet_by_signs(
-        margin1(mark, writer, reader),
-        margin2(mark, places, writer, reader),
-        margin3(mark, code, places, writer, reader),
-        margin4(mark, code, quiet, writer, reader),
-        margin5(lead, quiet, writer, reader),
+        margin1(a, w, r),
+        margin2(a, k, w, r),
+        margin3(a, b, k, w, r),
+        margin4(a, b, q, w, r),
+        margin5(p1, q, w, r),
     )
 }

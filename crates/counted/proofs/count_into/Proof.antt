@@ -33,7 +33,7 @@ less n i h = omega arith
 
 abbrev Inv-loop : tie.InvT-loop
 Inv-loop k n level reads out₀ held₀ current₀ i₀ out held current i =
-    (i ≤ n) × (current ≤ length reads) × Wrote (counted k n level reads) out₀ out (counted k (n - i) held (drop current reads)) i
+    (i ≤ n) × (current ≤ length reads) × Wrote (counted (k .0) n level reads) out₀ out (counted (k .0) (n - i) held (drop current reads)) i
 
 abbrev μ-loop : tie.MeasureT-loop
 μ-loop k n level reads out₀ held₀ current₀ i₀ out held current i = n - i
@@ -48,15 +48,16 @@ sub-left : tie.Need-sub-left Inv-loop μ-loop
 sub-left c = omega arith
 
 same-length : tie.Need-same-length Inv-loop μ-loop
-same-length c = c .before .before .before .loop .inv .2 .size
+same-length c = c .before .before .before .before .loop .inv .2 .size
 
 returns : tie.Need-returns Inv-loop μ-loop
 returns c =
-    let at-loop = c .before .before .before in
+    let at-mark = c .before .before in
+    let at-loop = at-mark .before .before in
     let args = at-loop .before .before .before .args in
-    let none = counted-unsampled (args .k) (args .n - at-loop .loop .i) (at-loop .loop .held) (args .reads .now) (at-loop .loop .current) (c .before .find-mark .result)
-    (c .before .find-mark .ensures .1) (omega arith) in
-    found-fewer _ _ _ _ _ (rw none at (at-loop .loop .inv .2)) (omega arith) (omega arith) (c .before .before .loop-test .taken)
+    let none = counted-unsampled (args .k .0) (args .n - at-loop .loop .i) (at-loop .loop .held) (args .reads .now) (at-loop .loop .current) (at-mark .find-mark .result)
+    (at-mark .find-mark .ensures .1) (omega arith) in
+    found-fewer _ _ _ _ _ (rw none at (at-loop .loop .inv .2)) (omega arith) (omega arith) (at-mark .before .loop-test .taken)
 
 sample-after-requires : tie.Need-sample-after-requires Inv-loop μ-loop
 sample-after-requires c κs = omega arith
@@ -82,12 +83,12 @@ loop-less c = omega arith
 loop-again : tie.Need-loop-again Inv-loop μ-loop
 loop-again c =
     let at-sample = c .before .before .before in
-    let at-mark = at-sample .before .before in
+    let at-mark = at-sample .before .before .before in
     let at-loop = at-mark .before .before in
     let args = at-loop .before .before .before .args in
     let i = at-loop .loop .i in
     let fewer = less (args .n) i (at-mark .before .loop-test .taken) in
-    let step = counted-marked (args .k) (args .n - (i + 1)) (at-loop .loop .held) (args .reads .now) (at-loop .loop .current) (at-mark .find-mark .result) 0
+    let step = counted-marked (args .k .0) (args .n - (i + 1)) (at-loop .loop .held) (args .reads .now) (at-loop .loop .current) (at-mark .find-mark .result) 0
     (at-mark .find-mark .ensures .1) (omega arith) in
     (omega arith, omega arith, wrote-more _ _ _ _ _ _ (rw (fewer, step, ← at-sample .sample-after .ensures, ← c .bit .ensures) at (at-loop .loop .inv .2)) (omega arith))
 

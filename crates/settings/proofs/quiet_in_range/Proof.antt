@@ -19,7 +19,10 @@ returns-2 c =
 
 returns-3 : tie.Need-returns-3
 returns-3 c =
-    simp (passed (c .before .before .before .in-range .ensures) (c .before .before .if1 .left), passed (c .before .between .ensures) (c .if2 .left))
+    simp (
+      passed (c .before .before .before .before .in-range .ensures) (c .before .before .before .if1 .left),
+      passed (c .before .before .between .ensures) (c .before .if2 .left),
+    )
 
 pub quiet-in-range-spec : {M : Type 1} → statement M
 quiet-in-range-spec = tie.close (tie.spec in-range-requires returns between-requires returns-2 returns-3)
