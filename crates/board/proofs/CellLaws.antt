@@ -12,7 +12,7 @@ use Rattle.board.specs.declared.Numbers.{Numbers}
 use Rattle.board.specs.declared.Heard.the-variants.{Full}
 use Rattle.board.specs.Rows.{Settings, State, waiting, counting, collected}
 use Rattle.board.specs.Packed.{unpacked, kept, stateOf, receiverOf}
-use Rattle.board.specs.Listening.{keeping, Keeps, heardFrom, movedFrom, heardTold}
+use Rattle.board.specs.Listening.{keeping, Keeps, heardFrom, movedFrom, heardSays}
 use Rattle.board.proofs.PackedBits.{Binary, unpacked-packed}
 use Rattle.board.proofs.RowRules.{Ranged, Valid, valid-counting}
 use Rattle.board.proofs.KeepingLaws.{keeps-of, state-kept}
@@ -22,7 +22,7 @@ pub row-read : (l : List ℕ) (n : ℕ) → Binary l → length l ≡ n → n �
 row-read l n b e h = rw (unpacked-packed 8 128 l b (omega arith)) (take-at l (replicate (128 * 8 - length l) 0) n e)
 
 pub row-full : (x : Receiver) (g : Settings) (run read used all : ℕ) (l bytes reads : List ℕ) → Binary l → length l ≡ g .n → g .n ≤ 1024 → kept l ≡ bytes
-    → movedFrom x g (collected g run read l) used reads ≡ heardTold x g all bytes (Full run used)
+    → movedFrom x g (collected g run read l) used reads ≡ heardSays x g all bytes (Full run used)
 row-full x g run read used all l bytes reads b e h k = rw (eq-eqb (length l) (g .n) e, ← k, row-read l (g .n) b e h)
 
 pub row-on : (x : Receiver) (g : Settings) (run read used : ℕ) (l reads : List ℕ) → (length l ≡ g .n → ⊥)

@@ -4,7 +4,7 @@ use mathlib.Core.Path.{_≡_, refl}
 use mathlib.Core.List.{List, [], _∷_, _++_, map}
 use native.Mathlib.Omega.{arith}
 use lib.ListN.{length, getD}
-use Rattle.board.specs.Rows.{State, Happening, nothing, row, broken}
+use Rattle.board.specs.Rows.{State, Event, nothing, row, broken}
 use Rattle.board.specs.Feeding.{Report, noted, Step, afterBy, reportsBy, usedOf}
 
 pub after-append : (step : Step) (s : State) (a b : List ℕ) → afterBy step s (a ++ b) ≡ afterBy step (afterBy step s a) b
@@ -12,7 +12,7 @@ unfolding afterBy
 after-append step s [] b = refl
 after-append step s (read ∷ a) b = after-append step (step s read .state) a b
 
-pub noted-append : (place : ℕ) (event : Happening) (a b : List Report) → noted place event (a ++ b) ≡ noted place event a ++ b
+pub noted-append : (place : ℕ) (event : Event) (a b : List Report) → noted place event (a ++ b) ≡ noted place event a ++ b
 noted-append place nothing a b = refl
 noted-append place (row bits) a b = refl
 noted-append place (broken found) a b = refl
@@ -47,7 +47,7 @@ reports-later step s place d (read ∷ reads) =
     let e : suc (place + d) ≡ suc place + d = omega arith in
     rw (e, reports-later step (step s read .state) (suc place) d reads) (go (step s read .event) (reportsBy step (step s read .state) (suc place) reads))
   where
-    go : (event : Happening) (reports : List Report) → noted (place + d) event (map (later d) reports) ≡ map (later d) (noted place event reports)
+    go : (event : Event) (reports : List Report) → noted (place + d) event (map (later d) reports) ≡ map (later d) (noted place event reports)
     go nothing reports = refl
     go (row bits) reports = refl
     go (broken found) reports = refl
@@ -60,7 +60,7 @@ used-least step s place (read ∷ reads) =
     let e : place + suc (length reads) ≡ suc place + length reads = omega arith in
     rw e (go (step s read .event) (used-least step (step s read .state) (suc place) reads))
   where
-    go : (event : Happening) → suc place ≤ usedOf (reportsBy step (step s read .state) (suc place) reads) (suc place + length reads)
+    go : (event : Event) → suc place ≤ usedOf (reportsBy step (step s read .state) (suc place) reads) (suc place + length reads)
         → place ≤ usedOf (noted place event (reportsBy step (step s read .state) (suc place) reads)) (suc place + length reads)
     go nothing h = omega arith
     go (row bits) h = omega arith

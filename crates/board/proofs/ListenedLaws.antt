@@ -14,11 +14,11 @@ use Rattle.measure.specs.Choose.{choose}
 use Rattle.measure.specs.Ranges.{entriesMost}
 use Rattle.measure.specs.Lists.{firstAbove, someAbove}
 use Rattle.board.specs.declared.Receiver.{Receiver}
-use Rattle.board.specs.Rows.{Settings, State, Happening, nothing, row, broken, next}
+use Rattle.board.specs.Rows.{Settings, State, Event, nothing, row, broken, next}
 use Rattle.board.specs.Feeding.{Report, noted, afterBy, reportsBy, reports, after, firstEvent, usedOf}
 use Rattle.board.specs.Packed.{settingsOf, stateOf}
 use Rattle.board.specs.WellFormed.{wellFormed}
-use Rattle.board.specs.Refusals.{Outcome, reached, refusing, levelsOf, silent, toEvent, listened, stepped}
+use Rattle.board.specs.Answers.{Outcome, reached, refusing, levelsOf, silent, toEvent, listened, stepped}
 use Rattle.board.specs.Listening.{heardFrom, onward}
 use Rattle.board.proofs.FeedingLaws.{used-least}
 
@@ -51,7 +51,7 @@ by-reads x g s place (read ∷ reads) = go (decLe read 1) (by-reads x g (next g 
     rest : List Report
     rest = reports g (next g s read .state) (suc place) (take f reads)
 
-    came : (event : Happening)
+    came : (event : Event)
         → byReports x g (next g s read .state) (suc place) (someAbove 1 reads) (suc place + f) (take f reads) rest ≡ heardFrom x g (next g s read .state) (suc place) reads
         → byReports x g s place (someAbove 1 reads) (place + suc f) (read ∷ take f reads) (noted place event rest)
         ≡ onward g (next g s read .state) event (suc place) (heardFrom x g (next g s read .state) (suc place) reads)
@@ -93,7 +93,7 @@ pub stepped-is : (x : Receiver) (read : ℕ)
 unfolding stepped heardFrom
 stepped-is x read = go (wellFormed x) (leb read 1) (next (settingsOf x) (stateOf x) read .state) (next (settingsOf x) (stateOf x) read .event)
   where
-    go : (well level : Bool) (s : State) (event : Happening)
+    go : (well level : Bool) (s : State) (event : Event)
         → choose well (choose level (reached (settingsOf x) s event) (refusing x 2 0)) (refusing x 1 0)
         ≡ choose well ((choose level (onward (settingsOf x) s event 1 (reached (settingsOf x) s nothing, 1)) (refusing x 2 0, 0)) .0) (refusing x 1 0)
     go true true s nothing = refl

@@ -13,7 +13,7 @@ use Rattle.measure.specs.Choose.{choose}
 use Rattle.measure.specs.Cells.{bitOf}
 use Rattle.board.specs.declared.Receiver.{Receiver}
 use Rattle.board.specs.Rows.{Settings, State, nothing, Moved, runAfter, ready, counting, waiting, quietened, marked, collected, listening, next}
-use Rattle.board.specs.Refusals.{reached, refusing}
+use Rattle.board.specs.Answers.{reached, refusing}
 use Rattle.board.specs.Listening.{longer, heardFrom, movedFrom}
 use Rattle.board.proofs.RowRules.{run-most, run-full}
 

@@ -11,11 +11,11 @@ use lib.ListN.{length, getD}
 use Rattle.measure.specs.Choose.{choose}
 use Rattle.measure.specs.Ranges.{entriesMost, settingsFit}
 use Rattle.board.specs.declared.Receiver.{Receiver}
-use Rattle.board.specs.Rows.{Settings, State, Happening, nothing, row, broken, fresh, next}
+use Rattle.board.specs.Rows.{Settings, State, Event, nothing, row, broken, fresh, next}
 use Rattle.board.specs.Feeding.{after}
 use Rattle.board.specs.Packed.{settingsOf, stateOf, receiverOf}
 use Rattle.board.specs.WellFormed.{wellFormed}
-use Rattle.board.specs.Refusals.{begun, stepped, listened, refusing}
+use Rattle.board.specs.Answers.{begun, stepped, listened, refusing}
 use Rattle.board.specs.Listening.{heardFrom, onward}
 use Rattle.board.proofs.FeedingLaws.{after-keeps}
 use Rattle.board.proofs.RowRules.{Valid, valid-fresh, valid-next}
@@ -59,7 +59,7 @@ unfolding heardFrom
 heard-well-formed x g s place [] h v = well-formed-of g s v
 heard-well-formed x g s place (read ∷ reads) h v = go (decLe read 1) (heard-well-formed x g (next g s read .state) (suc place) reads h)
   where
-    came : (event : Happening) → Valid g (next g s read .state)
+    came : (event : Event) → Valid g (next g s read .state)
         → (Valid g (next g s read .state) → wellFormed (heardFrom x g (next g s read .state) (suc place) reads .0 .receiver) ≡ true)
         → wellFormed (onward g (next g s read .state) event (suc place) (heardFrom x g (next g s read .state) (suc place) reads) .0 .receiver) ≡ true
     came nothing v rest = rest v

@@ -1,15 +1,15 @@
 -- 01, "The row receiver": reads fed one behind another, and what is reported, each report with the place of its read.
 use Prim.Native.Nat.{ℕ, suc, _+_}
 use mathlib.Core.List.{List, [], _∷_}
-use Rattle.board.specs.Rows.{Settings, State, Happening, nothing, row, broken, Moved, next}
+use Rattle.board.specs.Rows.{Settings, State, Event, nothing, row, broken, Moved, next}
 
 -- a read's place and what it brought
 pub record Report : Type 0 where
   pub place : ℕ
-  pub event : Happening
+  pub event : Event
 
 -- a report before others; a read that brings nothing gives none
-abbrev pub noted : ℕ → Happening → List Report → List Report
+abbrev pub noted : ℕ → Event → List Report → List Report
 noted place nothing reports = reports
 noted place (row bits) reports = record { place = place; event = row bits } ∷ reports
 noted place (broken found) reports = record { place = place; event = broken found } ∷ reports
@@ -38,7 +38,7 @@ abbrev pub reports : Settings → State → ℕ → List ℕ → List Report
 reports g s place reads = reportsBy (next g) s place reads
 
 -- the first thing reported, if any
-abbrev pub firstEvent : List Report → Happening
+abbrev pub firstEvent : List Report → Event
 firstEvent [] = nothing
 firstEvent (report ∷ more) = report .event
 

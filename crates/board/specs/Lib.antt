@@ -2,5 +2,5 @@ pub mod Rows
 pub mod Feeding
 pub mod Packed
 pub mod WellFormed
-pub mod Refusals
+pub mod Answers
 pub mod Listening

@@ -7,10 +7,10 @@ use lib.ListN.{length, take, drop}
 use lib.Dec.{leb, eqb}
 use Rattle.measure.specs.Choose.{choose}
 use Rattle.measure.specs.Refusals.{given}
-use Rattle.board.specs.Rows.{Settings, State, Happening, nothing, row, broken, Moved, hunting, ready, next}
+use Rattle.board.specs.Rows.{Settings, State, Event, nothing, row, broken, Moved, hunting, ready, next}
 use Rattle.board.specs.Packed.{unpacked, kept, stateOf, receiverOf}
 use Rattle.board.specs.WellFormed.{wellFormed}
-use Rattle.board.specs.Refusals.{Outcome, reached, refusing}
+use Rattle.board.specs.Answers.{Outcome, reached, refusing}
 use Rattle.board.specs.declared.Receiver.{Receiver}
 use Rattle.board.specs.declared.Numbers.{Numbers}
 use Rattle.board.specs.declared.Heard.{Heard}
@@ -46,7 +46,7 @@ abbrev pub longer : ℕ → ℕ → ℕ
 longer run read = choose (eqb read 1) (run + 1) 0
 
 -- a move that brings an event is the outcome, with the reads used by then; one that brings nothing leaves it to what follows
-abbrev pub onward : Settings → State → Happening → ℕ → Outcome × ℕ → Outcome × ℕ
+abbrev pub onward : Settings → State → Event → ℕ → Outcome × ℕ → Outcome × ℕ
 onward g s nothing used rest = rest
 onward g s (row bits) used rest = (reached g s (row bits), used)
 onward g s (broken found) used rest = (reached g s (broken found), used)
@@ -64,17 +64,17 @@ abbrev pub movedFrom : Receiver → Settings → Moved → ℕ → List ℕ → 
 movedFrom x g m place reads = onward g (m .state) (m .event) place (heardFrom x g (m .state) place reads)
 
 -- what each case of the code says, beside the bytes that it leaves and the number of all reads
-abbrev pub heardTold : Receiver → Settings → ℕ → List ℕ → Heard → Outcome × ℕ
-heardTold x g all bytes (Ended now) = (record { receiver = keeping g now bytes; answer = given nothing; row = kept [] }, all)
-heardTold x g all bytes (Bad place) = (refusing x 2 place, 0)
-heardTold x g all bytes (Full run used) =
+abbrev pub heardSays : Receiver → Settings → ℕ → List ℕ → Heard → Outcome × ℕ
+heardSays x g all bytes (Ended now) = (record { receiver = keeping g now bytes; answer = given nothing; row = kept [] }, all)
+heardSays x g all bytes (Bad place) = (refusing x 2 place, 0)
+heardSays x g all bytes (Full run used) =
     (record { receiver = receiverOf g (hunting run); answer = given (row (take (g .n) (unpacked 8 bytes))); row = bytes }, used)
-heardTold x g all bytes (Broken found used) = (reached g (ready (g .Q)) (broken found), used)
+heardSays x g all bytes (Broken found used) = (reached g (ready (g .Q)) (broken found), used)
 
 -- the same for a search among the reads: where it finds its read, what is done with that read follows
-abbrev pub soughtTold : Receiver → Settings → (ℕ → ℕ → Moved) → List ℕ → List ℕ → Sought → Outcome × ℕ
-soughtTold x g done bits reads (Found used run read) = movedFrom x g (done run read) used (drop used reads)
-soughtTold x g done bits reads (Stopped heard) = heardTold x g (length reads) (kept bits) heard
+abbrev pub soughtSays : Receiver → Settings → (ℕ → ℕ → Moved) → List ℕ → List ℕ → Sought → Outcome × ℕ
+soughtSays x g done bits reads (Found used run read) = movedFrom x g (done run read) used (drop used reads)
+soughtSays x g done bits reads (Stopped heard) = heardSays x g (length reads) (kept bits) heard
 
 -- a read that is found stands after the place of departure, is a level, and leaves the run below Q
 abbrev pub Lands : ℕ → ℕ → ℕ → Sought → Type 0

@@ -24,15 +24,15 @@ pub record State : Type 0 where
   pub bits : List ℕ
 
 -- what a read brings: nothing, a row with its bits, or a row broken after so many bits
-pub data Happening : Type 0 where
-  nothing : Happening
-  row : List ℕ → Happening
-  broken : ℕ → Happening
+pub data Event : Type 0 where
+  nothing : Event
+  row : List ℕ → Event
+  broken : ℕ → Event
 
 -- the state after a read, and what the read brought
 pub record Moved : Type 0 where
   pub state : State
-  pub event : Happening
+  pub event : Event
 
 -- 01, first rule of a read: the run grows by one with each high read until it stands at Q, and falls back to 0 with a low one
 abbrev pub runAfter : ℕ → ℕ → ℕ → ℕ

@@ -11,8 +11,8 @@ ghost use Rattle.board.specs.WellFormed.{runFits, leftFits, foundFits, l
 ghost use Rattle.measure.specs.Ranges.{bitsMost, settingsFit};
 ghost use Rattle.measure.specs.Refusals.{numberOf, placeOf};
 ghost use Rattle.measure.specs.Cells.{bitOf};
-ghost use Rattle.board.specs.Refusals.{begun, startTold, stepped, stepTold, listened, listenTold, refusing};
-ghost use Rattle.board.specs.Listening.{settings, keeping, Keeps, longer as longerRun, heardFrom, heardTold, soughtTold, Lands};
+ghost use Rattle.board.specs.Answers.{begun, startSays, stepped, steppedSays, listened, listenedSays, refusing};
+ghost use Rattle.board.specs.Listening.{settings, keeping, Keeps, longer as longerRun, heardFrom, heardSays, soughtSays, Lands};
 use measure::ENTRIES_MOST;
 use measure::HIGH;
 use measure::ReadCycles;
@@ -270,7 +270,7 @@ fn to_sample(reads: &[u8], from: usize, start: Numbers, q: usize) -> Sought
     ensures { λ x. ⌜ Lands from (length (now (reads .entry))) q x ⌝ }
     ensures { λ x. ⌜ ((any : Receiver) (k n : ℕ) (l : List ℕ) → length l ≡ start .found →
         heardFrom any (settings k n q) (counting (start .left) (start .level) (start .run) l) from (drop from (now (reads .entry)))
-        ≡ soughtTold any (settings k n q) (λ run read. collected (settings k n q) run read (l ++ bitOf (start .level) read ∷ [])) l (now (reads .entry)) x) ⌝ }
+        ≡ soughtSays any (settings k n q) (λ run read. collected (settings k n q) run read (l ++ bitOf (start .level) read ∷ [])) l (now (reads .entry)) x) ⌝ }
 {
     let level = start.level;
     let found = start.found;
@@ -307,7 +307,7 @@ fn to_mark(reads: &[u8], from: usize, start: Numbers, q: usize) -> Sought
     ensures { λ x. ⌜ Lands from (length (now (reads .entry))) q x ⌝ }
     ensures { λ x. ⌜ ((any : Receiver) (k n : ℕ) (l : List ℕ) → length l ≡ start .found →
         heardFrom any (settings k n q) (waiting (start .level) (start .run) l) from (drop from (now (reads .entry)))
-        ≡ soughtTold any (settings k n q) (λ run read. marked (settings k n q) (waiting (start .level) (start .run) l) run read) l (now (reads .entry)) x) ⌝ }
+        ≡ soughtSays any (settings k n q) (λ run read. marked (settings k n q) (waiting (start .level) (start .run) l) run read) l (now (reads .entry)) x) ⌝ }
 {
     let level = start.level;
     let found = start.found;
@@ -350,7 +350,7 @@ fn from_counting(
     requires { ⌜ (start .mode ≡ Mode.Counting) × (from ≤ length (now reads)) ⌝ }
     ensures { λ x. ⌜ ((any : Receiver) →
         heardFrom any (settings k n q) (stateOf (keeping (settings k n q) start (now (bits .entry)))) from (drop from (now (reads .entry)))
-        ≡ heardTold any (settings k n q) (length (now (reads .entry))) (now (bits .exit)) x) ⌝ }
+        ≡ heardSays any (settings k n q) (length (now (reads .entry))) (now (bits .exit)) x) ⌝ }
 {
     let mut i = from;
     let mut numbers = start;
@@ -410,7 +410,7 @@ fn from_waiting(
     requires { ⌜ start .mode ≡ Mode.Waiting ⌝ }
     ensures { λ x. ⌜ ((any : Receiver) →
         heardFrom any (settings k n q) (stateOf (keeping (settings k n q) start (now (bits .entry)))) 0 (now (reads .entry))
-        ≡ heardTold any (settings k n q) (length (now (reads .entry))) (now (bits .exit)) x) ⌝ }
+        ≡ heardSays any (settings k n q) (length (now (reads .entry))) (now (bits .exit)) x) ⌝ }
 {
     let marked = to_mark(reads, 0, start, q);
     match marked {
@@ -441,7 +441,7 @@ fn from_ready(
     requires { ⌜ (settingsFit k n q ≡ true) × (kept [] ≡ now bits) × (from ≤ length (now reads)) ⌝ }
     ensures { λ x. ⌜ ((any : Receiver) →
         heardFrom any (settings k n q) (ready q) from (drop from (now (reads .entry)))
-        ≡ heardTold any (settings k n q) (length (now (reads .entry))) (now (bits .exit)) x) ⌝ }
+        ≡ heardSays any (settings k n q) (length (now (reads .entry))) (now (bits .exit)) x) ⌝ }
 {
     let mut i = from;
     while i < reads.len() {
@@ -482,7 +482,7 @@ fn from_hunting(
     requires { ⌜ (settingsFit k n q ≡ true) × (kept [] ≡ now bits) × (run < q) ⌝ }
     ensures { λ x. ⌜ ((any : Receiver) →
         heardFrom any (settings k n q) (hunting run) 0 (now (reads .entry))
-        ≡ heardTold any (settings k n q) (length (now (reads .entry))) (now (bits .exit)) x) ⌝ }
+        ≡ heardSays any (settings k n q) (length (now (reads .entry))) (now (bits .exit)) x) ⌝ }
 {
     let mut i = 0;
     let mut high = run;
@@ -511,7 +511,7 @@ fn hear(reads: &[u8], bits: &mut [u8; 128], start: Numbers, k: usize, n: usize, 
     requires { ⌜ Keeps (settings k n q) start (now bits) ⌝ }
     ensures { λ x. ⌜ ((any : Receiver) →
         heardFrom any (settings k n q) (stateOf (keeping (settings k n q) start (now (bits .entry)))) 0 (now (reads .entry))
-        ≡ heardTold any (settings k n q) (length (now (reads .entry))) (now (bits .exit)) x) ⌝ }
+        ≡ heardSays any (settings k n q) (length (now (reads .entry))) (now (bits .exit)) x) ⌝ }
 {
     let mode = start.mode;
     let run = start.run;
@@ -525,7 +525,7 @@ fn hear(reads: &[u8], bits: &mut [u8; 128], start: Numbers, k: usize, n: usize, 
 
 // After a single read: the same without the number of reads used.
 fn of_one(listened: Listened) -> Stepped
-    ensures { λ x. ⌜ listenTold listened .0 ≡ stepTold x ⌝ }
+    ensures { λ x. ⌜ listenedSays listened .0 ≡ steppedSays x ⌝ }
 {
     let receiver = listened.receiver;
     let event = listened.event;
@@ -541,7 +541,7 @@ impl Receiver {
     // Gives a receiver that has read nothing yet. Refused with 1 where k, n or Q is out of range: the
     // receiver that comes back is then hunting with all numbers 0.
     pub fn fresh(k: ReadCycles, n: usize, q: ReadCycles) -> Started
-        ensures { λ x. ⌜ begun (k .0) n (q .0) ≡ (startTold (x .start), x .receiver) ⌝ }
+        ensures { λ x. ⌜ begun (k .0) n (q .0) ≡ (startSays (x .start), x .receiver) ⌝ }
     {
         if measure::settings_fit(k, n, q) {
             let receiver = idle(Mode::Hunting, 0, k.0, n, q.0);
@@ -554,7 +554,7 @@ impl Receiver {
         receiver.level = 0;
         Started {
             receiver: receiver,
-            start: Start::Refused(Refusal::Setting),
+            start: Start::Refused(Refusal::Setting(0)),
         }
     }
 
@@ -584,7 +584,7 @@ impl Receiver {
 
     // The receiver as it came, nothing done.
     fn refused(self, refusal: Refusal) -> Listened
-        ensures { λ x. ⌜ (refusing self (numberOf refusal) (placeOf refusal), 0) ≡ listenTold x ⌝ }
+        ensures { λ x. ⌜ (refusing self (numberOf refusal) (placeOf refusal), 0) ≡ listenedSays x ⌝ }
     {
         let zeros = none();
         Listened {
@@ -597,7 +597,7 @@ impl Receiver {
 
     // The answer to what was heard of so many reads, with the bits that it left.
     fn answer(self, heard: Heard, bits: [u8; 128], all: usize) -> Listened
-        ensures { λ x. ⌜ heardTold self (settingsOf self) all bits heard ≡ listenTold x ⌝ }
+        ensures { λ x. ⌜ heardSays self (settingsOf self) all bits heard ≡ listenedSays x ⌝ }
     {
         let k = self.k.0;
         let n = self.n;
@@ -652,7 +652,7 @@ impl Receiver {
     // read that is no level where no event comes before it. After a refusal the receiver is as it came, and no read is used.
     // Reads after the event are not looked at, so whoever goes on from there pays for each read once.
     pub fn listen(self, reads: &[u8]) -> Listened
-        ensures { λ x. ⌜ listened self (now (reads .entry)) ≡ listenTold x ⌝ }
+        ensures { λ x. ⌜ listened self (now (reads .entry)) ≡ listenedSays x ⌝ }
     {
         let k = self.k.0;
         let n = self.n;
@@ -660,7 +660,7 @@ impl Receiver {
         let start = self.numbers();
         let mut bits = self.bits;
         if !fits(start, &bits, k, n, q) {
-            return self.refused(Refusal::Setting);
+            return self.refused(Refusal::Setting(0));
         }
         if ENTRIES_MOST < reads.len() {
             return self.refused(Refusal::Limit);
@@ -675,7 +675,7 @@ impl Receiver {
     // It does not go by way of `listen`: with two callers `hear` stays a function of its own, and the rest of both is small
     // enough to be built into whoever calls them, which saves copies of the receiver.
     pub fn step(self, read: u8) -> Stepped
-        ensures { λ x. ⌜ stepped self read ≡ stepTold x ⌝ }
+        ensures { λ x. ⌜ stepped self read ≡ steppedSays x ⌝ }
     {
         let k = self.k.0;
         let n = self.n;
@@ -683,7 +683,7 @@ impl Receiver {
         let start = self.numbers();
         let mut bits = self.bits;
         if !fits(start, &bits, k, n, q) {
-            let refused = self.refused(Refusal::Setting);
+            let refused = self.refused(Refusal::Setting(0));
             return of_one(refused);
         }
         let reads = [read];

@@ -12,7 +12,7 @@ use Rattle.measure.specs.Choose.{choose}
 use Rattle.measure.specs.Refusals.{Answer, given, refused, refusedAfter}
 use Rattle.measure.specs.Lists.{onto}
 use Rattle.capture.specs.Capture.{Heading, Capture, then, runsFrom, withRuns, capture, readsOf}
-use Rattle.capture.specs.Refusals.{summary, summed, unrolled, readBack}
+use Rattle.capture.specs.Answers.{summary, summed, unrolled, readBack}
 use Rattle.capture.specs.declared.Summary.{Summary}
 use Rattle.capture.proofs.Headings.{then-given}
 use Rattle.measure.proofs.Laid.{laid-first}

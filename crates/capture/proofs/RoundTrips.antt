@@ -16,7 +16,7 @@ use Rattle.measure.specs.Refusals.{Answer, given, refused, refusedAfter}
 use Rattle.measure.proofs.Above.{above-none}
 use Rattle.capture.specs.Capture.{Capture, capture, readsOf}
 use Rattle.capture.specs.Writing.{runsOf, firstLevel, captureOf}
-use Rattle.capture.specs.Refusals.{summary, unrolled, readBack, written}
+use Rattle.capture.specs.Answers.{summary, unrolled, readBack, written}
 use Rattle.capture.specs.RoundTrips.{ReadsBack, WritesBack, WrittenReadsBack, ReadWritesBack}
 use Rattle.capture.specs.declared.Summary.{Summary}
 use Rattle.capture.proofs.Groups.{Bytes}

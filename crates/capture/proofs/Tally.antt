@@ -12,7 +12,7 @@ use Rattle.measure.specs.Choose.{choose}
 use Rattle.measure.specs.Refusals.{Answer, given, refused, refusedAfter}
 use Rattle.capture.specs.Numbers.{Numeral, numberAt}
 use Rattle.capture.specs.Capture.{Heading, then, joined, runsFrom, withRuns, totalMost, readsOf}
-use Rattle.capture.specs.Refusals.{summed}
+use Rattle.capture.specs.Answers.{summed}
 use Rattle.capture.specs.declared.Summary.{Summary}
 use Rattle.capture.proofs.Groups.{Bytes}
 use Rattle.capture.proofs.Runs.{sum, length-reads, runs-end, runs-one}

@@ -11,7 +11,7 @@ use Rattle.measure.specs.Lists.{firstAbove, onto}
 use Rattle.measure.specs.Refusals.{given, refused}
 use Rattle.capture.specs.Numbers.{further, bound, spelled}
 use Rattle.capture.specs.Writing.{firstLevel, runsOf, numbers, captureOf}
-use Rattle.capture.specs.Refusals.{written}
+use Rattle.capture.specs.Answers.{written}
 use Rattle.capture.proofs.Headings.{in-range}
 use Rattle.measure.proofs.Stores.{Stored, stored-none}
 

@@ -1,7 +1,7 @@
 pub mod Numbers
 pub mod Capture
 pub mod Writing
-pub mod Refusals
+pub mod Answers
 pub mod Held
 pub mod RoundTrips
 pub mod Cases

@@ -9,7 +9,7 @@ use Rattle.measure.specs.Lists.{someAbove, onto}
 use Rattle.measure.specs.Refusals.{given}
 use Rattle.capture.specs.Capture.{Capture, capture, readsOf}
 use Rattle.capture.specs.Writing.{runsOf, captureOf}
-use Rattle.capture.specs.Refusals.{readBack, written}
+use Rattle.capture.specs.Answers.{readBack, written}
 use Rattle.capture.specs.declared.Summary.{Summary}
 
 -- bytes are an accepted capture with these settings and these reads

@@ -4,7 +4,7 @@ use crate::Number;
 use crate::number_at;
 ghost use mathlib.Core.Path.{_≡_};
 ghost use Rattle.capture.specs.Numbers.{numberAt};
-ghost use Rattle.capture.specs.Refusals.{numberTold};
+ghost use Rattle.capture.specs.Answers.{numberSays};
 ghost use Rattle.capture.specs.Held.{advanced, begun, placeAfter};
 
 pub struct CaptureReader<'a> {
@@ -28,7 +28,7 @@ pub fn place<'a>(r: CaptureReader<'a>) -> usize
 
 // Gives the number at the reader's place and the place after it, or its refusal as it came.
 pub fn next<'a>(r: CaptureReader<'a>) -> Number
-    ensures { λ x. ⌜ numberAt (now (r .entry .src)) (r .entry .at) ≡ numberTold x ⌝ }
+    ensures { λ x. ⌜ numberAt (now (r .entry .src)) (r .entry .at) ≡ numberSays x ⌝ }
 {
     number_at(r.src, r.at)
 }

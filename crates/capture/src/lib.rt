@@ -28,7 +28,7 @@ ghost use Rattle.measure.specs.Refusals.{given};
 ghost use Rattle.capture.specs.Numbers.{before, bound, following, further, group, numberAt, spelled};
 ghost use Rattle.capture.specs.Capture.{fittingAt, header, heading, readsOf, runsFrom, then, withRuns};
 ghost use Rattle.capture.specs.Writing.{captureOf, firstLevel, numbers, runsOf};
-ghost use Rattle.capture.specs.Refusals.{checked, frontTold, headTold, headed, numberTold, readBack, summed, told, written, writtenTold};
+ghost use Rattle.capture.specs.Answers.{checked, frontSays, headSays, headed, numberSays, readBack, summed, checkedSays, written, writtenSays};
 
 // The weight of a byte's top bit: the seven bits below it are a group.
 const TOP_BIT: usize = 128;
@@ -107,7 +107,7 @@ fn wide(byte: u8) -> usize
 fn prefixed(byte: usize, rest: Front) -> Front
     requires { ⌜ (128 ≤ byte) × (byte < 256) ⌝ }
     requires { ⌜ ((v size : ℕ) → rest ≡ Front.Value v size → (v < bound further) × (size ≤ further)) ⌝ }
-    ensures { λ x. ⌜ before byte (frontTold rest) ≡ frontTold x ⌝ }
+    ensures { λ x. ⌜ before byte (frontSays rest) ≡ frontSays x ⌝ }
 {
     let Front::Value(v, size) = rest else {
         return rest;
@@ -122,7 +122,7 @@ fn prefixed(byte: usize, rest: Front) -> Front
 // A byte that follows another of its number, and at most `more` after it. A last byte of 0 is not the shortest form.
 fn following_at(bytes: &[u8], at: usize, more: usize) -> Front
     requires { ⌜ more < further ⌝ }
-    ensures { λ x. ⌜ following more (drop at (now (bytes .entry))) ≡ frontTold x ⌝ }
+    ensures { λ x. ⌜ following more (drop at (now (bytes .entry))) ≡ frontSays x ⌝ }
 {
     if bytes.len() <= at {
         return Front::Cut;
@@ -147,7 +147,7 @@ fn following_at(bytes: &[u8], at: usize, more: usize) -> Front
 
 // The number whose first byte stands at a place.
 fn front_at(bytes: &[u8], at: usize) -> Front
-    ensures { λ x. ⌜ group further (drop at (now (bytes .entry))) ≡ frontTold x ⌝ }
+    ensures { λ x. ⌜ group further (drop at (now (bytes .entry))) ≡ frontSays x ⌝ }
 {
     if bytes.len() <= at {
         return Front::Cut;
@@ -164,7 +164,7 @@ fn front_at(bytes: &[u8], at: usize) -> Front
 // The number at a place, which is not past the end, and the place after it. Refuses with 6 where the bytes end inside it or
 // before it, and with 7 where it is too long or not in shortest form; the refusal's place is the one asked for.
 fn number_at(bytes: &[u8], at: usize) -> Number
-    ensures { λ x. ⌜ numberAt (now (bytes .entry)) at ≡ numberTold x ⌝ }
+    ensures { λ x. ⌜ numberAt (now (bytes .entry)) at ≡ numberSays x ⌝ }
 {
     let front = front_at(bytes, at);
     match front {
@@ -179,7 +179,7 @@ fn number_at(bytes: &[u8], at: usize) -> Number
 
 // A number that has to lie from `least` to `most`: refusal 8 where it does not, and 6 or 7 before that.
 fn fitting_at(bytes: &[u8], at: usize, least: usize, most: usize) -> Number
-    ensures { λ x. ⌜ fittingAt (isBetween least most) (now (bytes .entry)) at ≡ numberTold x ⌝ }
+    ensures { λ x. ⌜ fittingAt (isBetween least most) (now (bytes .entry)) at ≡ numberSays x ⌝ }
 {
     let number = number_at(bytes, at);
     let Number::Is(v, _) = number else {
@@ -197,14 +197,14 @@ fn number_refusal(number: Number) -> Refusal
 {
     match number {
         Number::Refused(refusal) => refusal,
-        Number::Is(_, _) => Refusal::Setting,
+        Number::Is(_, _) => Refusal::Setting(0),
     }
 }
 
 // The first four numbers, with the level's place and the place after it. Refuses with 6 or 7 where one cannot be had and
 // with 8 where one is out of range, from the left.
 fn four_numbers(bytes: &[u8]) -> Head
-    ensures { λ x. ⌜ heading (now (bytes .entry)) ≡ headTold x ⌝ }
+    ensures { λ x. ⌜ heading (now (bytes .entry)) ≡ headSays x ⌝ }
 {
     let first = fitting_at(bytes, 0, SAMPLING_LEAST, SAMPLING_MOST);
     let Number::Is(k, n_at) = first else {
@@ -238,7 +238,7 @@ fn head_refusal(head: Head) -> Refusal
 {
     match head {
         Head::Refused(refusal) => refusal,
-        Head::Found(_) => Refusal::Setting,
+        Head::Found(_) => Refusal::Setting(0),
     }
 }
 
@@ -246,7 +246,7 @@ fn head_refusal(head: Head) -> Refusal
 // bytes, and then, from the left, with 6 or 7 where one cannot be had and with 8 where one is out of range, each at the
 // number's first byte.
 pub fn read_header(bytes: &[u8]) -> Head
-    ensures { λ x. ⌜ header (now (bytes .entry)) ≡ headTold x ⌝ }
+    ensures { λ x. ⌜ header (now (bytes .entry)) ≡ headSays x ⌝ }
 {
     if CAPTURE_MOST < bytes.len() {
         return Head::Refused(Refusal::Limit);
@@ -258,7 +258,7 @@ pub fn read_header(bytes: &[u8]) -> Head
 // be had, with 8 for a run of 0 and for the first with which the total is too large, and with 8 at the level's byte where
 // the first level is 0 and there is no run.
 fn check_runs(bytes: &[u8], head: Header) -> Checked
-    ensures { λ x. ⌜ summed (then (runsFrom 0 0 (head .after) (drop (head .after) (now (bytes .entry)))) (withRuns (headed head))) ≡ told x ⌝ }
+    ensures { λ x. ⌜ summed (then (runsFrom 0 0 (head .after) (drop (head .after) (now (bytes .entry)))) (withRuns (headed head))) ≡ checkedSays x ⌝ }
 {
     let k = head.k;
     let q = head.q;
@@ -299,7 +299,7 @@ fn check_runs(bytes: &[u8], head: Header) -> Checked
 // Tells whether bytes are a capture, and sums it up: its settings, and how many reads and runs it has. Refuses with 3 for
 // too many bytes, and then with the first of 6, 7 and 8 from the left.
 pub fn check(bytes: &[u8]) -> Checked
-    ensures { λ x. ⌜ checked (now (bytes .entry)) ≡ told x ⌝ }
+    ensures { λ x. ⌜ checked (now (bytes .entry)) ≡ checkedSays x ⌝ }
 {
     let head = read_header(bytes);
     let Head::Found(h) = head else {
@@ -346,7 +346,7 @@ fn unroll_into(bytes: &[u8], from: usize, level: u8, out: &mut [u8])
 // and last with 4 where the output is shorter than the reads. After a refusal the output is untouched, and after success
 // what lies beyond the reads.
 pub fn read_capture(bytes: &[u8], out: &mut [u8]) -> Checked
-    ensures { λ x. ⌜ readBack (now (bytes .entry)) (now (out .entry)) ≡ (told x, now (out .exit)) ⌝ }
+    ensures { λ x. ⌜ readBack (now (bytes .entry)) (now (out .entry)) ≡ (checkedSays x, now (out .exit)) ⌝ }
 {
     let head = read_header(bytes);
     let Head::Found(h) = head else {
@@ -495,12 +495,12 @@ pub fn write_capture(
     reads: &[u8],
     out: &mut [u8],
 ) -> Written
-    ensures { λ x. ⌜ written (k .0) n (q .0) (now (reads .entry)) (now (out .entry)) ≡ (writtenTold x, now (out .exit)) ⌝ }
+    ensures { λ x. ⌜ written (k .0) n (q .0) (now (reads .entry)) (now (out .entry)) ≡ (writtenSays x, now (out .exit)) ⌝ }
 {
     let sampling = k.0;
     let quiet = q.0;
     if !measure::settings_fit(k, n, q) {
-        return Written::Refused(Refusal::Setting);
+        return Written::Refused(Refusal::Setting(0));
     }
     if ENTRIES_MOST < reads.len() {
         return Written::Refused(Refusal::Limit);

@@ -3,7 +3,7 @@ use mathlib.Core.Path.{refl}
 use Rattle.measure.specs.Lists.{firstAbove}
 use Rattle.measure.specs.Table.{Agree}
 use Rattle.counted.specs.Counted.{fromMark, counted}
-use Rattle.counted.specs.Refusals.{countedBits}
+use Rattle.counted.specs.Answers.{countedBits}
 use Rattle.counted.specs.Cases.{cases}
 
 pub cases-hold : Agree cases

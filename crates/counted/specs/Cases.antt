@@ -3,7 +3,7 @@ use Prim.Native.Nat.{ℕ}
 use mathlib.Core.List.{List, [], _∷_}
 use Rattle.measure.specs.Refusals.{Answer, given, refusedAfter}
 use Rattle.measure.specs.Table.{Case}
-use Rattle.counted.specs.Refusals.{countedBits}
+use Rattle.counted.specs.Answers.{countedBits}
 
 -- the wave that P1 prints, taken as reads
 abbrev sent : List ℕ

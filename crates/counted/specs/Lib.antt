@@ -1,3 +1,3 @@
 pub mod Counted
-pub mod Refusals
+pub mod Answers
 pub mod Cases

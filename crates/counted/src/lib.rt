@@ -7,7 +7,7 @@ ghost use lib.ListN.{length, drop};
 ghost use Rattle.measure.specs.Ranges.{sampling, bitsMost};
 ghost use Rattle.measure.specs.Cells.{bitOf};
 ghost use Rattle.counted.specs.Counted.{fromMark, counted};
-ghost use Rattle.counted.specs.Refusals.{found, countedBits, told};
+ghost use Rattle.counted.specs.Answers.{found, countedBits, countedSays};
 use measure::BITS_MOST;
 use measure::ENTRIES_MOST;
 use measure::HIGH;
@@ -70,7 +70,7 @@ fn bit(mark: u8, sample: u8) -> u8
 // Finds n bits, or as many as there are, and writes them.
 fn count_into(k: ReadCycles, n: usize, level: u8, reads: &[u8], out: &mut [u8]) -> Counted
     requires { ⌜ n ≤ length (now out) ⌝ }
-    ensures { λ x. ⌜ found n (counted (k .0) n level (now (reads .entry))) (now (out .entry)) ≡ (told x, now (out .exit)) ⌝ }
+    ensures { λ x. ⌜ found n (counted (k .0) n level (now (reads .entry))) (now (out .entry)) ≡ (countedSays x, now (out .exit)) ⌝ }
 {
     let mut held = level;
     let mut current = 0;
@@ -90,13 +90,13 @@ fn count_into(k: ReadCycles, n: usize, level: u8, reads: &[u8], out: &mut [u8]) 
 }
 
 // The counted receiver. Gives the n bits of a message that starts with the level in force, each from its mark and the read k places later.
-// Refuses by 1 (k, n or level), 3 (more than 1,048,576 reads), 2 (the place of the first read that is no level), 4 (an output shorter than n), then 5.
+// Refuses with 1 (k, n or level), 3 (more than 1,048,576 reads), 2 (the place of the first read that is no level), 4 (an output shorter than n), then 5.
 // The output holds the bits found at its front, fewer than n with refusal 5, and is otherwise untouched; refusals 1 to 4 leave all of it.
 pub fn count_bits(k: ReadCycles, n: usize, level: u8, reads: &[u8], out: &mut [u8]) -> Counted
-    ensures { λ x. ⌜ countedBits (k .0) n level (now (reads .entry)) (now (out .entry)) ≡ (told x, now (out .exit)) ⌝ }
+    ensures { λ x. ⌜ countedBits (k .0) n level (now (reads .entry)) (now (out .entry)) ≡ (countedSays x, now (out .exit)) ⌝ }
 {
     if !in_range(k, n, level) {
-        return Counted::Refused(Refusal::Setting);
+        return Counted::Refused(Refusal::Setting(0));
     }
     if reads.len() > ENTRIES_MOST {
         return Counted::Refused(Refusal::Limit);

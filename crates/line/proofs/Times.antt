@@ -7,7 +7,7 @@ use native.Mathlib.Omega.{arith}
 use borrow.Author.Tests.{ltb-true, leb-true}
 use lib.Dec.{leb, ltb}
 use Rattle.measure.specs.Ranges.{cycleLength, entriesMost}
-use Rattle.line.specs.Refusals.{timed}
+use Rattle.line.specs.Answers.{timed}
 
 and-left : (a b : Bool) → (a && b) ≡ true → a ≡ true
 and-left true b h = refl

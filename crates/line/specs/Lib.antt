@@ -2,5 +2,5 @@ pub mod Smooth
 pub mod Warp
 pub mod Settle
 pub mod Sharing
-pub mod Refusals
+pub mod Answers
 pub mod Cases

@@ -11,7 +11,7 @@ ghost use Rattle.line.specs.Smooth.{smooth as smoothing};
 ghost use Rattle.line.specs.Warp.{cycleStart, reconcile as agree, look, dropped, warp as warping};
 ghost use Rattle.line.specs.Settle.{next as nextOf, settle as settling};
 ghost use Rattle.line.specs.Sharing.{readCount};
-ghost use Rattle.line.specs.Refusals.{smoothed, timed as isTimed, warped, settled, smoothTold, told};
+ghost use Rattle.line.specs.Answers.{smoothed, timed as isTimed, warped, settled, smoothedSays, readSays};
 use measure::CYCLE_LEAST;
 use measure::CYCLE_MOST;
 use measure::ENTRIES_MOST;
@@ -61,7 +61,7 @@ fn smooth_into(wave: &[u8], out: &mut [u8])
 // Refuses a wave over its limit (3), an entry that is no level (2, its place), and an output shorter than the wave (4).
 // The output's front holds the smoothed wave, and its rest is untouched; a refusal leaves it whole as it was.
 pub fn smooth(wave: &[u8], out: &mut [u8]) -> Smoothed
-    ensures { λ x. ⌜ smoothed (now (wave .entry)) (now (out .entry)) ≡ (smoothTold x, now (out .exit)) ⌝ }
+    ensures { λ x. ⌜ smoothed (now (wave .entry)) (now (out .entry)) ≡ (smoothedSays x, now (out .exit)) ⌝ }
 {
     if ENTRIES_MOST < wave.len() {
         return Smoothed::Refused(Refusal::Limit);
@@ -256,10 +256,10 @@ fn warp_into(wave: &[u8], w: TimeUnits, r: TimeUnits, p: TimeUnits, n: ReadCycle
 // level and not unknown (2, its place), and an output shorter than the reads (4).
 // The output's front holds the reads, and its rest is untouched; a refusal leaves it whole as it was.
 pub fn warp(wave: &[u8], w: TimeUnits, r: TimeUnits, p: TimeUnits, out: &mut [u8]) -> Read
-    ensures { λ x. ⌜ warped (w .0) (r .0) (p .0) (now (wave .entry)) (now (out .entry)) ≡ (told x, now (out .exit)) ⌝ }
+    ensures { λ x. ⌜ warped (w .0) (r .0) (p .0) (now (wave .entry)) (now (out .entry)) ≡ (readSays x, now (out .exit)) ⌝ }
 {
     if !timed(w, r, p) {
-        return Read::Refused(Refusal::Setting);
+        return Read::Refused(Refusal::Setting(0));
     }
     if ENTRIES_MOST < wave.len() {
         return Read::Refused(Refusal::Limit);
@@ -313,7 +313,7 @@ fn settle_into(reads: &[u8], choices: &[u8], out: &mut [u8])
 // in its own list), and an output shorter than the reads (4).
 // The output's front holds the settled reads, and its rest is untouched; a refusal leaves it whole as it was.
 pub fn settle(reads: &[u8], choices: &[u8], out: &mut [u8]) -> Read
-    ensures { λ x. ⌜ settled (now (reads .entry)) (now (choices .entry)) (now (out .entry)) ≡ (told x, now (out .exit)) ⌝ }
+    ensures { λ x. ⌜ settled (now (reads .entry)) (now (choices .entry)) (now (out .entry)) ≡ (readSays x, now (out .exit)) ⌝ }
 {
     if ENTRIES_MOST < reads.len() {
         return Read::Refused(Refusal::Limit);

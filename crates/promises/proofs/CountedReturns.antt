@@ -14,7 +14,7 @@ use Rattle.line.specs.Smooth.{smoothFrom}
 use Rattle.line.specs.Warp.{look, dropped, warpFrom, warp}
 use Rattle.line.specs.Settle.{settle}
 use Rattle.counted.specs.Counted.{fromMark, counted}
-use Rattle.counted.specs.Refusals.{countedBits}
+use Rattle.counted.specs.Answers.{countedBits}
 use Rattle.line.proofs.Entries.{AtMost}
 use Rattle.settings.proofs.Inequalities.{accepted-keeps, keeps-accepted}
 use Rattle.settings.specs.Margins.{accepted}

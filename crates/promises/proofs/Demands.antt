@@ -12,25 +12,25 @@ use Rattle.measure.specs.Choose.{choose, between}
 use Rattle.measure.specs.Ranges.{subcell, sampling, quiet, padMost, bitsMost, rowBits, rowsMost, entriesMost, captureMost, settingsFit}
 use Rattle.measure.specs.Lists.{firstAbove, someAbove, onto}
 use Rattle.measure.specs.Refusals.{Answer, given, refused, refusedAfter, ranged, limited, entered, lent}
-use Rattle.settings.specs.Refusals.{inRange, judgement, quietJudgement}
+use Rattle.settings.specs.Answers.{inRange, judgement, quietJudgement}
 use Rattle.sender.specs.Sending.{Row, wave, planWave, rowsOf}
-use Rattle.sender.specs.Refusals.{sentMessage, sentPlan, fitting, padded}
+use Rattle.sender.specs.Answers.{sentMessage, sentPlan, fitting, padded}
 use Rattle.line.specs.Smooth.{smooth as smoothing}
 use Rattle.line.specs.Warp.{warp as warping}
 use Rattle.line.specs.Settle.{settle as settling}
-use Rattle.line.specs.Refusals.{smoothed, warped, settled, timed}
+use Rattle.line.specs.Answers.{smoothed, warped, settled, timed}
 use Rattle.counted.specs.Counted.{counted}
-use Rattle.counted.specs.Refusals.{found, countedBits}
+use Rattle.counted.specs.Answers.{found, countedBits}
 use Rattle.board.specs.declared.Receiver.{Receiver}
 use Rattle.board.specs.Rows.{nothing, fresh, next}
 use Rattle.board.specs.Feeding.{Report, reports, firstEvent}
 use Rattle.board.specs.Packed.{settingsOf, stateOf}
 use Rattle.board.specs.WellFormed.{wellFormed}
-use Rattle.board.specs.Refusals.{Outcome, reached, refusing, begun, stepped, levelsOf, silent, toEvent, listened}
+use Rattle.board.specs.Answers.{Outcome, reached, refusing, begun, stepped, levelsOf, silent, toEvent, listened}
 use Rattle.capture.specs.Numbers.{Group, value, cut, long, group, further, Numeral, placed, numberAt}
 use Rattle.capture.specs.Capture.{then, passing, fittingAt, Heading, heading, header, joined, run, runsFrom, Capture, withRuns, capture, readsOf as unrolledReads, totalMost}
 use Rattle.capture.specs.Writing.{captureOf}
-use Rattle.capture.specs.Refusals.{summary, unrolled, checked, readBack, written}
+use Rattle.capture.specs.Answers.{summary, unrolled, checked, readBack, written}
 use Rattle.capture.proofs.RoundTrips.{written-read-back, read-written-back}
 use Rattle.promises.specs.Levels.{Levels}
 use Rattle.promises.specs.Places.{Link, readsOf, cyclesOf, heard}

@@ -8,7 +8,7 @@ use native.Mathlib.Omega.{arith}
 use lib.Dec.{ltb}
 use lib.ListN.{length, getD}
 use borrow.Author.Tests.{lt-ltb, le-ltb}
-use Rattle.board.specs.Rows.{State, Happening, nothing, row, broken, next}
+use Rattle.board.specs.Rows.{State, Event, nothing, row, broken, next}
 use Rattle.board.specs.Feeding.{Report, noted, Step, afterBy, reportsBy}
 use Rattle.board.proofs.FeedingLaws.{reports-append}
 use Rattle.promises.specs.Places.{keep}
@@ -42,7 +42,7 @@ module _ (step : Step) where
       rest : List Report
       rest = reportsBy step (step s x .state) (suc place) xs
 
-      go : (e : Happening) → reportsAt test rest ≡ rest → reportsAt test (noted place e rest) ≡ noted place e rest
+      go : (e : Event) → reportsAt test rest ≡ rest → reportsAt test (noted place e rest) ≡ noted place e rest
       go nothing p = p
       go (row bits) p = rw (f place (omega arith) (omega arith)) (ap (λ (l : List Report). record { place = place; event = row bits } ∷ l) p)
       go (broken found) p = rw (f place (omega arith) (omega arith)) (ap (λ (l : List Report). record { place = place; event = broken found } ∷ l) p)
@@ -57,7 +57,7 @@ module _ (step : Step) where
       rest : List Report
       rest = reportsBy step (step s x .state) (suc place) xs
 
-      go : (e : Happening) → reportsAt test rest ≡ [] → reportsAt test (noted place e rest) ≡ []
+      go : (e : Event) → reportsAt test rest ≡ [] → reportsAt test (noted place e rest) ≡ []
       go nothing p = p
       go (row bits) p = rw (f place (omega arith) (omega arith)) p
       go (broken found) p = rw (f place (omega arith) (omega arith)) p
@@ -101,7 +101,7 @@ module _ (step : Step) where
       then-rest : List Report
       then-rest = reportsBy step (step s x .state) (suc (movedTo i j junk place)) xs
 
-      go : (e : Happening) → moved i j junk rest ≡ then-rest → moved i j junk (noted place e rest) ≡ noted (movedTo i j junk place) e then-rest
+      go : (e : Event) → moved i j junk rest ≡ then-rest → moved i j junk (noted place e rest) ≡ noted (movedTo i j junk place) e then-rest
       go nothing p = p
       go (row bits) p = ap (λ (l : List Report). record { place = movedTo i j junk place; event = row bits } ∷ l) p
       go (broken found) p = ap (λ (l : List Report). record { place = movedTo i j junk place; event = broken found } ∷ l) p

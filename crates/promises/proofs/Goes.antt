@@ -5,7 +5,7 @@ use Prim.Native.Nat.{ℕ, zero, suc, _+_, _-_, _≤_, _<_}
 use native.Mathlib.Nat.{add-zero, add-suc, suc-add}
 use native.Mathlib.Decide.{decLe}
 use native.Mathlib.Omega.{arith}
-use Rattle.board.specs.Rows.{State, Happening, Moved, runAfter, hunting, ready, counting, waiting, next, quietened}
+use Rattle.board.specs.Rows.{State, Event, Moved, runAfter, hunting, ready, counting, waiting, next, quietened}
 use Rattle.board.specs.Feeding.{Report, noted}
 use Rattle.board.proofs.FeedingLaws.{noted-append}
 use Rattle.promises.proofs.Steps.{rules, run-most, full-step, hunts, stays-ready, counts-on, waits-on, adds}
@@ -14,7 +14,7 @@ module _ (k n Q : ℕ) (D : ℕ → ℕ) where
   -- From the state s before read j the receiver goes to the state t before read i, and reports es on the way.
   pub data Goes : ℕ → State → List Report → ℕ → State → Type 0 where
     here : {j : ℕ} {s : State} → Goes j s [] j s
-    then : {j i : ℕ} {s t u : State} {e : Happening} {es : List Report} → next (rules k n Q) s (D j) ≡ record { state = t; event = e } → Goes (suc j) t es i u
+    then : {j i : ℕ} {s t u : State} {e : Event} {es : List Report} → next (rules k n Q) s (D j) ≡ record { state = t; event = e } → Goes (suc j) t es i u
         → Goes j s (noted j e es) i u
 
   pub join : {j i h : ℕ} {s t u : State} {es fs : List Report} → Goes j s es i t → Goes i t fs h u → Goes j s (es ++ fs) h u
@@ -40,7 +40,7 @@ module _ (k n Q : ℕ) (D : ℕ → ℕ) where
       go (x, y) = (ap (λ (l : List Report). noted j d l) x ∙ ap (λ (m : Moved). noted j (m .event) fs) same, y)
 
   -- a step where read j is x
-  pub step : {j i x : ℕ} {s t u : State} {e : Happening} {es : List Report} → D j ≡ x → next (rules k n Q) s x ≡ record { state = t; event = e } → Goes (suc j) t es i u
+  pub step : {j i x : ℕ} {s t u : State} {e : Event} {es : List Report} → D j ≡ x → next (rules k n Q) s x ≡ record { state = t; event = e } → Goes (suc j) t es i u
       → Goes j s (noted j e es) i u
   step {j} {i} {x} {s} {t} {u} {e} {es} is p f = then (ap (λ (y : ℕ). next (rules k n Q) s y) is ∙ p) f
 

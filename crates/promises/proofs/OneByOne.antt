@@ -9,7 +9,7 @@ use Rattle.measure.specs.Ranges.{settingsFit}
 use Rattle.board.specs.Rows.{Settings, State, fresh, next}
 use Rattle.board.specs.Feeding.{reports, reportsBy}
 use Rattle.board.specs.Packed.{receiverOf}
-use Rattle.board.specs.Refusals.{reached, begun, stepped}
+use Rattle.board.specs.Answers.{reached, begun, stepped}
 use Rattle.board.proofs.RowRules.{Valid, valid-fresh, valid-next}
 use Rattle.board.proofs.Standing.{ranged-of, state-of-receiver, well-formed-of}
 use Rattle.promises.specs.Levels.{Levels}

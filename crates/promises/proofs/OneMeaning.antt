@@ -13,27 +13,27 @@ use Rattle.settings.specs.declared.Judged.{Judged}
 use Rattle.settings.specs.declared.Judged.the-variants as J
 use Rattle.settings.specs.declared.QuietJudged.{QuietJudged}
 use Rattle.settings.specs.declared.QuietJudged.the-variants as Q
-use Rattle.settings.specs.Refusals.{Judgement, QuietJudgement, judgement, quietJudgement, told as judgeTold, quietTold}
+use Rattle.settings.specs.Answers.{Judgement, QuietJudgement, judgement, quietJudgement, judgedSays, quietJudgedSays}
 use Rattle.sender.specs.declared.Sent.{Sent}
 use Rattle.sender.specs.declared.Sent.the-variants as S
-use Rattle.sender.specs.Refusals.{sentMessage, sentPlan, told as sendTold}
+use Rattle.sender.specs.Answers.{sentMessage, sentPlan, sentSays}
 use Rattle.line.specs.declared.Smoothed.{Smoothed}
 use Rattle.line.specs.declared.Smoothed.the-variants as M
 use Rattle.line.specs.declared.Read.{Read}
 use Rattle.line.specs.declared.Read.the-variants as R
-use Rattle.line.specs.Refusals.{smoothed, warped, settled, smoothTold, told as readTold}
+use Rattle.line.specs.Answers.{smoothed, warped, settled, smoothedSays, readSays}
 use Rattle.counted.specs.declared.Counted.{Counted}
 use Rattle.counted.specs.declared.Counted.the-variants as C
-use Rattle.counted.specs.Refusals.{countedBits, told as countTold}
-use Rattle.board.specs.Rows.{Happening, nothing, row, broken}
-use Rattle.board.specs.declared.Event.{Event}
+use Rattle.counted.specs.Answers.{countedBits, countedSays}
+use Rattle.board.specs.Rows.{Event, nothing, row, broken}
+use Rattle.board.specs.declared.Event.{Event as CodeEvent}
 use Rattle.board.specs.declared.Event.the-variants as E
 use Rattle.board.specs.declared.Start.{Start}
 use Rattle.board.specs.declared.Start.the-variants as F
 use Rattle.board.specs.declared.Stepped.{Stepped}
 use Rattle.board.specs.declared.Listened.{Listened}
 use Rattle.board.specs.Packed.{unpacked}
-use Rattle.board.specs.Refusals.{Outcome, told as eventTold, begun, startTold, stepped, stepTold, listened, listenTold}
+use Rattle.board.specs.Answers.{Outcome, eventSays, begun, startSays, stepped, steppedSays, listened, listenedSays}
 use Rattle.capture.specs.Numbers.{Numeral, numberAt}
 use Rattle.capture.specs.Capture.{Heading, header}
 use Rattle.capture.specs.declared.Number.{Number}
@@ -45,11 +45,11 @@ use Rattle.capture.specs.declared.Checked.{Checked}
 use Rattle.capture.specs.declared.Checked.the-variants as K
 use Rattle.capture.specs.declared.Written.{Written}
 use Rattle.capture.specs.declared.Written.the-variants as W
-use Rattle.capture.specs.Refusals.{numberTold, headTold, checked, readBack, told as captureTold, written, writtenTold}
-use Rattle.lines.specs.declared.Put.{Put}
-use Rattle.lines.specs.declared.Put.the-variants as P
-use Rattle.lines.specs.Lines.{headingLine, eventLine, endLine, refusedLine}
-use Rattle.lines.specs.Refusals.{told as putTold}
+use Rattle.capture.specs.Answers.{numberSays, headSays, checked, readBack, checkedSays, written, writtenSays}
+use Rattle.page.specs.declared.Put.{Put}
+use Rattle.page.specs.declared.Put.the-variants as P
+use Rattle.page.specs.Lines.{headingLine, eventLine, endLine, refusedLine}
+use Rattle.page.specs.Answers.{putSays}
 use Rattle.promises.specs.OneMeaning.{One, Only, OneLeft, OneMeaning}
 
 -- the one lemma: where the answer can be had back from what it tells, two answers that tell the same are equal
@@ -68,7 +68,7 @@ only x y this other = this ∙ sym other
 -- a refusal from its number and place
 refusal : ℕ → ℕ → Refusal
 refusal number place =
-    choose (eqb number 1) Setting
+    choose (eqb number 1) (Setting place)
     (choose (eqb number 2) (Entry place)
     (choose (eqb number 3) Limit
     (choose (eqb number 4) Room
@@ -78,7 +78,7 @@ refusal number place =
 
 refusal-back : (f : Refusal) → refusal (numberOf f) (placeOf f) ≡ f
 unfolding refusal
-refusal-back Setting = refl
+refusal-back (Setting at) = refl
 refusal-back (Entry at) = refl
 refusal-back Limit = refl
 refusal-back Room = refl
@@ -95,7 +95,7 @@ answer result denied after (refusedAfter number place count) = after count
 -- where none says how much was found, the case of refusal 1 stands in
 plain : {A X : Type 0} → (A → X) → (Refusal → X) → Answer A → X
 unfolding answer
-plain result denied = answer result denied (λ count. denied Setting)
+plain result denied = answer result denied (λ count. denied (Setting 0))
 
 judged : Judgement → Judged
 judged j = choose (j .accepts) (J.Yes (j .margins)) (J.No (j .margins))
@@ -103,12 +103,12 @@ judged j = choose (j .accepts) (J.Yes (j .margins)) (J.No (j .margins))
 quiet-judged : QuietJudgement → QuietJudged
 quiet-judged j = choose (j .accepts) (Q.Yes (j .margins)) (Q.No (j .margins))
 
-event : Happening → Event
+event : Event → CodeEvent
 event nothing = E.Nothing
 event (row bits) = E.Row
 event (broken found) = E.Broken found
 
-event-back : (n : ℕ) (bytes : List ℕ) (e : Event) → plain event E.Refused (eventTold n bytes e) ≡ e
+event-back : (n : ℕ) (bytes : List ℕ) (e : CodeEvent) → plain event E.Refused (eventSays n bytes e) ≡ e
 unfolding plain answer event
 event-back n bytes E.Nothing = refl
 event-back n bytes E.Row = refl
@@ -126,22 +126,22 @@ listen-of (o, used) = record { receiver = o .receiver; event = plain event E.Ref
 pub one-meaning : OneMeaning
 unfolding plain answer judged quiet-judged step-of listen-of
 one-meaning = record {
-  judge = λ a b k w r. one judgeTold (plain judged J.Refused) judge-back (judgement a b k w r);
-  judge-quiet = λ a b k w r q p1. one quietTold (plain quiet-judged Q.Refused) quiet-back (quietJudgement a b k w r q p1);
+  judge = λ a b k w r. one judgedSays (plain judged J.Refused) judge-back (judgement a b k w r);
+  judge-quiet = λ a b k w r q p1. one quietJudgedSays (plain quiet-judged Q.Refused) quiet-back (quietJudgement a b k w r q p1);
   send = λ a b p1 p2 bits output. sent (sentMessage a b p1 p2 bits output);
   send-plan = λ a b n leads trails bits output. sent (sentPlan a b n leads trails bits output);
-  smooth = λ wave output. one-left smoothTold (plain (λ n. M.Wave (record { 0 = n })) M.Refused) smooth-back (smoothed wave output);
+  smooth = λ wave output. one-left smoothedSays (plain (λ n. M.Wave (record { 0 = n })) M.Refused) smooth-back (smoothed wave output);
   warp = λ w r p wave output. read (warped w r p wave output);
   settle = λ reads choices output. read (settled reads choices output);
-  count-bits = λ k n level reads output. one-left countTold (answer C.Bits C.Refused C.RanOut) count-back (countedBits k n level reads output);
-  fresh = λ k n Q. one-left startTold (plain (λ e. F.Fresh) F.Refused) start-back (begun k n Q);
-  step = λ receiver read. one stepTold step-of step-back (stepped receiver read);
-  listen = λ receiver reads. one listenTold listen-of listen-back (listened receiver reads);
-  next = λ bytes at. one numberTold (plain (λ n. N.Is (n .value) (n .after)) N.Refused) number-back (numberAt bytes at);
-  read-header = λ bytes. one headTold (plain head H.Refused) head-back (header bytes);
-  check = λ bytes. one captureTold (plain K.Capture K.Refused) capture-back (checked bytes);
-  read-capture = λ bytes output. one-left captureTold (plain K.Capture K.Refused) capture-back (readBack bytes output);
-  write-capture = λ k n Q reads output. one-left writtenTold (plain W.Bytes W.Refused) written-back (written k n Q reads output);
+  count-bits = λ k n level reads output. one-left countedSays (answer C.Bits C.Refused C.RanOut) count-back (countedBits k n level reads output);
+  fresh = λ k n Q. one-left startSays (plain (λ e. F.Fresh) F.Refused) start-back (begun k n Q);
+  step = λ receiver read. one steppedSays step-of step-back (stepped receiver read);
+  listen = λ receiver reads. one listenedSays listen-of listen-back (listened receiver reads);
+  next = λ bytes at. one numberSays (plain (λ n. N.Is (n .value) (n .after)) N.Refused) number-back (numberAt bytes at);
+  read-header = λ bytes. one headSays (plain head H.Refused) head-back (header bytes);
+  check = λ bytes. one checkedSays (plain K.Capture K.Refused) capture-back (checked bytes);
+  read-capture = λ bytes output. one-left checkedSays (plain K.Capture K.Refused) capture-back (readBack bytes output);
+  write-capture = λ k n Q reads output. one-left writtenSays (plain W.Bytes W.Refused) written-back (written k n Q reads output);
   put-heading = λ output. line (lent headingLine output);
   put-row = λ place n bits output. line (lent (eventLine place (row (take n (unpacked 8 bits)))) output);
   put-broken = λ place found output. line (lent (eventLine place (broken found)) output);
@@ -159,71 +159,71 @@ one-meaning = record {
   entry-points = λ defined. only;
 }
   where
-    judge-back : (x : Judged) → plain judged J.Refused (judgeTold x) ≡ x
+    judge-back : (x : Judged) → plain judged J.Refused (judgedSays x) ≡ x
     judge-back (J.Yes m) = refl
     judge-back (J.No m) = refl
     judge-back (J.Refused f) = ap J.Refused (refusal-back f)
 
-    quiet-back : (x : QuietJudged) → plain quiet-judged Q.Refused (quietTold x) ≡ x
+    quiet-back : (x : QuietJudged) → plain quiet-judged Q.Refused (quietJudgedSays x) ≡ x
     quiet-back (Q.Yes m) = refl
     quiet-back (Q.No m) = refl
     quiet-back (Q.Refused f) = ap Q.Refused (refusal-back f)
 
-    send-back : (x : Sent) → plain (λ n. S.Wave (record { 0 = n })) S.Refused (sendTold x) ≡ x
+    send-back : (x : Sent) → plain (λ n. S.Wave (record { 0 = n })) S.Refused (sentSays x) ≡ x
     send-back (S.Wave cycles) = refl
     send-back (S.Refused f) = ap S.Refused (refusal-back f)
 
-    sent : (defined : Answer ℕ × List ℕ) → OneLeft sendTold defined
-    sent = one-left sendTold (plain (λ n. S.Wave (record { 0 = n })) S.Refused) send-back
+    sent : (defined : Answer ℕ × List ℕ) → OneLeft sentSays defined
+    sent = one-left sentSays (plain (λ n. S.Wave (record { 0 = n })) S.Refused) send-back
 
-    smooth-back : (x : Smoothed) → plain (λ n. M.Wave (record { 0 = n })) M.Refused (smoothTold x) ≡ x
+    smooth-back : (x : Smoothed) → plain (λ n. M.Wave (record { 0 = n })) M.Refused (smoothedSays x) ≡ x
     smooth-back (M.Wave cycles) = refl
     smooth-back (M.Refused f) = ap M.Refused (refusal-back f)
 
-    read-back : (x : Read) → plain (λ n. R.Reads (record { 0 = n })) R.Refused (readTold x) ≡ x
+    read-back : (x : Read) → plain (λ n. R.Reads (record { 0 = n })) R.Refused (readSays x) ≡ x
     read-back (R.Reads reads) = refl
     read-back (R.Refused f) = ap R.Refused (refusal-back f)
 
-    read : (defined : Answer ℕ × List ℕ) → OneLeft readTold defined
-    read = one-left readTold (plain (λ n. R.Reads (record { 0 = n })) R.Refused) read-back
+    read : (defined : Answer ℕ × List ℕ) → OneLeft readSays defined
+    read = one-left readSays (plain (λ n. R.Reads (record { 0 = n })) R.Refused) read-back
 
-    count-back : (x : Counted) → answer C.Bits C.Refused C.RanOut (countTold x) ≡ x
+    count-back : (x : Counted) → answer C.Bits C.Refused C.RanOut (countedSays x) ≡ x
     count-back (C.Bits n) = refl
     count-back (C.RanOut n) = refl
     count-back (C.Refused f) = ap C.Refused (refusal-back f)
 
-    start-back : (x : Start) → plain (λ e. F.Fresh) F.Refused (startTold x) ≡ x
+    start-back : (x : Start) → plain (λ e. F.Fresh) F.Refused (startSays x) ≡ x
     start-back F.Fresh = refl
     start-back (F.Refused f) = ap F.Refused (refusal-back f)
 
-    step-back : (x : Stepped) → step-of (stepTold x) ≡ x
-    step-back x = ap (λ (e : Event). record { receiver = x .receiver; event = e; row = x .row }) (event-back (x .receiver .n) (x .row) (x .event))
+    step-back : (x : Stepped) → step-of (steppedSays x) ≡ x
+    step-back x = ap (λ (e : CodeEvent). record { receiver = x .receiver; event = e; row = x .row }) (event-back (x .receiver .n) (x .row) (x .event))
 
-    listen-back : (x : Listened) → listen-of (listenTold x) ≡ x
-    listen-back x = ap (λ (e : Event). record { receiver = x .receiver; event = e; row = x .row; used = x .used }) (event-back (x .receiver .n) (x .row) (x .event))
+    listen-back : (x : Listened) → listen-of (listenedSays x) ≡ x
+    listen-back x = ap (λ (e : CodeEvent). record { receiver = x .receiver; event = e; row = x .row; used = x .used }) (event-back (x .receiver .n) (x .row) (x .event))
 
-    number-back : (x : Number) → plain (λ n. N.Is (n .value) (n .after)) N.Refused (numberTold x) ≡ x
+    number-back : (x : Number) → plain (λ n. N.Is (n .value) (n .after)) N.Refused (numberSays x) ≡ x
     number-back (N.Is v after) = refl
     number-back (N.Refused f) = ap N.Refused (refusal-back f)
 
     head : Heading → Head
     head h = H.Found (record { k = record { 0 = h .k }; n = h .n; q = record { 0 = h .Q }; level = h .level; «level_at» = h .level-at; after = h .after })
 
-    head-back : (x : Head) → plain head H.Refused (headTold x) ≡ x
+    head-back : (x : Head) → plain head H.Refused (headSays x) ≡ x
     head-back (H.Found h) = refl
     head-back (H.Refused f) = ap H.Refused (refusal-back f)
 
-    capture-back : (x : Checked) → plain K.Capture K.Refused (captureTold x) ≡ x
+    capture-back : (x : Checked) → plain K.Capture K.Refused (checkedSays x) ≡ x
     capture-back (K.Capture s) = refl
     capture-back (K.Refused f) = ap K.Refused (refusal-back f)
 
-    written-back : (x : Written) → plain W.Bytes W.Refused (writtenTold x) ≡ x
+    written-back : (x : Written) → plain W.Bytes W.Refused (writtenSays x) ≡ x
     written-back (W.Bytes n) = refl
     written-back (W.Refused f) = ap W.Refused (refusal-back f)
 
-    put-back : (x : Put) → plain P.Line P.Refused (putTold x) ≡ x
+    put-back : (x : Put) → plain P.Line P.Refused (putSays x) ≡ x
     put-back (P.Line n) = refl
     put-back (P.Refused f) = ap P.Refused (refusal-back f)
 
-    line : (defined : Answer ℕ × List ℕ) → OneLeft putTold defined
-    line = one-left putTold (plain P.Line P.Refused) put-back
+    line : (defined : Answer ℕ × List ℕ) → OneLeft putSays defined
+    line = one-left putSays (plain P.Line P.Refused) put-back

@@ -15,8 +15,8 @@ use Rattle.sender.specs.Sending.{wave, planWave, rowsOf}
 use Rattle.line.specs.Smooth.{smooth}
 use Rattle.line.specs.Warp.{warp}
 use Rattle.line.specs.Settle.{settle}
-use Rattle.sender.specs.Refusals.{sentMessage, sentPlan, fitting, padded}
-use Rattle.line.specs.Refusals.{smoothed, warped, settled, timed}
+use Rattle.sender.specs.Answers.{sentMessage, sentPlan, fitting, padded}
+use Rattle.line.specs.Answers.{smoothed, warped, settled, timed}
 use Rattle.promises.specs.Operations.{Leaves, OperationsLeave}
 
 -- a refusal gives nothing

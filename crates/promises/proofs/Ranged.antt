@@ -6,7 +6,7 @@ use lib.Dec.{leb}
 use borrow.Author.Tests.{leb-true}
 use Rattle.measure.specs.Choose.{between}
 use Rattle.measure.specs.Ranges.{subcell, sampling, cycleLength}
-use Rattle.settings.specs.Refusals.{inRange}
+use Rattle.settings.specs.Answers.{inRange}
 use Rattle.measure.proofs.Both.{both, both-3}
 
 between-true : (least most x : ℕ) → between least most x ≡ true → (least ≤ x) × (x ≤ most)

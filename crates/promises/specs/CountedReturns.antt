@@ -14,7 +14,7 @@ use Rattle.line.specs.Smooth.{smooth}
 use Rattle.line.specs.Warp.{warp}
 use Rattle.line.specs.Settle.{settle}
 use Rattle.counted.specs.Counted.{counted}
-use Rattle.counted.specs.Refusals.{countedBits}
+use Rattle.counted.specs.Answers.{countedBits}
 use Rattle.promises.specs.Levels.{Levels}
 
 -- the reads of a message that is sent and goes over the line

@@ -9,17 +9,17 @@ use lib.ListN.{length, take}
 use Rattle.measure.specs.Choose.{choose}
 use Rattle.measure.specs.Ranges.{settingsFit}
 use Rattle.measure.specs.Refusals.{Answer, given, refused, refusedAfter, lent}
-use Rattle.settings.specs.Refusals.{judgement, quietJudgement}
+use Rattle.settings.specs.Answers.{judgement, quietJudgement}
 use Rattle.sender.specs.Sending.{Row}
-use Rattle.sender.specs.Refusals.{sentMessage, sentPlan}
-use Rattle.line.specs.Refusals.{smoothed, warped, settled}
+use Rattle.sender.specs.Answers.{sentMessage, sentPlan}
+use Rattle.line.specs.Answers.{smoothed, warped, settled}
 use Rattle.counted.specs.Counted.{counted}
-use Rattle.counted.specs.Refusals.{countedBits}
+use Rattle.counted.specs.Answers.{countedBits}
 use Rattle.board.specs.declared.Receiver.{Receiver}
 use Rattle.board.specs.Feeding.{Report}
-use Rattle.board.specs.Refusals.{Outcome, begun, stepped, listened}
+use Rattle.board.specs.Answers.{Outcome, begun, stepped, listened}
 use Rattle.capture.specs.Capture.{header}
-use Rattle.capture.specs.Refusals.{checked, readBack, written}
+use Rattle.capture.specs.Answers.{checked, readBack, written}
 use Rattle.capture.specs.RoundTrips.{WrittenReadsBack, ReadWritesBack}
 use Rattle.promises.specs.Levels.{Levels}
 use Rattle.promises.specs.Places.{Link, readsOf, cyclesOf, heard, deliveries}

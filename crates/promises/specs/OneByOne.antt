@@ -5,26 +5,26 @@ use mathlib.Core.Bool.{true}
 use mathlib.Core.List.{List, [], _∷_}
 use Rattle.measure.specs.Refusals.{Answer, given, refused, refusedAfter}
 use Rattle.measure.specs.Ranges.{settingsFit}
-use Rattle.board.specs.Rows.{Happening, fresh}
+use Rattle.board.specs.Rows.{Event, fresh}
 use Rattle.board.specs.Feeding.{Report, noted, reports}
-use Rattle.board.specs.Refusals.{begun, stepped}
+use Rattle.board.specs.Answers.{begun, stepped}
 use Rattle.board.specs.declared.Receiver.{Receiver}
 use Rattle.promises.specs.Levels.{Levels}
 
 -- the answers of one call a read, each with the receiver that the call before handed back
-unfoldable pub answers : Receiver → List ℕ → List (Answer Happening)
+unfoldable pub answers : Receiver → List ℕ → List (Answer Event)
 answers x [] = []
 answers x (read ∷ reads) = stepped x read .answer ∷ answers (stepped x read .receiver) reads
 
 -- none is a refusal
-abbrev pub AllGiven : List (Answer Happening) → Type 0
+abbrev pub AllGiven : List (Answer Event) → Type 0
 AllGiven [] = Unit {0}
 AllGiven (given event ∷ more) = AllGiven more
 AllGiven (refused number place ∷ more) = ⊥
 AllGiven (refusedAfter number place found ∷ more) = ⊥
 
 -- what they report, where the first is the answer to the read at this place
-unfoldable pub reported : ℕ → List (Answer Happening) → List Report
+unfoldable pub reported : ℕ → List (Answer Event) → List Report
 reported place [] = []
 reported place (given event ∷ more) = noted place event (reported (suc place) more)
 reported place (refused number at ∷ more) = reported (suc place) more

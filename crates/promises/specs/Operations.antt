@@ -6,11 +6,11 @@ use mathlib.Core.List.{List}
 use lib.ListN.{take}
 use Rattle.measure.specs.Refusals.{Answer, given}
 use Rattle.sender.specs.Sending.{wave, planWave, rowsOf}
-use Rattle.sender.specs.Refusals.{sentMessage, sentPlan}
+use Rattle.sender.specs.Answers.{sentMessage, sentPlan}
 use Rattle.line.specs.Smooth.{smooth}
 use Rattle.line.specs.Warp.{warp}
 use Rattle.line.specs.Settle.{settle}
-use Rattle.line.specs.Refusals.{smoothed, warped, settled}
+use Rattle.line.specs.Answers.{smoothed, warped, settled}
 
 -- an outcome that gives so many entries leaves this list at the output's front
 abbrev pub Leaves : Answer ℕ × List ℕ → List ℕ → Type 0

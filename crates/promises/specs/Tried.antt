@@ -4,7 +4,7 @@ use mathlib.Core.Path.{_≡_}
 use mathlib.Core.List.{List, [], _∷_, _++_}
 use lib.ListN.{replicate}
 use Rattle.sender.specs.Sending.{Row}
-use Rattle.board.specs.Rows.{Happening, row, broken, fresh, next}
+use Rattle.board.specs.Rows.{Event, row, broken, fresh, next}
 use Rattle.board.specs.Feeding.{Report, reportsBy}
 use Rattle.promises.specs.Places.{Link, cyclesOf, heard, deliveries}
 use Rattle.promises.specs.Replaced.{WhollyAfter, damaged, below, above}
@@ -39,7 +39,7 @@ false-quiet = replicate 21 1 ++ replicate 3 0
 abbrev pub told : List Report
 told = reportsBy (next (settings p10)) fresh 0 (damaged p10 54 58 false-quiet)
 
-abbrev at : ℕ → Happening → Report
+abbrev at : ℕ → Event → Report
 at place event = record { place = place; event = event }
 
 pub record Tried : Type 0 where

@@ -5,7 +5,7 @@ use mathlib.Core.Path.{_≡_}
 use mathlib.Core.List.{[], _∷_}
 use lib.Dec.{eqb}
 use Rattle.measure.specs.Choose.{choose}
-use Rattle.board.specs.Rows.{Settings, State, Happening, nothing, row, broken, Moved, fresh, next}
+use Rattle.board.specs.Rows.{Settings, State, Event, nothing, row, broken, Moved, fresh, next}
 use Rattle.board.specs.Feeding.{Step, reportsBy}
 use Rattle.board.specs.declared.Mode.{Mode}
 use Rattle.board.specs.declared.Mode.the-variants.{Hunting, Ready, Counting, Waiting}
@@ -31,7 +31,7 @@ hasDelivered Ready left = false
 hasDelivered Counting left = false
 hasDelivered Waiting left = false
 
-abbrev pub remembering : Moved → Happening → Moved
+abbrev pub remembering : Moved → Event → Moved
 remembering moved nothing = moved
 remembering moved (row bits) = record { state = delivered; event = row bits }
 remembering moved (broken found) = moved

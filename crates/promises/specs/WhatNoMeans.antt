@@ -8,7 +8,7 @@ use lib.IntN.{ℤ, pos, negsuc}
 use lib.ListN.{length}
 use Rattle.measure.specs.Ranges.{padMost, entriesMost}
 use Rattle.settings.specs.Margins.{m1, m2, m3, accepted}
-use Rattle.settings.specs.Refusals.{inRange}
+use Rattle.settings.specs.Answers.{inRange}
 use Rattle.sender.specs.Sending.{wave}
 use Rattle.line.specs.Smooth.{smooth}
 use Rattle.line.specs.Warp.{warp}

@@ -9,10 +9,10 @@ use lib.Seq.{take-all, take-append-add, take-append-seam, drop-drop, length-take
 use Rattle.measure.specs.Choose.{choose}
 use Rattle.measure.specs.Lists.{onto}
 use Rattle.measure.specs.Refusals.{Answer, given, refused, refusedAfter}
-use Rattle.board.specs.Rows.{Happening, nothing, row, broken}
-use Rattle.board.specs.Refusals.{Outcome, listened}
-use Rattle.lines.specs.Walk.{Walk, rowsAfter, onward, goesOn, linesOf}
-use Rattle.lines.proofs.Heard.{Heard, heard-all, turn-lines}
+use Rattle.board.specs.Rows.{Event, nothing, row, broken}
+use Rattle.board.specs.Answers.{Outcome, listened}
+use Rattle.page.specs.Walk.{Walk, rowsAfter, onward, goesOn, linesOf}
+use Rattle.page.proofs.Heard.{Heard, heard-all, turn-lines}
 use Rattle.rows.specs.Page.{Ready, turnLine, turned, Filled}
 
 -- the part of a list from a place to its end, as it is lent
@@ -48,7 +48,7 @@ filling-none w reads page r =
 rows-most : (all rows : ℕ) (heard : Outcome × ℕ) → Heard all heard → rowsAfter (heard .0 .answer) rows ≤ rows + heard .1
 rows-most all rows heard h = go (heard .0 .answer) (h .least)
   where
-    go : (answer : Answer Happening) → (goesOn answer ≡ true → 1 ≤ heard .1) → rowsAfter answer rows ≤ rows + heard .1
+    go : (answer : Answer Event) → (goesOn answer ≡ true → 1 ≤ heard .1) → rowsAfter answer rows ≤ rows + heard .1
     go (given nothing) least = omega arith
     go (given (row bits)) least = omega (arith, least refl)
     go (given (broken found)) least = omega arith

@@ -7,8 +7,8 @@ use lib.ListN.{length, take, drop}
 use Rattle.measure.specs.Choose.{choose}
 use Rattle.measure.specs.Ranges.{entriesMost}
 use Rattle.measure.specs.Lists.{onto}
-use Rattle.board.specs.Refusals.{listened}
-use Rattle.lines.specs.Walk.{Walk, onward, lineAt, goesOn, linesOf}
+use Rattle.board.specs.Answers.{listened}
+use Rattle.page.specs.Walk.{Walk, onward, lineAt, goesOn, linesOf}
 use Rattle.rows.specs.declared.Walk.{Walk as Stand}
 
 -- no line is longer than this

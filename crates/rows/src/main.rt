@@ -5,7 +5,7 @@ ghost use Prim.Native.Nat.{ℕ, _+_, _≤_, _<_};
 ghost use lib.ListN.{length};
 ghost use Rattle.measure.specs.Ranges.{entriesMost};
 ghost use Rattle.measure.specs.Refusals.{given};
-ghost use Rattle.lines.specs.Refusals.{told as putTold};
+ghost use Rattle.page.specs.Answers.{putSays};
 ghost use Rattle.rows.specs.Page.{lineMost, standing, Ready, turned, Filled};
 use board::Event;
 use board::Receiver;
@@ -13,7 +13,7 @@ use capture::Checked;
 use capture::Summary;
 use libc::STDIN_FILENO;
 use libc::STDOUT_FILENO;
-use lines::Put;
+use page::Put;
 use measure::ENTRIES_MOST;
 use measure::INPUT_MOST;
 use measure::ReadCycles;
@@ -41,7 +41,7 @@ struct Turned {
 
 // How many bytes a line has that was put.
 fn bytes_of(put: Put) -> usize
-    ensures { λ x. ⌜ ((n : ℕ) → putTold put ≡ given n → x ≡ n) ⌝ }
+    ensures { λ x. ⌜ ((n : ℕ) → putSays put ≡ given n → x ≡ n) ⌝ }
 {
     match put {
         Put::Line(bytes) => bytes,
@@ -65,7 +65,7 @@ fn turn(walk: Walk, left: &[u8], out: &mut [u8]) -> Turned
     let event = heard.event;
     match event {
         Event::Nothing => {
-            let bytes = bytes_of(lines::put_end(ReadCycles(place), rows, out));
+            let bytes = bytes_of(page::put_end(ReadCycles(place), rows, out));
             Turned {
                 walk: Walk {
                     receiver: after,
@@ -80,7 +80,7 @@ fn turn(walk: Walk, left: &[u8], out: &mut [u8]) -> Turned
             let n = after.n;
             let bits = heard.row;
             let last = place - 1;
-            let bytes = bytes_of(lines::put_row(ReadCycles(last), n, &bits, out));
+            let bytes = bytes_of(page::put_row(ReadCycles(last), n, &bits, out));
             let delivered = rows + 1;
             Turned {
                 walk: Walk {
@@ -94,7 +94,7 @@ fn turn(walk: Walk, left: &[u8], out: &mut [u8]) -> Turned
         }
         Event::Broken(found) => {
             let last = place - 1;
-            let bytes = bytes_of(lines::put_broken(ReadCycles(last), found, out));
+            let bytes = bytes_of(page::put_broken(ReadCycles(last), found, out));
             Turned {
                 walk: Walk {
                     receiver: after,
@@ -106,7 +106,7 @@ fn turn(walk: Walk, left: &[u8], out: &mut [u8]) -> Turned
             }
         }
         Event::Refused(refusal) => {
-            let bytes = bytes_of(lines::put_refused(refusal, out));
+            let bytes = bytes_of(page::put_refused(refusal, out));
             Turned {
                 walk: Walk {
                     receiver: after,
@@ -155,7 +155,7 @@ fn print_rows(summary: Summary, reads: &[u8])
     let started = Receiver::fresh(summary.k, summary.n, summary.q);
     let receiver = started.receiver;
     let mut page = [0u8; PAGE];
-    let heading = bytes_of(lines::put_heading(&mut page));
+    let heading = bytes_of(page::put_heading(&mut page));
     if !io::write_all(STDOUT_FILENO, &page[..heading]) {
         return;
     }
@@ -180,7 +180,7 @@ fn print_rows(summary: Summary, reads: &[u8])
 // Prints the only line of a bad capture.
 fn print_refused(refusal: Refusal) {
     let mut line = [0u8; LINE_MOST];
-    let bytes = bytes_of(lines::put_refused(refusal, &mut line));
+    let bytes = bytes_of(page::put_refused(refusal, &mut line));
     io::write_all(STDOUT_FILENO, &line[..bytes]);
 }
 

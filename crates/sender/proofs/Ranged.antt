@@ -10,7 +10,7 @@ use Rattle.measure.specs.Choose.{between}
 use Rattle.measure.specs.Ranges.{subcell, padMost, rowBits}
 use Rattle.measure.specs.Lists.{firstAbove, someAbove}
 use Rattle.measure.proofs.Above.{above-none}
-use Rattle.sender.specs.Refusals.{fitting, padded}
+use Rattle.sender.specs.Answers.{fitting, padded}
 use Rattle.measure.proofs.Both.{both, both-3, between-most}
 
 between-least : (least most x : ℕ) → between least most x ≡ true → least ≤ x

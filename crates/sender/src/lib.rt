@@ -8,7 +8,7 @@ ghost use lib.ListN.{length, replicate};
 ghost use lib.Seq.{sets};
 ghost use Rattle.measure.specs.Ranges.{subcell, padMost, rowBits};
 ghost use Rattle.sender.specs.Sending.{opposite, codeLevel, cells, wave, planWave, rowsOf};
-ghost use Rattle.sender.specs.Refusals.{fitting, padded, sentMessage, sentPlan, told};
+ghost use Rattle.sender.specs.Answers.{fitting, padded, sentMessage, sentPlan, sentSays};
 use measure::BITS_LEAST;
 use measure::BITS_MOST;
 use measure::ENTRIES_MOST;
@@ -111,7 +111,7 @@ fn in_range(a: usize, b: usize, p1: usize, p2: usize) -> bool
 }
 
 // Sends a message. Gives the number of cycles of its wave.
-// Refuses by 1 (a, b or a pad), 3 (more than 1,024 bits; up to that number no wave is over its own limit), 2 (the place of the first entry that is no bit), 4.
+// Refuses with 1 (a, b or a pad), 3 (more than 1,024 bits; up to that number no wave is over its own limit), 2 (the place of the first entry that is no bit), 4.
 // The output holds the wave at its front and is otherwise untouched; every refusal leaves all of it.
 pub fn send(
     a: WriterCycles,
@@ -121,14 +121,14 @@ pub fn send(
     bits: &[u8],
     out: &mut [u8],
 ) -> Sent
-    ensures { λ x. ⌜ sentMessage (a .0) (b .0) (p1 .0) (p2 .0) (now (bits .entry)) (now (out .entry)) ≡ (told x, now (out .exit)) ⌝ }
+    ensures { λ x. ⌜ sentMessage (a .0) (b .0) (p1 .0) (p2 .0) (now (bits .entry)) (now (out .entry)) ≡ (sentSays x, now (out .exit)) ⌝ }
 {
     let mark = a.0;
     let code = b.0;
     let lead = p1.0;
     let trail = p2.0;
     if !in_range(mark, code, lead, trail) {
-        return Sent::Refused(Refusal::Setting);
+        return Sent::Refused(Refusal::Setting(0));
     }
     if bits.len() > BITS_MOST {
         return Sent::Refused(Refusal::Limit);
@@ -249,7 +249,7 @@ fn plan_into(
 }
 
 // Sends a plan: for each row a lead pad, a trail pad, and n bits of the one list of bits. Gives the number of cycles of the plan's wave.
-// Refuses by 1 (a, b, n or a pad; no row; lists that do not fit one another), 3 (more than 1,024 rows, or 1,048,576 cycles), 2 (the place of the first entry that is no bit), 4.
+// Refuses with 1 (a, b, n or a pad; no row; lists that do not fit one another), 3 (more than 1,024 rows, or 1,048,576 cycles), 2 (the place of the first entry that is no bit), 4.
 // The output holds the wave at its front and is otherwise untouched; every refusal leaves all of it.
 pub fn send_plan(
     a: WriterCycles,
@@ -260,12 +260,12 @@ pub fn send_plan(
     bits: &[u8],
     out: &mut [u8],
 ) -> Sent
-    ensures { λ x. ⌜ sentPlan (a .0) (b .0) n (now (leads .entry)) (now (trails .entry)) (now (bits .entry)) (now (out .entry)) ≡ (told x, now (out .exit)) ⌝ }
+    ensures { λ x. ⌜ sentPlan (a .0) (b .0) n (now (leads .entry)) (now (trails .entry)) (now (bits .entry)) (now (out .entry)) ≡ (sentSays x, now (out .exit)) ⌝ }
 {
     let mark = a.0;
     let code = b.0;
     if !plan_in_range(mark, code, n, leads, trails, bits) {
-        return Sent::Refused(Refusal::Setting);
+        return Sent::Refused(Refusal::Setting(0));
     }
     if leads.len() > ROWS_MOST {
         return Sent::Refused(Refusal::Limit);

@@ -2,7 +2,7 @@
 use mathlib.Core.Path.{refl}
 use Rattle.measure.specs.Table.{Agree}
 use Rattle.settings.specs.Margins.{m1, m2, m3, m4, m5, accepted, quietAccepted}
-use Rattle.settings.specs.Refusals.{judgement}
+use Rattle.settings.specs.Answers.{judgement}
 use Rattle.settings.specs.Cases.{cases}
 
 pub cases-hold : Agree cases

@@ -5,7 +5,7 @@ use Prim.Native.Nat.{ℕ, _≤_}
 use lib.Dec.{leb}
 use borrow.Author.Tests.{leb-true}
 use Rattle.measure.specs.Ranges.{subcell, sampling, cycleLength, quiet, padMost}
-use Rattle.settings.specs.Refusals.{inRange}
+use Rattle.settings.specs.Answers.{inRange}
 use Rattle.measure.proofs.Both.{both, both-3, between-most}
 
 pub record Bounded (a b k w r : ℕ) : Type 0 where

@@ -5,7 +5,7 @@ use lib.IntN.{ℤ, pos, negsuc}
 use Rattle.measure.specs.Refusals.{Answer, given}
 use Rattle.measure.specs.Table.{Case}
 use Rattle.settings.specs.Margins.{m2, m3, m4, m5, accepted}
-use Rattle.settings.specs.Refusals.{Judgement, judgement}
+use Rattle.settings.specs.Answers.{Judgement, judgement}
 
 -- what the judge is to say: three margins and yes or no
 abbrev says : ℤ → ℤ → ℤ → Bool → Answer Judgement

@@ -7,7 +7,7 @@ ghost use Rattle.measure.specs.Ranges.{quiet, padMost};
 ghost use lib.IntN.{_-ℤ_, _*ℤ_};
 ghost use Rattle.measure.specs.Refusals.{given};
 ghost use Rattle.settings.specs.Margins.{signed, m1, m2, m3, m4, m5, zeroOrMore};
-ghost use Rattle.settings.specs.Refusals.{inRange, judgement, quietJudgement, told, quietTold};
+ghost use Rattle.settings.specs.Answers.{inRange, judgement, quietJudgement, judgedSays, quietJudgedSays};
 use measure::CYCLE_LEAST;
 use measure::CYCLE_MOST;
 use measure::PAD_MOST;
@@ -147,7 +147,7 @@ fn margin5(p1: WriterCycles, q: ReadCycles, w: TimeUnits, r: TimeUnits) -> i64
 
 // Answers yes or no by the signs of three margins.
 fn by_signs(m1: i64, m2: i64, m3: i64) -> Judged
-    ensures { λ x. ⌜ given (record { margins = record { m1 = m1; m2 = m2; m3 = m3 }; accepts = zeroOrMore m1 && zeroOrMore m2 && zeroOrMore m3 }) ≡ told x ⌝ }
+    ensures { λ x. ⌜ given (record { margins = record { m1 = m1; m2 = m2; m3 = m3 }; accepts = zeroOrMore m1 && zeroOrMore m2 && zeroOrMore m3 }) ≡ judgedSays x ⌝ }
 {
     let margins = Margins { m1, m2, m3 };
     if m1 < 0 {
@@ -164,7 +164,7 @@ fn by_signs(m1: i64, m2: i64, m3: i64) -> Judged
 
 // Answers yes or no by the signs of all five margins.
 fn quiet_by_signs(m1: i64, m2: i64, m3: i64, m4: i64, m5: i64) -> QuietJudged
-    ensures { λ x. ⌜ given (record { margins = record { m1 = m1; m2 = m2; m3 = m3; m4 = m4; m5 = m5 }; accepts = zeroOrMore m1 && zeroOrMore m2 && zeroOrMore m3 && zeroOrMore m4 && zeroOrMore m5 }) ≡ quietTold x ⌝ }
+    ensures { λ x. ⌜ given (record { margins = record { m1 = m1; m2 = m2; m3 = m3; m4 = m4; m5 = m5 }; accepts = zeroOrMore m1 && zeroOrMore m2 && zeroOrMore m3 && zeroOrMore m4 && zeroOrMore m5 }) ≡ quietJudgedSays x ⌝ }
 {
     let margins = QuietMargins { m1, m2, m3, m4, m5 };
     if m1 < 0 {
@@ -185,12 +185,12 @@ fn quiet_by_signs(m1: i64, m2: i64, m3: i64, m4: i64, m5: i64) -> QuietJudged
     QuietJudged::Yes(margins)
 }
 
-// The judge. Gives M1, M2 and M3, and yes exactly if all three are zero or more. Refuses by 1 a setting out of range.
+// The judge. Gives M1, M2 and M3, and yes exactly if all three are zero or more. Refuses with 1 a setting out of range.
 pub fn judge(a: WriterCycles, b: WriterCycles, k: ReadCycles, w: TimeUnits, r: TimeUnits) -> Judged
-    ensures { λ x. ⌜ judgement (a .0) (b .0) (k .0) (w .0) (r .0) ≡ told x ⌝ }
+    ensures { λ x. ⌜ judgement (a .0) (b .0) (k .0) (w .0) (r .0) ≡ judgedSays x ⌝ }
 {
     if !in_range(a, b, k, w, r) {
-        return Judged::Refused(Refusal::Setting);
+        return Judged::Refused(Refusal::Setting(0));
     }
     by_signs(
         margin1(a, w, r),
@@ -199,7 +199,7 @@ pub fn judge(a: WriterCycles, b: WriterCycles, k: ReadCycles, w: TimeUnits, r: T
     )
 }
 
-// The quiet judge. Gives all five margins, and yes exactly if all five are zero or more. Refuses by 1 a setting out of range.
+// The quiet judge. Gives all five margins, and yes exactly if all five are zero or more. Refuses with 1 a setting out of range.
 pub fn judge_quiet(
     a: WriterCycles,
     b: WriterCycles,
@@ -209,10 +209,10 @@ pub fn judge_quiet(
     q: ReadCycles,
     p1: WriterCycles,
 ) -> QuietJudged
-    ensures { λ x. ⌜ quietJudgement (a .0) (b .0) (k .0) (w .0) (r .0) (q .0) (p1 .0) ≡ quietTold x ⌝ }
+    ensures { λ x. ⌜ quietJudgement (a .0) (b .0) (k .0) (w .0) (r .0) (q .0) (p1 .0) ≡ quietJudgedSays x ⌝ }
 {
     if !quiet_in_range(a, b, k, w, r, q, p1) {
-        return QuietJudged::Refused(Refusal::Setting);
+        return QuietJudged::Refused(Refusal::Setting(0));
     }
     quiet_by_signs(
         margin1(a, w, r),

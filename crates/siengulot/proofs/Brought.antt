@@ -3,7 +3,7 @@ use mathlib.Core.Path.{_≡_, ap}
 use mathlib.Core.Bool.{true}
 use mathlib.Core.List.{List}
 use Prim.Native.Nat.{ℕ}
-use Rattle.board.specs.Refusals.{Outcome, stepped, listened}
+use Rattle.board.specs.Answers.{Outcome, stepped, listened}
 use Rattle.board.specs.declared.Receiver.{Receiver}
 use Rattle.siengulot.specs.Receivers.{Lent, Told, standing, receiverOf, brought, steppedLent, listenedLent}
 

@@ -5,7 +5,7 @@ use mathlib.Core.List.{List}
 use Prim.Native.Nat.{ℕ, _<_}
 use borrow.Author.Tests.{lt-leb}
 use Rattle.measure.specs.Refusals.{refused}
-use Rattle.counted.specs.Refusals.{countedBits}
+use Rattle.counted.specs.Answers.{countedBits}
 
 last-fails : (one other : Bool) → (one && other && false) ≡ false
 last-fails true true = refl

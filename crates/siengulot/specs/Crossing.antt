@@ -4,7 +4,7 @@ use mathlib.Core.Bool.{Bool, true, false}
 use mathlib.Core.List.{List, [], _∷_}
 use lib.IntN.{ℤ}
 use Rattle.measure.specs.Refusals.{Answer, given, refused, refusedAfter}
-use Rattle.settings.specs.Refusals.{Judgement, QuietJudgement}
+use Rattle.settings.specs.Answers.{Judgement, QuietJudgement}
 use Rattle.capture.specs.declared.Summary.{Summary}
 
 -- The refusal's number (0: none), its place, and a count: of a result its length, with refusal 5 the bits found, and with any other refusal 0.

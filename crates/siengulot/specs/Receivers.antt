@@ -6,9 +6,9 @@ use lib.Dec.{leb, eqb}
 use lib.ListN.{getD}
 use Rattle.measure.specs.Choose.{choose}
 use Rattle.measure.specs.Refusals.{Answer, given, refused, refusedAfter}
-use Rattle.board.specs.Rows.{Happening, nothing, row, broken}
+use Rattle.board.specs.Rows.{Event, nothing, row, broken}
 use Rattle.board.specs.WellFormed.{wellFormed}
-use Rattle.board.specs.Refusals.{Outcome, stepped, listened}
+use Rattle.board.specs.Answers.{Outcome, stepped, listened}
 use Rattle.board.specs.declared.Mode.{Mode}
 use Rattle.board.specs.declared.Mode.the-variants.{Hunting, Ready, Counting, Waiting}
 use Rattle.board.specs.declared.Receiver.{Receiver}
@@ -75,7 +75,7 @@ abbrev pub keeping : Receiver → List ℕ → Lent
 keeping next delivered = record { numbers = numbersOf next; bytes = next .bits; row = delivered }
 
 -- What crosses of an answer, and what is lent afterwards. The row's bytes are written where a row is delivered, all 128 of them, and are otherwise left. A refusal leaves all that is lent.
-abbrev pub answered : Lent → Receiver → List ℕ → Answer Happening → Told × Lent
+abbrev pub answered : Lent → Receiver → List ℕ → Answer Event → Told × Lent
 answered lent next delivered (given nothing) =
     (record { number = 0; place = 0; event = 0; found = 0 }, keeping next (lent .row))
 answered lent next delivered (given (row bits)) =
@@ -113,7 +113,7 @@ unfoldable pub wellFormedLent : List ℕ → List ℕ → ℕ
 wellFormedLent numbers bytes = flag (standing numbers && wellFormed (receiverOf numbers bytes))
 
 -- starting: the refusal's number, and the receiver with which to start, also after a refusal
-abbrev pub begunLent : Answer Happening × Receiver → ℕ × List ℕ × List ℕ
+abbrev pub begunLent : Answer Event × Receiver → ℕ × List ℕ × List ℕ
 begunLent (given event, next) = (0, numbersOf next, next .bits)
 begunLent (refused number place, next) = (number, numbersOf next, next .bits)
 begunLent (refusedAfter number place count, next) = (number, numbersOf next, next .bits)

@@ -1,10 +1,10 @@
 // How an answer crosses: the refusal's number is returned, and its place and the count are put behind lent numbers.
 ghost use mathlib.Core.Path.{_≡_};
 ghost use Rattle.measure.specs.Refusals.{given, denied};
-ghost use Rattle.sender.specs.Refusals.{told as sentTold};
-ghost use Rattle.line.specs.Refusals.{smoothTold, told as readTold};
-ghost use Rattle.counted.specs.Refusals.{told as countedTold};
-ghost use Rattle.capture.specs.Refusals.{writtenTold};
+ghost use Rattle.sender.specs.Answers.{sentSays};
+ghost use Rattle.line.specs.Answers.{smoothedSays, readSays};
+ghost use Rattle.counted.specs.Answers.{countedSays};
+ghost use Rattle.capture.specs.Answers.{writtenSays};
 ghost use Rattle.siengulot.specs.Crossing.{crossed};
 use capture::Written;
 use counted::Counted;
@@ -36,7 +36,7 @@ pub fn refuses(refusal: Refusal, place: &mut usize, count: &mut usize) -> usize
 
 // What sending answers.
 pub fn of_sent(answer: Sent, place: &mut usize, count: &mut usize) -> usize
-    ensures { λ x. ⌜ crossed (sentTold answer) ≡ record { number = x; place = now (place .exit); count = now (count .exit) } ⌝ }
+    ensures { λ x. ⌜ crossed (sentSays answer) ≡ record { number = x; place = now (place .exit); count = now (count .exit) } ⌝ }
 {
     match answer {
         Sent::Wave(cycles) => gives(cycles.0, place, count),
@@ -46,7 +46,7 @@ pub fn of_sent(answer: Sent, place: &mut usize, count: &mut usize) -> usize
 
 // What smooth answers.
 pub fn of_smoothed(answer: Smoothed, place: &mut usize, count: &mut usize) -> usize
-    ensures { λ x. ⌜ crossed (smoothTold answer) ≡ record { number = x; place = now (place .exit); count = now (count .exit) } ⌝ }
+    ensures { λ x. ⌜ crossed (smoothedSays answer) ≡ record { number = x; place = now (place .exit); count = now (count .exit) } ⌝ }
 {
     match answer {
         Smoothed::Wave(cycles) => gives(cycles.0, place, count),
@@ -56,7 +56,7 @@ pub fn of_smoothed(answer: Smoothed, place: &mut usize, count: &mut usize) -> us
 
 // What warp and settle answer.
 pub fn of_read(answer: Read, place: &mut usize, count: &mut usize) -> usize
-    ensures { λ x. ⌜ crossed (readTold answer) ≡ record { number = x; place = now (place .exit); count = now (count .exit) } ⌝ }
+    ensures { λ x. ⌜ crossed (readSays answer) ≡ record { number = x; place = now (place .exit); count = now (count .exit) } ⌝ }
 {
     match answer {
         Read::Reads(reads) => gives(reads.0, place, count),
@@ -66,7 +66,7 @@ pub fn of_read(answer: Read, place: &mut usize, count: &mut usize) -> usize
 
 // What the counted receiver answers: also after refusal 5 the count is of the bits found.
 pub fn of_counted(answer: Counted, place: &mut usize, count: &mut usize) -> usize
-    ensures { λ x. ⌜ crossed (countedTold answer) ≡ record { number = x; place = now (place .exit); count = now (count .exit) } ⌝ }
+    ensures { λ x. ⌜ crossed (countedSays answer) ≡ record { number = x; place = now (place .exit); count = now (count .exit) } ⌝ }
 {
     match answer {
         Counted::Bits(found) => gives(found, place, count),
@@ -81,7 +81,7 @@ pub fn of_counted(answer: Counted, place: &mut usize, count: &mut usize) -> usiz
 
 // What writing a capture answers.
 pub fn of_written(answer: Written, place: &mut usize, count: &mut usize) -> usize
-    ensures { λ x. ⌜ crossed (writtenTold answer) ≡ record { number = x; place = now (place .exit); count = now (count .exit) } ⌝ }
+    ensures { λ x. ⌜ crossed (writtenSays answer) ≡ record { number = x; place = now (place .exit); count = now (count .exit) } ⌝ }
 {
     match answer {
         Written::Bytes(length) => gives(length, place, count),

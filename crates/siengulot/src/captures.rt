@@ -1,6 +1,6 @@
 // Captures: checking, reading and writing one.
 ghost use mathlib.Core.Path.{_≡_};
-ghost use Rattle.capture.specs.Refusals.{checked, readBack, told, written};
+ghost use Rattle.capture.specs.Answers.{checked, readBack, checkedSays, written};
 ghost use Rattle.siengulot.specs.Crossing.{crossed, crossing, summed};
 use crate::answers::of_written;
 use capture::Checked;
@@ -8,7 +8,7 @@ use measure::ReadCycles;
 
 // What checking and reading answer: the summary is put behind the lent numbers, and a refusal leaves these.
 fn of_checked(answer: Checked, summary: &mut [usize; 5], place: &mut usize) -> usize
-    ensures { λ x. ⌜ summed (now (summary .entry)) (told answer) ≡ (x, now (place .exit), now (summary .exit)) ⌝ }
+    ensures { λ x. ⌜ summed (now (summary .entry)) (checkedSays answer) ≡ (x, now (place .exit), now (summary .exit)) ⌝ }
 {
     match answer {
         Checked::Capture(s) => {
@@ -24,7 +24,7 @@ fn of_checked(answer: Checked, summary: &mut [usize; 5], place: &mut usize) -> u
 }
 
 // Checks a capture. Gives in `summary` its k, n and Q and its numbers of reads and runs.
-// Refuses by 3 (too many bytes), then by the first of 6, 7 and 8 from the left, with its place: `summary` is left.
+// Refuses with 3 (too many bytes), then by the first of 6, 7 and 8 from the left, with its place: `summary` is left.
 #[no_mangle]
 pub extern "C" fn siengulot_capture_check(
     bytes: &[u8],
@@ -53,7 +53,7 @@ pub extern "C" fn siengulot_capture_read(
 }
 
 // Writes reads as a capture. Gives in `count` its number of bytes, which stand at the output's front; the rest is untouched.
-// Refuses by 1 (k, n or Q), 3 (more than 1,048,576 reads), 2 (the place of the first entry that is no level), 4: the output is left, and `count` is 0.
+// Refuses with 1 (k, n or Q), 3 (more than 1,048,576 reads), 2 (the place of the first entry that is no level), 4: the output is left, and `count` is 0.
 #[no_mangle]
 pub extern "C" fn siengulot_capture_write(
     k: usize,

@@ -1,7 +1,7 @@
 // Judging: settings against the margins.
 ghost use mathlib.Core.Path.{_≡_};
 ghost use mathlib.Core.List.{[], _∷_};
-ghost use Rattle.settings.specs.Refusals.{judgement, quietJudgement};
+ghost use Rattle.settings.specs.Answers.{judgement, quietJudgement};
 ghost use Rattle.siengulot.specs.Crossing.{judgedThree, judgedFive};
 use measure::ReadCycles;
 use measure::TimeUnits;
@@ -26,7 +26,7 @@ fn put_five(m: QuietMargins, margins: &mut [i64; 5])
 }
 
 // The judge. Gives M1, M2 and M3, and 1 in `accepted` exactly if all three are zero or more, otherwise 0.
-// Refuses by 1 a setting out of range: the margins are left, and `accepted` is 0.
+// Refuses with 1 a setting out of range: the margins are left, and `accepted` is 0.
 #[no_mangle]
 pub extern "C" fn siengulot_judge(
     a: usize,
@@ -65,7 +65,7 @@ pub extern "C" fn siengulot_judge(
 }
 
 // The quiet judge. Gives M1 to M5, and 1 in `accepted` exactly if all five are zero or more, otherwise 0.
-// Refuses by 1 a setting out of range: the margins are left, and `accepted` is 0.
+// Refuses with 1 a setting out of range: the margins are left, and `accepted` is 0.
 #[no_mangle]
 pub extern "C" fn siengulot_judge_quiet(
     a: usize,

@@ -1,9 +1,9 @@
 // The link: sending, the three passes of the line, and the counted receiver. Each result stands at the front of the lent output, `count` is its
 // length, and the rest of the output is untouched.
 ghost use mathlib.Core.Path.{_≡_};
-ghost use Rattle.sender.specs.Refusals.{sentMessage, sentPlan};
-ghost use Rattle.line.specs.Refusals.{smoothed, warped, settled};
-ghost use Rattle.counted.specs.Refusals.{countedBits};
+ghost use Rattle.sender.specs.Answers.{sentMessage, sentPlan};
+ghost use Rattle.line.specs.Answers.{smoothed, warped, settled};
+ghost use Rattle.counted.specs.Answers.{countedBits};
 ghost use Rattle.siengulot.specs.Crossing.{crossed, crossing};
 use crate::answers::of_counted;
 use crate::answers::of_read;
@@ -20,7 +20,7 @@ use measure::WriterCycles;
 const LEVEL_MOST: usize = HIGH as usize;
 
 // Sends a message. Gives its wave.
-// Refuses by 1 (a, b or a pad), 3 (more than 1,024 bits), 2 (the place of the first entry that is no bit), 4: the output is left, and `count` is 0.
+// Refuses with 1 (a, b or a pad), 3 (more than 1,024 bits), 2 (the place of the first entry that is no bit), 4: the output is left, and `count` is 0.
 #[no_mangle]
 pub extern "C" fn siengulot_send(
     a: usize,
@@ -46,7 +46,7 @@ pub extern "C" fn siengulot_send(
 }
 
 // Sends a plan: for each row a lead pad, a trail pad, and n bits of the one list of bits. Gives the plan's wave.
-// Refuses by 1 (a, b, n or a pad; no row; lists that do not fit one another), 3 (more than 1,024 rows, or 1,048,576 cycles), 2 (the place of the
+// Refuses with 1 (a, b, n or a pad; no row; lists that do not fit one another), 3 (more than 1,024 rows, or 1,048,576 cycles), 2 (the place of the
 // first entry that is no bit), 4: the output is left, and `count` is 0.
 #[no_mangle]
 pub extern "C" fn siengulot_plan(
@@ -75,7 +75,7 @@ pub extern "C" fn siengulot_plan(
 }
 
 // Pass 1, smooth. Gives the wave with each cycle unknown at which the level changed.
-// Refuses by 3 (more than 1,048,576 cycles), 2 (the place of the first entry that is no level), 4: the output is left, and `count` is 0.
+// Refuses with 3 (more than 1,048,576 cycles), 2 (the place of the first entry that is no level), 4: the output is left, and `count` is 0.
 #[no_mangle]
 pub extern "C" fn siengulot_smooth(
     wave: &[u8],
@@ -90,7 +90,7 @@ pub extern "C" fn siengulot_smooth(
 }
 
 // Pass 2, warp. Gives the reads of a wave.
-// Refuses by 1 (w or r, or p not below w), 3 (more than 1,048,576 cycles or reads), 2 (the place of the first entry that is no level and not unknown),
+// Refuses with 1 (w or r, or p not below w), 3 (more than 1,048,576 cycles or reads), 2 (the place of the first entry that is no level and not unknown),
 // 4: the output is left, and `count` is 0.
 #[no_mangle]
 pub extern "C" fn siengulot_warp(
@@ -109,7 +109,7 @@ pub extern "C" fn siengulot_warp(
 }
 
 // Pass 3, settle. Gives the reads with each unknown one made the next choice, or low once choices have run out.
-// Refuses by 3 (more than 1,048,576 reads or choices), 2 (the place of the first read that is no level and not unknown, or else of the first choice that
+// Refuses with 3 (more than 1,048,576 reads or choices), 2 (the place of the first read that is no level and not unknown, or else of the first choice that
 // is no level, in its own list), 4: the output is left, and `count` is 0.
 #[no_mangle]
 pub extern "C" fn siengulot_settle(
@@ -126,7 +126,7 @@ pub extern "C" fn siengulot_settle(
 }
 
 // The counted receiver. Gives the n bits of a message that starts with the level in force.
-// Refuses by 1 (k, n or level), 3 (more than 1,048,576 reads), 2 (the place of the first read that is no level), 4 (an output shorter than n): the
+// Refuses with 1 (k, n or level), 3 (more than 1,048,576 reads), 2 (the place of the first read that is no level), 4 (an output shorter than n): the
 // output is left, and `count` is 0. Then by 5, where the reads ran out: `count` is the number of bits found, which stand at the output's front.
 #[no_mangle]
 pub extern "C" fn siengulot_counted(
@@ -141,7 +141,7 @@ pub extern "C" fn siengulot_counted(
     ensures { λ x. ⌜ crossing crossed (countedBits k n level (now (reads .entry)) (now (out .entry))) ≡ (record { number = x; place = now (place .exit); count = now (count .exit) }, now (out .exit)) ⌝ }
 {
     if LEVEL_MOST < level {
-        return refuses(Refusal::Setting, place, count);
+        return refuses(Refusal::Setting(0), place, count);
     }
     let answer = counted::count_bits(ReadCycles(k), n, level as u8, reads, out);
     of_counted(answer, place, count)

@@ -1,6 +1,6 @@
 // The row receiver: starting, one read, and reads up to the first event, on a receiver that C lends.
 ghost use mathlib.Core.Path.{_≡_};
-ghost use Rattle.board.specs.Refusals.{begun, told};
+ghost use Rattle.board.specs.Answers.{begun, eventSays};
 ghost use Rattle.siengulot.specs.Receivers.{answered, noState, steppedLent, listenedLent, wellFormedLent, begunLent};
 use crate::state::keep;
 use crate::state::receiver_of;
@@ -30,7 +30,7 @@ fn hand_over(
     found: &mut usize,
     place: &mut usize,
 ) -> usize
-    ensures { λ x. ⌜ answered (record { numbers = now (numbers .entry); bytes = now (bytes .entry); row = now (row .entry) }) next delivered (told (next .n) delivered happened)
+    ensures { λ x. ⌜ answered (record { numbers = now (numbers .entry); bytes = now (bytes .entry); row = now (row .entry) }) next delivered (eventSays (next .n) delivered happened)
         ≡ (record { number = x; place = now (place .exit); event = now (event .exit); found = now (found .exit) }, record { numbers = now (numbers .exit); bytes = now (bytes .exit); row = now (row .exit) }) ⌝ }
 {
     *event = NOTHING;
@@ -67,11 +67,11 @@ fn refuse_state(event: &mut usize, found: &mut usize, place: &mut usize) -> usiz
     *event = NOTHING;
     *found = 0;
     *place = 0;
-    measure::number(Refusal::Setting)
+    measure::number(Refusal::Setting(0))
 }
 
 // Starts a receiver: hunting, run 0, no bits, in the lent numbers and bytes.
-// Refuses by 1 k, n or Q out of range: every lent number and byte is then 0.
+// Refuses with 1 k, n or Q out of range: every lent number and byte is then 0.
 #[no_mangle]
 pub extern "C" fn siengulot_fresh(
     k: usize,
@@ -105,7 +105,7 @@ pub extern "C" fn siengulot_well_formed(numbers: &[usize; 8], bytes: &[u8; 128])
 }
 
 // Gives a receiver one read, and in `event` what it brings: 0 nothing, 1 a row, whose bits stand in `row`, 2 a broken row, of so many bits in `found`.
-// Refuses by 1 a state that is not well formed, by 2 a read that is no level, with place 0: receiver and row are left, and `event` and `found` are 0.
+// Refuses with 1 a state that is not well formed, with 2 a read that is no level, with place 0: receiver and row are left, and `event` and `found` are 0.
 #[no_mangle]
 pub extern "C" fn siengulot_step(
     numbers: &mut [usize; 8],
@@ -141,7 +141,7 @@ pub extern "C" fn siengulot_step(
 }
 
 // Gives a receiver reads up to and with the first that brings an event, or all: `event`, `row` and `found` as above, and in `used` how many reads that took.
-// Refuses by 1 a state that is not well formed, 3 (more than 1,048,576 reads), 2 (the place of the first read that is no level where no event comes
+// Refuses with 1 a state that is not well formed, 3 (more than 1,048,576 reads), 2 (the place of the first read that is no level where no event comes
 // before it): receiver and row are left, and `event`, `found` and `used` are 0.
 #[no_mangle]
 pub extern "C" fn siengulot_listen(

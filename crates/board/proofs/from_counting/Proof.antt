@@ -13,8 +13,8 @@ use Rattle.board.specs.declared.Sought.{Sought}
 use Rattle.board.specs.declared.Sought.the-variants.{Found}
 use Rattle.board.specs.Rows.{Settings, State, waiting, collected, marked}
 use Rattle.board.specs.Packed.{kept, stateOf}
-use Rattle.board.specs.Refusals.{Outcome}
-use Rattle.board.specs.Listening.{settings, keeping, Keeps, heardFrom, soughtTold, Lands}
+use Rattle.board.specs.Answers.{Outcome}
+use Rattle.board.specs.Listening.{settings, keeping, Keeps, heardFrom, soughtSays, Lands}
 use Rattle.board.proofs.PackedBits.{Binary}
 use Rattle.board.proofs.RowRules.{Ranged, Fitting, bit-most}
 use Rattle.board.proofs.KeepingLaws.{bitsIn, kept-valid, kept-length, kept-bytes, counting-kept, counting-fits, kept-room, kept-more, more-length, more-binary}
@@ -70,7 +70,7 @@ to-sample-requires c κs = (c .loop .inv .0, fits c .0, fits c .1)
 
 abbrev sample-told : tie.At-loop Inv-loop μ-loop → Receiver → Sought → Outcome × ℕ
 sample-told h x sought =
-    soughtTold x (g (start h)) (λ run read. collected (g (start h)) run read (with-bit h read)) (so-far h) (now (start h .args .reads)) sought
+    soughtSays x (g (start h)) (λ run read. collected (g (start h)) run read (with-bit h read)) (so-far h) (now (start h .args .reads)) sought
 
 sampled : (c : tie.After-to-sample Inv-loop μ-loop) (x : Receiver) → asked (start (c .before)) x ≡ sample-told (c .before) x (c .to-sample .result)
 sampled c x =
@@ -155,7 +155,7 @@ put-of c = c .before .before .before
 
 abbrev mark-told : tie.After-put Inv-loop μ-loop → Receiver → Sought → Outcome × ℕ
 mark-told p x sought =
-    soughtTold x (g (start (head p))) (λ then level. marked (g (start (head p))) (waiting (read p) (run p) (more p)) then level) (more p)
+    soughtSays x (g (start (head p))) (λ then level. marked (g (start (head p))) (waiting (read p) (run p) (more p)) then level) (more p)
     (now (start (head p) .args .reads)) sought
 
 waited : (c : tie.After-to-mark Inv-loop μ-loop) (x : Receiver) → asked (start (head (put-of c))) x ≡ mark-told (put-of c) x (c .to-mark .result)

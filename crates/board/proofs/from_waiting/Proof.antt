@@ -12,8 +12,8 @@ use Rattle.board.specs.declared.Sought.{Sought}
 use Rattle.board.specs.declared.Sought.the-variants.{Found}
 use Rattle.board.specs.Rows.{Settings, State, waiting, marked}
 use Rattle.board.specs.Packed.{stateOf}
-use Rattle.board.specs.Refusals.{Outcome}
-use Rattle.board.specs.Listening.{settings, keeping, heardFrom, soughtTold, Lands}
+use Rattle.board.specs.Answers.{Outcome}
+use Rattle.board.specs.Listening.{settings, keeping, heardFrom, soughtSays, Lands}
 use Rattle.board.proofs.RowRules.{Ranged, Fitting}
 use Rattle.board.proofs.KeepingLaws.{bitsIn, kept-valid, kept-length, kept-bytes, waiting-fits, waiting-kept}
 use Rattle.board.proofs.CellLaws.{Marked, mark-keeps, mark-heard}
@@ -37,7 +37,7 @@ so-far s = bitsIn (s .args .start) (now (s .args .bits))
 
 abbrev mark-told : tie.Start → Receiver → Sought → Outcome × ℕ
 mark-told s x sought =
-    soughtTold x (g s) (λ run read. marked (g s) (waiting (s .args .start .level) (s .args .start .run) (so-far s)) run read) (so-far s) (now (s .args .reads)) sought
+    soughtSays x (g s) (λ run read. marked (g s) (waiting (s .args .start .level) (s .args .start .run) (so-far s)) run read) (so-far s) (now (s .args .reads)) sought
 
 waited : (c : tie.After-to-mark) (x : Receiver)
     → heardFrom x (g (c .before .before)) (stateOf (keeping (g (c .before .before)) (c .before .before .args .start) (now (c .before .before .args .bits)))) 0 (now (c .before .before .args .reads))

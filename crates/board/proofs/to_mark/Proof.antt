@@ -7,7 +7,7 @@ use denote.Ref.{now}
 use lib.ListN.{length, getD, drop}
 use Rattle.board.specs.declared.Receiver.{Receiver}
 use Rattle.board.specs.Rows.{waiting, ready, broken}
-use Rattle.board.specs.Refusals.{reached}
+use Rattle.board.specs.Answers.{reached}
 use Rattle.board.specs.Listening.{settings, longer, heardFrom}
 use Rattle.board.proofs.ListeningLaws.{heard-end, heard-bad, heard-move, longer-most, next-quiet, waiting-on, waiting-mark}
 use Rattle.board.proofs.to_mark.Statement.{statement}

@@ -5,7 +5,7 @@ use native.Mathlib.Omega.{arith}
 use borrow.Author.Needs.{needs}
 use lib.ListN.{length}
 use Rattle.measure.specs.Refusals.{denied}
-use Rattle.capture.specs.Refusals.{headed, numberTold}
+use Rattle.capture.specs.Answers.{headed, numberSays}
 use Rattle.capture.proofs.Groups.{Bytes}
 use Rattle.capture.proofs.Places.{Placed, number-placed}
 use Rattle.capture.proofs.Runs.{runs-refused, runs-none, runs-over}
@@ -27,7 +27,7 @@ all-bytes c i = omega (arith, c .before .before .before .shared-slice-known .giv
 here : (c : tie.After-number Inv-loop μ-loop) → Placed (c .before .before .before .before .before .before .before .before .args .bytes .now) (c .before .before .before .before .loop .at) (record { value = c .number .given .0 .0; after = c .number .given .0 .1 .0 })
 here c =
     number-placed (c .before .before .before .before .before .before .before .before .args .bytes .now) (c .before .before .before .before .loop .at) _
-    (all-bytes (c .before .before .before .before)) (c .before .before .number-at .ensures ∙ ap numberTold (c .number .given .1))
+    (all-bytes (c .before .before .before .before)) (c .before .before .number-at .ensures ∙ ap numberSays (c .number .given .1))
 
 loop-holds : tie.Need-loop-holds Inv-loop μ-loop
 loop-holds c = tally-none _ _
@@ -47,13 +47,13 @@ number-refusal-requires c κs = search needs
 returns : tie.Need-returns Inv-loop μ-loop
 returns c =
     let e = c .before .enum-told .given .1 in
-    tally-refused (c .before .before .before .before .before .loop .inv) _ _ (runs-refused (c .before .before .before .before .before .before .before .before .before .args .bytes .now) _ _ (c .before .before .before .before .loop-test .taken) _ _ (c .before .before .before .number-at .ensures ∙ ap numberTold e))
+    tally-refused (c .before .before .before .before .before .loop .inv) _ _ (runs-refused (c .before .before .before .before .before .before .before .before .before .args .bytes .now) _ _ (c .before .before .before .before .loop-test .taken) _ _ (c .before .before .before .number-at .ensures ∙ ap numberSays e))
     ∙ ap denied (sym (c .number-refusal .ensures _ e))
 
 returns-2 : tie.Need-returns-2 Inv-loop μ-loop
 returns-2 c =
     tally-refused (c .before .before .before .before .before .before .loop .inv) _ _
-    (runs-none (c .before .before .before .before .before .before .before .before .before .before .args .bytes .now) _ _ (c .before .before .before .before .before .loop-test .taken) _ (c .before .before .before .before .number-at .ensures ∙ ap numberTold (c .before .before .number .given .1)) (c .if1 .taken))
+    (runs-none (c .before .before .before .before .before .before .before .before .before .before .args .bytes .now) _ _ (c .before .before .before .before .before .loop-test .taken) _ (c .before .before .before .before .number-at .ensures ∙ ap numberSays (c .before .before .number .given .1)) (c .if1 .taken))
 
 add-total : tie.Need-add-total Inv-loop μ-loop
 add-total c = omega (arith, here (c .before .before) .small)
@@ -61,7 +61,7 @@ add-total c = omega (arith, here (c .before .before) .small)
 returns-3 : tie.Need-returns-3 Inv-loop μ-loop
 returns-3 c =
     tally-refused (c .before .before .before .before .before .before .before .loop .inv) _ _
-    (runs-over (c .before .before .before .before .before .before .before .before .before .before .before .args .bytes .now) _ _ (c .before .before .before .before .before .before .loop-test .taken) _ (c .before .before .before .before .before .number-at .ensures ∙ ap numberTold (c .before .before .before .number .given .1)) (c .before .if1 .left) (c .if2 .taken))
+    (runs-over (c .before .before .before .before .before .before .before .before .before .before .before .args .bytes .now) _ _ (c .before .before .before .before .before .before .loop-test .taken) _ (c .before .before .before .before .before .number-at .ensures ∙ ap numberSays (c .before .before .before .number .given .1)) (c .before .if1 .left) (c .if2 .taken))
 
 add-runs : tie.Need-add-runs Inv-loop μ-loop
 add-runs c = omega arith
@@ -72,7 +72,7 @@ loop-less c = omega (arith, here (c .before .before .before) .further-on, c .bef
 loop-again : tie.Need-loop-again Inv-loop μ-loop
 loop-again c =
     tally-one (c .before .before .before .before .before .before .before .loop .inv) _ (all-bytes (c .before .before .before .before .before .before .before)) (c .before .before .before .before .before .before .loop-test .taken)
-    (c .before .before .before .before .before .number-at .ensures ∙ ap numberTold (c .before .before .before .number .given .1)) (c .before .if1 .left) (c .if2 .left)
+    (c .before .before .before .before .before .number-at .ensures ∙ ap numberSays (c .before .before .before .number .given .1)) (c .before .if1 .left) (c .if2 .left)
 
 returns-4 : tie.Need-returns-4 Inv-loop μ-loop
 returns-4 c = tally-low (c .before .before .before .before .loop .inv) (c .before .before .before .loop-test .left) (c .before .if3 .taken) (c .if4 .taken)

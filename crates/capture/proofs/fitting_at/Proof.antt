@@ -2,7 +2,7 @@
 use mathlib.Core.Path.{sym, ap, _∙_}
 use borrow.Author.Needs.{needs}
 use Rattle.measure.specs.Choose.{between}
-use Rattle.capture.specs.Refusals.{numberTold}
+use Rattle.capture.specs.Answers.{numberSays}
 use Rattle.capture.proofs.Headings.{fitting-refused, fitting-in, fitting-out}
 use Rattle.capture.proofs.fitting_at.Statement.{statement}
 use Rattle.capture.proofs.fitting_at.Tie as tie
@@ -19,7 +19,7 @@ enum-told c = search needs
 returns : tie.Need-returns
 returns c =
     let a = c .before .before .before .before .args in
-    let e = ap numberTold (c .enum-told .given .1) in
+    let e = ap numberSays (c .enum-told .given .1) in
     fitting-refused (between (a .least) (a .most)) (a .bytes .now) (a .at) _ _ (c .before .before .number-at .ensures ∙ e) ∙ sym e
 
 between-requires : tie.Need-between-requires
@@ -28,13 +28,13 @@ between-requires c κs = search needs
 returns-2 : tie.Need-returns-2
 returns-2 c =
     let a = c .before .before .before .before .before .before .before .args in
-    let e = ap numberTold (c .before .before .before .number .given .1) in
+    let e = ap numberSays (c .before .before .before .number .given .1) in
     fitting-in (between (a .least) (a .most)) (a .bytes .now) (a .at) _ (c .before .before .before .before .before .number-at .ensures ∙ e) (sym (c .before .between .ensures) ∙ c .if1 .taken)
 
 returns-3 : tie.Need-returns-3
 returns-3 c =
     let a = c .before .before .before .before .before .before .before .args in
-    let e = ap numberTold (c .before .before .before .number .given .1) in
+    let e = ap numberSays (c .before .before .before .number .given .1) in
     fitting-out (between (a .least) (a .most)) (a .bytes .now) (a .at) _ (c .before .before .before .before .before .number-at .ensures ∙ e) (sym (c .before .between .ensures) ∙ c .if1 .left)
 
 pub fitting-at-spec : {M : Type 1} → statement M

@@ -2,7 +2,7 @@
 use mathlib.Core.Path.{sym, ap, _∙_}
 use borrow.Author.Needs.{needs}
 use Rattle.measure.specs.Refusals.{denied}
-use Rattle.capture.specs.Refusals.{numberTold}
+use Rattle.capture.specs.Answers.{numberSays}
 use Rattle.capture.proofs.Headings.{heading-no-k, heading-no-n, heading-no-Q, heading-no-level, heading-is}
 use Rattle.capture.proofs.four_numbers.Statement.{statement}
 use Rattle.capture.proofs.four_numbers.Tie as tie
@@ -21,7 +21,7 @@ number-refusal-requires c κs = search needs
 
 returns : tie.Need-returns
 returns c =
-    heading-no-k (c .before .before .before .before .before .args .bytes .now) _ _ (c .before .before .before .fitting-at .ensures ∙ ap numberTold (c .before .enum-told .given .1))
+    heading-no-k (c .before .before .before .before .before .args .bytes .now) _ _ (c .before .before .before .fitting-at .ensures ∙ ap numberSays (c .before .enum-told .given .1))
     ∙ ap denied (sym (c .number-refusal .ensures _ (c .before .enum-told .given .1)))
 
 fitting-at-requires-2 : tie.Need-fitting-at-requires-2
@@ -39,8 +39,8 @@ number-refusal-requires-2 c κs = search needs
 returns-2 : tie.Need-returns-2
 returns-2 c =
     let first = c .before .before .before .before .before in
-    heading-no-n (c .before .before .before .before .before .before .before .before .before .args .bytes .now) _ _ (first .before .before .fitting-at .ensures ∙ ap numberTold (first .first .given .1))
-    (c .before .before .before .fitting-at2 .ensures ∙ ap numberTold (c .before .enum-told2 .given .1))
+    heading-no-n (c .before .before .before .before .before .before .before .before .before .args .bytes .now) _ _ (first .before .before .fitting-at .ensures ∙ ap numberSays (first .first .given .1))
+    (c .before .before .before .fitting-at2 .ensures ∙ ap numberSays (c .before .enum-told2 .given .1))
     ∙ ap denied (sym (c .number-refusal2 .ensures _ (c .before .enum-told2 .given .1)))
 
 fitting-at-requires-3 : tie.Need-fitting-at-requires-3
@@ -59,9 +59,9 @@ returns-3 : tie.Need-returns-3
 returns-3 c =
     let second = c .before .before .before .before .before in
     let first = second .before .before .before .before in
-    heading-no-Q (c .before .before .before .before .before .before .before .before .before .before .before .before .before .args .bytes .now) _ _ (first .before .before .fitting-at .ensures ∙ ap numberTold (first .first .given .1))
-    (second .before .before .fitting-at2 .ensures ∙ ap numberTold (second .second .given .1))
-    (c .before .before .before .fitting-at3 .ensures ∙ ap numberTold (c .before .enum-told3 .given .1))
+    heading-no-Q (c .before .before .before .before .before .before .before .before .before .before .before .before .before .args .bytes .now) _ _ (first .before .before .fitting-at .ensures ∙ ap numberSays (first .first .given .1))
+    (second .before .before .fitting-at2 .ensures ∙ ap numberSays (second .second .given .1))
+    (c .before .before .before .fitting-at3 .ensures ∙ ap numberSays (c .before .enum-told3 .given .1))
     ∙ ap denied (sym (c .number-refusal3 .ensures _ (c .before .enum-told3 .given .1)))
 
 fitting-at-requires-4 : tie.Need-fitting-at-requires-4
@@ -81,10 +81,10 @@ returns-4 c =
     let third = c .before .before .before .before .before in
     let second = third .before .before .before .before in
     let first = second .before .before .before .before in
-    heading-no-level (c .before .before .before .before .before .before .before .before .before .before .before .before .before .before .before .before .before .args .bytes .now) _ _ (first .before .before .fitting-at .ensures ∙ ap numberTold (first .first .given .1))
-    (second .before .before .fitting-at2 .ensures ∙ ap numberTold (second .second .given .1))
-    (third .before .before .fitting-at3 .ensures ∙ ap numberTold (third .third .given .1))
-    (c .before .before .before .fitting-at4 .ensures ∙ ap numberTold (c .before .enum-told4 .given .1))
+    heading-no-level (c .before .before .before .before .before .before .before .before .before .before .before .before .before .before .before .before .before .args .bytes .now) _ _ (first .before .before .fitting-at .ensures ∙ ap numberSays (first .first .given .1))
+    (second .before .before .fitting-at2 .ensures ∙ ap numberSays (second .second .given .1))
+    (third .before .before .fitting-at3 .ensures ∙ ap numberSays (third .third .given .1))
+    (c .before .before .before .fitting-at4 .ensures ∙ ap numberSays (c .before .enum-told4 .given .1))
     ∙ ap denied (sym (c .number-refusal4 .ensures _ (c .before .enum-told4 .given .1)))
 
 returns-5 : tie.Need-returns-5
@@ -93,10 +93,10 @@ returns-5 c =
     let third = fourth .before .before .before .before in
     let second = third .before .before .before .before in
     let first = second .before .before .before .before in
-    heading-is (c .before .before .before .before .before .before .before .before .before .before .before .before .before .before .before .before .before .args .bytes .now) (first .before .before .fitting-at .ensures ∙ ap numberTold (first .first .given .1))
-    (second .before .before .fitting-at2 .ensures ∙ ap numberTold (second .second .given .1))
-    (third .before .before .fitting-at3 .ensures ∙ ap numberTold (third .third .given .1))
-    (fourth .before .before .fitting-at4 .ensures ∙ ap numberTold (fourth .fourth .given .1))
+    heading-is (c .before .before .before .before .before .before .before .before .before .before .before .before .before .before .before .before .before .args .bytes .now) (first .before .before .fitting-at .ensures ∙ ap numberSays (first .first .given .1))
+    (second .before .before .fitting-at2 .ensures ∙ ap numberSays (second .second .given .1))
+    (third .before .before .fitting-at3 .ensures ∙ ap numberSays (third .third .given .1))
+    (fourth .before .before .fitting-at4 .ensures ∙ ap numberSays (fourth .fourth .given .1))
 
 pub four-numbers-spec : {M : Type 1} → statement M
 four-numbers-spec =

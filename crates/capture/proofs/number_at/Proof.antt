@@ -3,7 +3,7 @@ use mathlib.Core.Path.{ap, _∙_}
 use native.Mathlib.Omega.{arith}
 use borrow.Author.Needs.{needs}
 use Rattle.capture.specs.Numbers.{placed, numberAt}
-use Rattle.capture.specs.Refusals.{frontTold}
+use Rattle.capture.specs.Answers.{frontSays}
 use Rattle.capture.proofs.Groups.{Bytes}
 use Rattle.capture.proofs.Places.{front-small}
 use Rattle.capture.proofs.number_at.Statement.{statement}
@@ -31,19 +31,19 @@ returns : tie.Need-returns
 unfolding numberAt
 returns c =
     let a = c .before .before .before .before .before .args in
-    ap (placed (a .at)) (c .before .before .before .front-at .ensures ∙ ap frontTold (c .before .front .given .1))
+    ap (placed (a .at)) (c .before .before .before .front-at .ensures ∙ ap frontSays (c .before .front .given .1))
 
 returns-2 : tie.Need-returns-2
 unfolding numberAt
 returns-2 c =
     let a = c .before .before .before .before .args in
-    ap (placed (a .at)) (c .before .before .front-at .ensures ∙ ap frontTold (c .enum-told .given .1))
+    ap (placed (a .at)) (c .before .before .front-at .ensures ∙ ap frontSays (c .enum-told .given .1))
 
 returns-3 : tie.Need-returns-3
 unfolding numberAt
 returns-3 c =
     let a = c .before .before .before .before .args in
-    ap (placed (a .at)) (c .before .before .front-at .ensures ∙ ap frontTold (c .enum-told2 .given .1))
+    ap (placed (a .at)) (c .before .before .front-at .ensures ∙ ap frontSays (c .enum-told2 .given .1))
 
 pub number-at-spec : {M : Type 1} → statement M
 number-at-spec =

@@ -9,7 +9,7 @@ use borrow.Author.Needs.{needs}
 use types.Run.{OneOf}
 use denote.Enum.Declared.{tagOf}
 use Rattle.capture.specs.Numbers.{before}
-use Rattle.capture.specs.Refusals.{frontTold}
+use Rattle.capture.specs.Answers.{frontSays}
 use Rattle.capture.specs.declared.Front.{Front}
 use Rattle.capture.specs.declared.Front.the-variants.{Value, Cut, Long}
 use Rattle.capture.proofs.Front.{the-type}
@@ -17,7 +17,7 @@ use Rattle.capture.proofs.prefixed.Statement.{statement}
 use Rattle.capture.proofs.prefixed.Tie as tie
 
 -- what is no number stays what it is
-kept : (byte : ℕ) (rest : Front) → OneOf (1 ∷ 2 ∷ []) (tagOf the-type rest) → before byte (frontTold rest) ≡ frontTold rest
+kept : (byte : ℕ) (rest : Front) → OneOf (1 ∷ 2 ∷ []) (tagOf the-type rest) → before byte (frontSays rest) ≡ frontSays rest
 kept byte (Value v size) (inl e) = absurd (omega arith)
 kept byte (Value v size) (inr e) = absurd (omega arith)
 kept byte Cut e = refl

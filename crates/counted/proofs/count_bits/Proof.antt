@@ -1,7 +1,7 @@
 -- `count_bits` meets its contract: the tests that led to a return pick the definition's case, and the core gives the last.
 use borrow.Author.Needs.{needs}
 use borrow.Author.Tests.{lt-ltb, le-ltb, not-true, not-false}
-use Rattle.counted.specs.Refusals.{countedBits}
+use Rattle.counted.specs.Answers.{countedBits}
 use Rattle.counted.proofs.count_bits.Statement.{statement}
 use Rattle.counted.proofs.count_bits.Tie as tie
 

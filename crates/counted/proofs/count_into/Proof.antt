@@ -11,7 +11,7 @@ use lib.Seq.{length-take-le}
 use Rattle.measure.specs.Refusals.{given, refusedAfter}
 use Rattle.measure.proofs.Wrote.{Wrote, wrote-none, wrote-more, wrote-all}
 use Rattle.counted.specs.Counted.{counted}
-use Rattle.counted.specs.Refusals.{found}
+use Rattle.counted.specs.Answers.{found}
 use Rattle.counted.proofs.Samples.{counted-marked, counted-unsampled}
 use Rattle.counted.proofs.count_into.Statement.{statement}
 use Rattle.counted.proofs.count_into.Tie as tie

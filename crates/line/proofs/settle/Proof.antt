@@ -7,7 +7,7 @@ use lib.ListN.{length}
 use Rattle.measure.specs.Ranges.{entriesMost}
 use Rattle.measure.specs.Refusals.{lent}
 use Rattle.line.specs.Settle.{settle}
-use Rattle.line.specs.Refusals.{settled}
+use Rattle.line.specs.Answers.{settled}
 use Rattle.line.proofs.SettleLaws.{length-settle}
 use Rattle.line.proofs.settle.Statement.{statement}
 use Rattle.line.proofs.settle.Tie as tie

@@ -4,7 +4,7 @@ use borrow.Author.Needs.{needs}
 use borrow.Author.Tests.{lt-ltb, le-ltb}
 use Rattle.measure.specs.Refusals.{lent}
 use Rattle.line.specs.Smooth.{smooth}
-use Rattle.line.specs.Refusals.{smoothed}
+use Rattle.line.specs.Answers.{smoothed}
 use Rattle.line.proofs.SmoothLaws.{length-smooth}
 use Rattle.line.proofs.smooth.Statement.{statement}
 use Rattle.line.proofs.smooth.Tie as tie

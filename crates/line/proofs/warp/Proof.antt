@@ -8,7 +8,7 @@ use borrow.Author.Tests.{lt-ltb, le-ltb, not-true, not-false}
 use lib.ListN.{length}
 use Rattle.measure.specs.Refusals.{lent}
 use Rattle.line.specs.Warp.{warp as warping}
-use Rattle.line.specs.Refusals.{warped, timed}
+use Rattle.line.specs.Answers.{warped, timed}
 use Rattle.line.proofs.Times.{timed-r, timed-p, cycle-least}
 use Rattle.line.proofs.WarpLaws.{read-count}
 use Rattle.line.proofs.warp.Statement.{statement}

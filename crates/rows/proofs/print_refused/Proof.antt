@@ -5,8 +5,8 @@ use Prim.Native.Nat.{ℕ}
 use lib.ListN.{replicate, length-replicate}
 use lib.Seq.{length-take-le}
 use Rattle.measure.specs.Refusals.{numberOf, placeOf}
-use Rattle.lines.specs.Lines.{refusedLine}
-use Rattle.lines.proofs.Longest.{refused-most}
+use Rattle.page.specs.Lines.{refusedLine}
+use Rattle.page.proofs.Longest.{refused-most}
 use Rattle.rows.proofs.Turning.{put-within}
 use borrow.Author.Needs.{needs}
 use Rattle.rows.proofs.print_refused.Statement.{statement}

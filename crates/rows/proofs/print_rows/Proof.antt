@@ -6,7 +6,7 @@ use borrow.Author.Needs.{needs}
 use borrow.Author.Tests.{not-false}
 use lib.ListN.{length, replicate, length-replicate}
 use lib.Seq.{length-take-le}
-use Rattle.lines.specs.Lines.{headingLine}
+use Rattle.page.specs.Lines.{headingLine}
 use Rattle.rows.specs.Page.{standing, Ready}
 use Rattle.rows.proofs.Turning.{put-within}
 use Rattle.rows.proofs.print_rows.Statement.{statement}

@@ -3,7 +3,7 @@ use mathlib.Core.Path.{_≡_}
 use mathlib.Core.Bool.{true, _&&_}
 use borrow.Author.Needs.{needs}
 use Rattle.measure.specs.Ranges.{subcell, rowBits}
-use Rattle.sender.specs.Refusals.{fitting}
+use Rattle.sender.specs.Answers.{fitting}
 use Rattle.measure.proofs.Both.{passed, failed}
 use Rattle.sender.proofs.Ranged.{row-bits-least}
 use Rattle.sender.proofs.plan_in_range.Statement.{statement}

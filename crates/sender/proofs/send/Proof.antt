@@ -10,7 +10,7 @@ use borrow.Author.Needs.{needs}
 use borrow.Author.Tests.{lt-ltb, le-ltb}
 use Rattle.measure.specs.Ranges.{subcell, padMost, entriesMost}
 use Rattle.sender.specs.Sending.{wave}
-use Rattle.sender.specs.Refusals.{sentMessage}
+use Rattle.sender.specs.Answers.{sentMessage}
 use Rattle.measure.proofs.Both.{passed, failed}
 use Rattle.sender.proofs.Ranged.{Message, message-bounded}
 use Rattle.sender.proofs.Cells.{length-wave, message-most}

@@ -10,7 +10,7 @@ use borrow.Author.Needs.{needs}
 use borrow.Author.Tests.{lt-ltb, le-ltb}
 use Rattle.measure.specs.Ranges.{subcell, rowBits, entriesMost}
 use Rattle.sender.specs.Sending.{planWave, rowsOf}
-use Rattle.sender.specs.Refusals.{fitting, padded, sentPlan}
+use Rattle.sender.specs.Answers.{fitting, padded, sentPlan}
 use Rattle.measure.proofs.Both.{passed, failed}
 use Rattle.sender.proofs.Ranged.{Plan, plan-bounded}
 use Rattle.sender.proofs.Placed.{lent-placed, lent-short}

@@ -4,7 +4,7 @@ use mathlib.Core.Bool.{true}
 use native.Mathlib.Omega.{arith}
 use borrow.Author.Needs.{needs}
 use Rattle.settings.specs.Margins.{accepted}
-use Rattle.settings.specs.Refusals.{inRange, judgement}
+use Rattle.settings.specs.Answers.{inRange, judgement}
 use Rattle.measure.proofs.Both.{passed, failed}
 use Rattle.settings.proofs.Ranged.{Bounded, ranged-bounded}
 use Rattle.settings.proofs.Signs.{read-back}

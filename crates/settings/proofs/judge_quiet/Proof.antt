@@ -7,7 +7,7 @@ use lib.Dec.{leb}
 use borrow.Author.Needs.{needs}
 use Rattle.measure.specs.Ranges.{quiet, padMost}
 use Rattle.settings.specs.Margins.{accepted, quietAccepted}
-use Rattle.settings.specs.Refusals.{inRange, quietJudgement}
+use Rattle.settings.specs.Answers.{inRange, quietJudgement}
 use Rattle.measure.proofs.Both.{passed, failed}
 use Rattle.settings.proofs.Ranged.{Bounded, quiet-bounded}
 use Rattle.settings.proofs.Signs.{read-back}

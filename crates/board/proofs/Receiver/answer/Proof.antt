@@ -4,13 +4,13 @@ use mathlib.Core.Path.{_∙_, ap}
 use borrow.Author.Needs.{needs}
 use Rattle.board.specs.declared.Heard.{Heard}
 use Rattle.board.specs.Packed.{settingsOf}
-use Rattle.board.specs.Refusals.{Outcome}
-use Rattle.board.specs.Listening.{heardTold}
+use Rattle.board.specs.Answers.{Outcome}
+use Rattle.board.specs.Listening.{heardSays}
 use Rattle.board.proofs.Receiver.answer.Statement.{statement}
 use Rattle.board.proofs.Receiver.answer.Tie as tie
 
 abbrev told : tie.Start → Heard → Outcome × ℕ
-told c heard = heardTold (c .args .self) (settingsOf (c .args .self)) (c .args .all) (c .args .bits) heard
+told c heard = heardSays (c .args .self) (settingsOf (c .args .self)) (c .args .all) (c .args .bits) heard
 
 enum-known-heard : tie.Need-enum-known-heard
 enum-known-heard c = search needs

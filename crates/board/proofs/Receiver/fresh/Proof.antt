@@ -3,7 +3,7 @@ use mathlib.Core.Path.{_≡_, sym, _∙_}
 use mathlib.Core.Bool.{true, false}
 use borrow.Author.Needs.{needs}
 use Rattle.measure.specs.Ranges.{settingsFit}
-use Rattle.board.specs.Refusals.{begun}
+use Rattle.board.specs.Answers.{begun}
 use Rattle.board.proofs.Receiver.fresh.Statement.{statement}
 use Rattle.board.proofs.Receiver.fresh.Tie as tie
 

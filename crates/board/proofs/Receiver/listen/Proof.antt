@@ -10,7 +10,7 @@ use mir.Val.{Fits}
 use Rattle.board.specs.declared.Receiver.{Receiver}
 use Rattle.board.specs.Packed.{settingsOf, stateOf}
 use Rattle.board.specs.WellFormed.{wellFormed}
-use Rattle.board.specs.Refusals.{listened}
+use Rattle.board.specs.Answers.{listened}
 use Rattle.board.specs.Listening.{keeping, heardFrom}
 use Rattle.board.proofs.PackedBits.{Words}
 use Rattle.board.proofs.Standing.{receiver-of-state}

@@ -44,7 +44,7 @@ use denote.Triple.Walked.{says, Stays, stay-none, walkOf, goes-none, Walks, ends
 use denote.Exit.{yes}
 use denote.Triple.Clauses.{ensured, lasts}
 use Rattle.capture.specs.Numbers.{numberAt}
-use Rattle.capture.specs.Refusals.{numberTold}
+use Rattle.capture.specs.Answers.{numberSays}
 use Rattle.capture.specs.declared.held.CaptureReader.{CaptureReader}
 use Rattle.capture.specs.declared.Number.{Number}
 use Rattle.capture.proofs.held.CaptureReader as T
@@ -82,7 +82,7 @@ module _ {M : Type 1} (𝓤 : URA M) (H : Heap 𝓤) (A : Atoms 𝓤) (W : Given
 
   -- what a result says
   abbrev Found : Number → Type 0
-  Found r = numberAt (now (d .src)) (d .at) ≡ numberTold r
+  Found r = numberAt (now (d .src)) (d .at) ≡ numberSays r
 
   abbrev Post : Val → SProp 𝓤
   Post = walkOf 𝓤 H A next.ended stayed (next.clauses 𝓤 H A mem run) .post (((κ, tt), (q, tt), tt, (d, tt), (mach ∷ [], tt)), tt)

@@ -1,0 +1,113 @@
+-- 01, "The row receiver" and "Refusal numbers": what starting, one read, and reads up to the first event answer, for all input; and what each case of the code says.
+use Prim.Native.Nat.{ℕ}
+use mathlib.Core.List.{List, [], _∷_}
+use mathlib.Core.Bool.{Bool, true, false, _&&_}
+use lib.ListN.{length, take}
+use lib.Dec.{leb, ltb}
+use Rattle.measure.specs.Choose.{choose}
+use Rattle.measure.specs.Ranges.{entriesMost, settingsFit}
+use Rattle.measure.specs.Lists.{firstAbove, someAbove}
+use Rattle.measure.specs.Refusals.{Answer, given, refused, denied}
+use Rattle.board.specs.Rows.{Settings, State, Event, nothing, row, broken, next, fresh}
+use Rattle.board.specs.Feeding.{Report, reports, after, firstEvent, usedOf}
+use Rattle.board.specs.Packed.{unpacked, kept, settingsOf, stateOf, receiverOf}
+use Rattle.board.specs.WellFormed.{wellFormed}
+use Rattle.board.specs.declared.Mode.the-variants.{Hunting}
+use Rattle.board.specs.declared.Receiver.{Receiver}
+use Rattle.board.specs.declared.Event.{Event as CodeEvent}
+use Rattle.board.specs.declared.Event.the-variants.{Nothing, Row, Broken, Refused}
+use Rattle.board.specs.declared.Start.{Start}
+use Rattle.board.specs.declared.Start.the-variants.{Fresh, Refused as StartRefused}
+use Rattle.board.specs.declared.Stepped.{Stepped}
+use Rattle.board.specs.declared.Listened.{Listened}
+
+-- the receiver afterwards, what the reads brought or the refusal, and a delivered row's bits as they are kept (all 0 otherwise)
+pub record Outcome : Type 0 where
+  pub receiver : Receiver
+  pub answer : Answer Event
+  pub row : List ℕ
+
+-- the bits of a delivered row
+abbrev pub rowOf : Event → List ℕ
+rowOf nothing = []
+rowOf (row bits) = bits
+rowOf (broken found) = []
+
+-- the outcome of a state that was reached
+abbrev pub reached : Settings → State → Event → Outcome
+reached g s event = record { receiver = receiverOf g s; answer = given event; row = kept (rowOf event) }
+
+-- a refusal leaves the receiver unchanged
+abbrev pub refusing : Receiver → ℕ → ℕ → Outcome
+refusing x number place = record { receiver = x; answer = refused number place; row = kept [] }
+
+-- starting: a fresh receiver, or refusal 1 for k, n or Q out of range, with a receiver that hunts and holds nothing but zeros
+unfoldable pub begun : ℕ → ℕ → ℕ → Answer Event × Receiver
+begun k n Q =
+    choose (settingsFit k n Q) (given nothing, receiverOf (record { k = k; n = n; Q = Q }) fresh) (
+      refused 1 0,
+      record {
+        k = record { 0 = 0 };
+        n = 0;
+        q = record { 0 = 0 };
+        mode = Hunting;
+        run = record { 0 = 0 };
+        left = record { 0 = 0 };
+        level = 0;
+        found = 0;
+        bits = kept [];
+      },
+    )
+
+-- one read: refusal 1 for a state that is not well formed, 2 for a read above 1
+unfoldable pub stepped : Receiver → ℕ → Outcome
+stepped x read =
+    choose (wellFormed x)
+    (choose (leb read 1)
+    (reached (settingsOf x) (next (settingsOf x) (stateOf x) read .state) (next (settingsOf x) (stateOf x) read .event))
+    (refusing x 2 0))
+    (refusing x 1 0)
+
+-- the reads before the first that is no level
+abbrev pub levelsOf : List ℕ → List ℕ
+levelsOf reads = take (firstAbove 1 reads) reads
+
+-- nothing is reported
+abbrev pub silent : List Report → Bool
+silent [] = true
+silent (report ∷ more) = false
+
+-- the outcome of the reads up to and with the first that brings an event, or of all, and how many these are
+abbrev pub toEvent : Settings → State → List ℕ → List Report → Outcome × ℕ
+toEvent g s reads told =
+    (reached g (after g s (take (usedOf told (length reads)) reads)) (firstEvent told), usedOf told (length reads))
+
+-- Reads up to and with the first that brings an event: refusal 1 as above, 3 for a list over its limit, 2 for a read that is no level where no event comes before it.
+-- With a refusal no read is used.
+unfoldable pub listened : Receiver → List ℕ → Outcome × ℕ
+listened x reads =
+    choose (wellFormed x)
+    (choose (ltb entriesMost (length reads)) (refusing x 3 0, 0)
+    (choose (someAbove 1 reads && silent (reports (settingsOf x) (stateOf x) 0 (levelsOf reads)))
+    (refusing x 2 (firstAbove 1 reads), 0)
+    (toEvent (settingsOf x) (stateOf x) (levelsOf reads) (reports (settingsOf x) (stateOf x) 0 (levelsOf reads)))))
+    (refusing x 1 0, 0)
+
+-- what each case of the code's answers says; a row's bits stand beside the event, n of them
+abbrev pub eventSays : ℕ → List ℕ → CodeEvent → Answer Event
+eventSays n bytes Nothing = given nothing
+eventSays n bytes Row = given (row (take n (unpacked 8 bytes)))
+eventSays n bytes (Broken found) = given (broken found)
+eventSays n bytes (Refused refusal) = denied refusal
+
+-- the same of starting, of one read, and of reads up to an event
+abbrev pub startSays : Start → Answer Event
+startSays Fresh = given nothing
+startSays (StartRefused refusal) = denied refusal
+
+abbrev pub steppedSays : Stepped → Outcome
+steppedSays x = record { receiver = x .receiver; answer = eventSays (x .receiver .n) (x .row) (x .event); row = x .row }
+
+abbrev pub listenedSays : Listened → Outcome × ℕ
+listenedSays x =
+    (record { receiver = x .receiver; answer = eventSays (x .receiver .n) (x .row) (x .event); row = x .row }, x .used .0)

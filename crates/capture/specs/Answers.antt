@@ -1,0 +1,87 @@
+-- 01, "Capture file" and "Refusal numbers": what the operations on captures answer and leave in the lent output, for all input, and what each case of the code says.
+use Prim.Native.Nat.{ℕ}
+use mathlib.Core.List.{List}
+use lib.ListN.{length}
+use lib.Dec.{ltb}
+use Rattle.measure.specs.Choose.{choose}
+use Rattle.measure.specs.Ranges.{entriesMost, settingsFit}
+use Rattle.measure.specs.Lists.{onto}
+use Rattle.measure.specs.Refusals.{Answer, given, refused, refusedAfter, denied, ranged, limited, entered, lent}
+use Rattle.capture.specs.Numbers.{Group, value, cut, long, Numeral}
+use Rattle.capture.specs.Capture.{Heading, Capture, then, capture, readsOf}
+use Rattle.capture.specs.Writing.{captureOf}
+use Rattle.capture.specs.declared.Front.{Front}
+use Rattle.capture.specs.declared.Front.the-variants.{Value, Cut, Long}
+use Rattle.capture.specs.declared.Number.{Number}
+use Rattle.capture.specs.declared.Number.the-variants.{Is, Refused as NumberRefused}
+use Rattle.capture.specs.declared.Header.{Header}
+use Rattle.capture.specs.declared.Head.{Head}
+use Rattle.capture.specs.declared.Head.the-variants.{Found, Refused as HeadRefused}
+use Rattle.capture.specs.declared.Summary.{Summary}
+use Rattle.capture.specs.declared.Checked.{Checked}
+use Rattle.capture.specs.declared.Checked.the-variants.{Capture as Good, Refused}
+use Rattle.capture.specs.declared.Written.{Written}
+use Rattle.capture.specs.declared.Written.the-variants.{Bytes, Refused as WrittenRefused}
+
+-- a capture's settings, and how many reads and runs it has
+abbrev pub summary : Capture → Summary
+summary c =
+    record {
+      k = record { 0 = c .k };
+      n = c .n;
+      q = record { 0 = c .Q };
+      reads = record { 0 = length (readsOf (c .level) (c .runs)) };
+      runs = length (c .runs);
+    }
+
+-- checking: the summary, or the capture's refusal
+abbrev pub summed : Answer Capture → Answer Summary
+summed answer = then answer (λ c. given (summary c))
+
+unfoldable pub checked : List ℕ → Answer Summary
+checked bytes = summed (capture bytes)
+
+-- a capture's reads into a lent output: refusal 4 comes after all the rest
+abbrev pub unrolled : Answer Capture → List ℕ → Answer Summary × List ℕ
+unrolled (given c) output =
+    choose (ltb (length output) (length (readsOf (c .level) (c .runs)))) (refused 4 0, output)
+    (given (summary c), onto (readsOf (c .level) (c .runs)) output)
+unrolled (refused number place) output = (refused number place, output)
+unrolled (refusedAfter number place count) output = (refusedAfter number place count, output)
+
+-- reading: the same of the capture that the bytes spell out
+unfoldable pub readBack : List ℕ → List ℕ → Answer Summary × List ℕ
+readBack bytes output = unrolled (capture bytes) output
+
+-- writing: refusal 1 for k, n or Q out of range, 3 for reads over their limit, 2 for an entry that is no level, 4
+unfoldable pub written : ℕ → ℕ → ℕ → List ℕ → List ℕ → Answer ℕ × List ℕ
+written k n Q reads output =
+    ranged (settingsFit k n Q) output
+    (limited entriesMost (length reads) output
+    (entered 1 reads output
+    (lent (captureOf k n Q reads) output)))
+
+-- what each case of the code's answers says
+abbrev pub frontSays : Front → Group
+frontSays (Value v size) = value v size
+frontSays Cut = cut
+frontSays Long = long
+
+abbrev pub numberSays : Number → Answer Numeral
+numberSays (Is v after) = given (record { value = v; after = after })
+numberSays (NumberRefused refusal) = denied refusal
+
+abbrev pub headed : Header → Heading
+headed h = record { k = h .k .0; n = h .n; Q = h .q .0; level = h .level; level-at = h .«level_at»; after = h .after }
+
+abbrev pub headSays : Head → Answer Heading
+headSays (Found h) = given (headed h)
+headSays (HeadRefused refusal) = denied refusal
+
+abbrev pub checkedSays : Checked → Answer Summary
+checkedSays (Good s) = given s
+checkedSays (Refused refusal) = denied refusal
+
+abbrev pub writtenSays : Written → Answer ℕ
+writtenSays (Bytes n) = given n
+writtenSays (WrittenRefused refusal) = denied refusal

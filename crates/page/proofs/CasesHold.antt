@@ -1,0 +1,14 @@
+-- The definitions compute to what document 01 prints.
+use mathlib.Core.Path.{refl}
+use Rattle.measure.specs.Table.{Agree}
+use Rattle.capture.specs.Numbers.{following, group, numberAt}
+use Rattle.capture.specs.Capture.{fittingAt, heading, runsFrom, capture, readsOf}
+use Rattle.board.specs.Rows.{next}
+use Rattle.board.specs.Feeding.{reportsBy}
+use Rattle.page.specs.Text.{decimalIn, bitsText}
+use Rattle.page.specs.Lines.{eventLines, rowsIn, output}
+use Rattle.page.specs.Cases.{cases}
+
+pub cases-hold : Agree cases
+unfolding following group numberAt fittingAt heading runsFrom capture readsOf next reportsBy decimalIn bitsText eventLines rowsIn output
+cases-hold = (refl, (refl, tt))

@@ -1,0 +1,5 @@
+pub mod Text
+pub mod Lines
+pub mod Answers
+pub mod Walk
+pub mod Cases

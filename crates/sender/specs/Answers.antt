@@ -1,0 +1,44 @@
+-- 01, "Sending" and "Refusal numbers": what sending a message and sending a plan answer and leave in the lent output, for all input, and what each case of the code says.
+use Prim.Native.Nat.{ℕ, _*_}
+use mathlib.Core.Bool.{Bool, _&&_, not}
+use mathlib.Core.List.{List}
+use lib.ListN.{length}
+use lib.Dec.{leb, eqb}
+use Rattle.measure.specs.Ranges.{subcell, padMost, bitsMost, rowBits, rowsMost, entriesMost}
+use Rattle.measure.specs.Lists.{someAbove}
+use Rattle.measure.specs.Refusals.{Answer, given, denied, ranged, limited, entered, lent}
+use Rattle.sender.specs.Sending.{wave, planWave, rowsOf}
+use Rattle.sender.specs.declared.Sent.{Sent}
+use Rattle.sender.specs.declared.Sent.the-variants.{Wave, Refused}
+
+-- a message: refusal 1 for a, b or a pad out of range, 3 for more than 1,024 bits or a wave over its limit, 2 for an entry that is no bit
+unfoldable pub sentMessage : ℕ → ℕ → ℕ → ℕ → List ℕ → List ℕ → Answer ℕ × List ℕ
+sentMessage a b p1 p2 bits output =
+    ranged (subcell a && subcell b && leb p1 padMost && leb p2 padMost) output
+    (limited bitsMost (length bits) output
+    (limited entriesMost (length (wave a b p1 p2 bits)) output
+    (entered 1 bits output
+    (lent (wave a b p1 p2 bits) output))))
+
+-- the lists of a plan fit one another: there is a row, a trail pad for each lead pad, and n bits for each row
+abbrev pub fitting : ℕ → List ℕ → List ℕ → List ℕ → Bool
+fitting n leads trails bits =
+    leb 1 (length leads) && eqb (length trails) (length leads) && eqb (length bits) (length leads * n)
+
+-- each pad of a list is in range
+abbrev pub padded : List ℕ → Bool
+padded pads = not (someAbove padMost pads)
+
+-- a plan: refusal 1 for a, b, n or a pad out of range and for lists that do not fit, 3 for more than 1,024 rows or a wave over its limit, 2 for an entry that is no bit
+unfoldable pub sentPlan : ℕ → ℕ → ℕ → List ℕ → List ℕ → List ℕ → List ℕ → Answer ℕ × List ℕ
+sentPlan a b n leads trails bits output =
+    ranged (subcell a && subcell b && rowBits n && fitting n leads trails bits && padded leads && padded trails) output
+    (limited rowsMost (length leads) output
+    (limited entriesMost (length (planWave a b (rowsOf n leads trails bits))) output
+    (entered 1 bits output
+    (lent (planWave a b (rowsOf n leads trails bits)) output))))
+
+-- what each case of the code's answer says
+abbrev pub sentSays : Sent → Answer ℕ
+sentSays (Wave cycles) = given (cycles .0)
+sentSays (Refused refusal) = denied refusal

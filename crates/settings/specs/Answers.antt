@@ -1,0 +1,58 @@
+-- What the judge and the quiet judge answer, for all input (01, "Margins" and refusal 1), and what each case of the code says.
+use Prim.Native.Nat.{ℕ}
+use mathlib.Core.Bool.{Bool, true, false, _&&_}
+use lib.Dec.{leb}
+use Rattle.measure.specs.Choose.{choose}
+use Rattle.measure.specs.Ranges.{subcell, sampling, cycleLength, quiet, padMost}
+use Rattle.measure.specs.Refusals.{Answer, given, refused, denied}
+use Rattle.settings.specs.Margins.{m1, m2, m3, m4, m5, accepted, quietAccepted}
+use Rattle.settings.specs.declared.Margins.{Margins}
+use Rattle.settings.specs.declared.QuietMargins.{QuietMargins}
+use Rattle.settings.specs.declared.Judged.{Judged}
+use Rattle.settings.specs.declared.Judged.the-variants.{Yes, No, Refused}
+use Rattle.settings.specs.declared.QuietJudged.{QuietJudged}
+use Rattle.settings.specs.declared.QuietJudged.the-variants.{Yes as QuietYes, No as QuietNo, Refused as QuietRefused}
+
+-- the margins and yes or no; a "no" has its margins too
+pub record Judgement : Type 0 where
+  pub margins : Margins
+  pub accepts : Bool
+
+-- the same with all five
+pub record QuietJudgement : Type 0 where
+  pub margins : QuietMargins
+  pub accepts : Bool
+
+-- a, b, k, w and r are in range
+abbrev pub inRange : ℕ → ℕ → ℕ → ℕ → ℕ → Bool
+inRange a b k w r = subcell a && subcell b && sampling k && cycleLength w && cycleLength r
+
+-- the judge: refusal 1 where a setting is out of range
+unfoldable pub judgement : ℕ → ℕ → ℕ → ℕ → ℕ → Answer Judgement
+judgement a b k w r =
+    choose (inRange a b k w r)
+    (given (record { margins = record { m1 = m1 a w r; m2 = m2 a k w r; m3 = m3 a b k w r }; accepts = accepted a b k w r }))
+    (refused 1 0)
+
+-- the quiet judge: all five margins
+unfoldable pub quietJudgement : ℕ → ℕ → ℕ → ℕ → ℕ → ℕ → ℕ → Answer QuietJudgement
+quietJudgement a b k w r Q p1 =
+    choose (inRange a b k w r && quiet Q && leb p1 padMost)
+    (given
+    (record {
+      margins = record { m1 = m1 a w r; m2 = m2 a k w r; m3 = m3 a b k w r; m4 = m4 a b Q w r; m5 = m5 p1 Q w r };
+      accepts = quietAccepted a b k w r Q p1;
+    }))
+    (refused 1 0)
+
+-- what each case of the judge's answer says
+abbrev pub judgedSays : Judged → Answer Judgement
+judgedSays (Yes m) = given (record { margins = m; accepts = true })
+judgedSays (No m) = given (record { margins = m; accepts = false })
+judgedSays (Refused refusal) = denied refusal
+
+-- and of the quiet judge's
+abbrev pub quietJudgedSays : QuietJudged → Answer QuietJudgement
+quietJudgedSays (QuietYes m) = given (record { margins = m; accepts = true })
+quietJudgedSays (QuietNo m) = given (record { margins = m; accepts = false })
+quietJudgedSays (QuietRefused refusal) = denied refusal
