@@ -1,4 +1,5 @@
--- A cell: its sample brings a bit, with which the row is full or goes on waiting, and the next mark begins the next cell.
+-- A cell: its sample brings a bit, with which the row is full or goes on waiting, and the next mark begins the next
+-- cell.
 use Prim.Native.Nat.{ℕ, _-_, _*_, _≤_, _<_}
 use mathlib.Core.Path.{_≡_, sym, ap}
 use mathlib.Core.List.{List}
@@ -21,7 +22,8 @@ use Rattle.board.proofs.KeepingLaws.{keeps-of, state-kept}
 pub row-read : (l : List ℕ) (n : ℕ) → Binary l → length l ≡ n → n ≤ 1024 → take n (unpacked 8 (kept l)) ≡ l
 row-read l n b e h = rw (unpacked-packed 8 128 l b (omega arith)) (take-at l (replicate (128 * 8 - length l) 0) n e)
 
-pub row-full : (x : Receiver) (g : Settings) (run read used all : ℕ) (l bytes reads : List ℕ) → Binary l → length l ≡ g .n → g .n ≤ 1024 → kept l ≡ bytes
+pub row-full : (x : Receiver) (g : Settings) (run read used all : ℕ) (l bytes reads : List ℕ) → Binary l
+    → length l ≡ g .n → g .n ≤ 1024 → kept l ≡ bytes
     → movedFrom x g (collected g run read l) used reads ≡ heardSays x g all bytes (Full run used)
 row-full x g run read used all l bytes reads b e h k = rw (eq-eqb (length l) (g .n) e, ← k, row-read l (g .n) b e h)
 
@@ -46,15 +48,20 @@ pub record Marked (g : Settings) (run read found : ℕ) (l bytes : List ℕ) : T
 
 module _ {g : Settings} {run read found : ℕ} {l bytes : List ℕ} (m : Marked g run read found l bytes) where
   marked-valid : Valid g (counting (g .k) read run l)
-  marked-valid = valid-counting g (m .range) run read l (m .below) (m .level) (omega (arith, m .size, m .fewer)) (m .binary)
+  marked-valid =
+      valid-counting g (m .range) run read l (m .below) (m .level) (omega (arith, m .size, m .fewer)) (m .binary)
 
   marked-receiver : keeping g (markedNumbers (g .k) run read found) bytes ≡ receiverOf g (counting (g .k) read run l)
   marked-receiver = rw (← m .size, ← m .same)
 
   pub mark-keeps : Keeps g (markedNumbers (g .k) run read found) bytes
-  mark-keeps = keeps-of g (counting (g .k) read run l) (markedNumbers (g .k) run read found) bytes marked-valid marked-receiver
+  mark-keeps =
+      keeps-of g (counting (g .k) read run l) (markedNumbers (g .k) run read found) bytes marked-valid marked-receiver
 
   pub mark-heard : (x : Receiver) (i : ℕ) (reads : List ℕ)
-      → heardFrom x g (counting (g .k) read run l) i reads ≡ heardFrom x g (stateOf (keeping g (markedNumbers (g .k) run read found) bytes)) i reads
+      → heardFrom x g (counting (g .k) read run l) i reads
+      ≡ heardFrom x g (stateOf (keeping g (markedNumbers (g .k) run read found) bytes)) i reads
   mark-heard x i reads =
-      ap (λ (s : State). heardFrom x g s i reads) (sym (state-kept g (counting (g .k) read run l) (markedNumbers (g .k) run read found) bytes marked-valid marked-receiver))
+      ap (λ (s : State). heardFrom x g s i reads)
+      (sym (state-kept g (counting (g .k) read run l)
+      (markedNumbers (g .k) run read found) bytes marked-valid marked-receiver))

@@ -21,14 +21,16 @@ abbrev pub bitsIn : Numbers → List ℕ → List ℕ
 bitsIn now bytes = take (now .found) (unpacked 8 bytes)
 
 -- numbers and bytes that make the receiver of a well formed state keep it
-pub keeps-of : (g : Settings) (s : State) (now : Numbers) (bytes : List ℕ) → Valid g s → keeping g now bytes ≡ receiverOf g s → Keeps g now bytes
+pub keeps-of : (g : Settings) (s : State) (now : Numbers) (bytes : List ℕ) → Valid g s
+    → keeping g now bytes ≡ receiverOf g s → Keeps g now bytes
 keeps-of g s now bytes v e =
     record {
       well = ap wellFormed e ∙ well-formed-of g s v;
       whole = ap (λ (x : Receiver). receiverOf g (stateOf x)) e ∙ ap (receiverOf g) (state-of-receiver g s v) ∙ sym e;
     }
 
-pub state-kept : (g : Settings) (s : State) (now : Numbers) (bytes : List ℕ) → Valid g s → keeping g now bytes ≡ receiverOf g s → stateOf (keeping g now bytes) ≡ s
+pub state-kept : (g : Settings) (s : State) (now : Numbers) (bytes : List ℕ) → Valid g s
+    → keeping g now bytes ≡ receiverOf g s → stateOf (keeping g now bytes) ≡ s
 state-kept g s now bytes v e = ap stateOf e ∙ state-of-receiver g s v
 
 module _ (g : Settings) (now : Numbers) (bytes : List ℕ) (keeps : Keeps g now bytes) where
@@ -46,20 +48,23 @@ module _ (g : Settings) (now : Numbers) (bytes : List ℕ) (keeps : Keeps g now 
   fits : (m : Mode) → now .mode ≡ m → Fitting m g (now .run) (now .left) (now .found) (now .level)
   fits m e = rw e at (facts (keeping g now bytes) (keeps .well) .fitting)
 
-  kept-as : (s : State) → now .mode ≡ s .mode → now .left ≡ s .left → now .level ≡ s .level → now .run ≡ s .run → bitsIn now bytes ≡ s .bits
+  kept-as : (s : State) → now .mode ≡ s .mode → now .left ≡ s .left → now .level ≡ s .level → now .run ≡ s .run
+      → bitsIn now bytes ≡ s .bits
       → stateOf (keeping g now bytes) ≡ s
   kept-as s m f l r b = rw (m, f, l, r, b)
 
   pub counting-fits : now .mode ≡ Counting → Fitting Counting g (now .run) (now .left) (now .found) (now .level)
   counting-fits m = fits Counting m
 
-  pub counting-kept : now .mode ≡ Counting → stateOf (keeping g now bytes) ≡ counting (now .left) (now .level) (now .run) (bitsIn now bytes)
+  pub counting-kept : now .mode ≡ Counting
+      → stateOf (keeping g now bytes) ≡ counting (now .left) (now .level) (now .run) (bitsIn now bytes)
   counting-kept m = kept-as (counting (now .left) (now .level) (now .run) (bitsIn now bytes)) m refl refl refl refl
 
   pub waiting-fits : now .mode ≡ Waiting → Fitting Waiting g (now .run) (now .left) (now .found) (now .level)
   waiting-fits m = fits Waiting m
 
-  pub waiting-kept : now .mode ≡ Waiting → stateOf (keeping g now bytes) ≡ waiting (now .level) (now .run) (bitsIn now bytes)
+  pub waiting-kept : now .mode ≡ Waiting
+      → stateOf (keeping g now bytes) ≡ waiting (now .level) (now .run) (bitsIn now bytes)
   waiting-kept m = kept-as (waiting (now .level) (now .run) (bitsIn now bytes)) m (fits Waiting m .1) refl refl refl
 
   none-in : now .found ≡ 0 → bitsIn now bytes ≡ []
@@ -68,7 +73,8 @@ module _ (g : Settings) (now : Numbers) (bytes : List ℕ) (keeps : Keeps g now 
   none-kept : now .found ≡ 0 → kept [] ≡ bytes
   none-kept e = rw (none-in e) at kept-bytes
 
-  pub hunting-kept : now .mode ≡ Hunting → (stateOf (keeping g now bytes) ≡ hunting (now .run)) × (kept [] ≡ bytes) × (now .run < g .Q)
+  pub hunting-kept : now .mode ≡ Hunting
+      → (stateOf (keeping g now bytes) ≡ hunting (now .run)) × (kept [] ≡ bytes) × (now .run < g .Q)
   hunting-kept m =
       let f = fits Hunting m in
       (kept-as (hunting (now .run)) m (f .1) (f .3) refl (none-in (f .2)), none-kept (f .2), f .0)
@@ -80,10 +86,13 @@ module _ (g : Settings) (now : Numbers) (bytes : List ℕ) (keeps : Keeps g now 
 
   -- where there is room for a bit, its place holds 0
   pub kept-room : now .found < 1024 → getD bytes (now .found / 8) 0 < 2 ^ (now .found % 8)
-  kept-room h = rw (kept-bytes, kept-length) at (room-for-one (bitsIn now bytes) (kept-valid .binary) (omega (arith, kept-length)))
+  kept-room h =
+      rw (kept-bytes, kept-length) at
+      (room-for-one (bitsIn now bytes) (kept-valid .binary) (omega (arith, kept-length)))
 
   pub kept-more : (v : ℕ) → now .found < 1024
-      → kept (bitsIn now bytes ++ v ∷ []) ≡ set bytes (now .found / 8) (getD bytes (now .found / 8) 0 + v * 2 ^ (now .found % 8))
+      → kept (bitsIn now bytes ++ v ∷ [])
+      ≡ set bytes (now .found / 8) (getD bytes (now .found / 8) 0 + v * 2 ^ (now .found % 8))
   kept-more v h = rw (kept-bytes, kept-length) at (one-more (bitsIn now bytes) v (omega (arith, kept-length)))
 
   pub more-length : (v : ℕ) → length (bitsIn now bytes ++ v ∷ []) ≡ now .found + 1

@@ -1,4 +1,5 @@
--- The outcome of a list of reads, which is stated by its reports, is the outcome read by read: each read is passed, reported, or no level.
+-- The outcome of a list of reads, which is stated by its reports, is the outcome read by read: each read is passed,
+-- reported, or no level.
 use Prim.Native.Nat.{ℕ, suc, _+_, _-_, _≤_}
 use mathlib.Core.Path.{_≡_, refl, sym, _∙_, ap}
 use mathlib.Core.List.{List, [], _∷_}
@@ -22,25 +23,32 @@ use Rattle.board.specs.Answers.{Outcome, reached, refusing, levelsOf, si
 use Rattle.board.specs.Listening.{heardFrom, onward}
 use Rattle.board.proofs.FeedingLaws.{used-least}
 
--- the outcome by reports: whether some read is no level and where the first of those stands, the reads before it, the first at this place, and their reports
+-- the outcome by reports: whether some read is no level and where the first of those stands, the reads before it, the
+-- first at this place, and their reports
 abbrev byReports : Receiver → Settings → State → ℕ → Bool → ℕ → List ℕ → List Report → Outcome × ℕ
 byReports x g s place bad at levels told =
-    choose (bad && silent told) (refusing x 2 at, 0)
-    (reached g (after g s (take (usedOf told (place + length levels) - place) levels)) (firstEvent told), usedOf told (place + length levels))
+    choose (bad && silent told) (refusing x 2 at, 0) (
+      reached g (after g s (take (usedOf told (place + length levels) - place) levels)) (firstEvent told),
+      usedOf told (place + length levels),
+    )
 
 -- a read that brings nothing is passed
-passed : (x : Receiver) (g : Settings) (s : State) (place : ℕ) (bad : Bool) (f read : ℕ) (levels : List ℕ) (told : List Report)
+passed : (x : Receiver) (g : Settings) (s : State) (place : ℕ) (bad : Bool) (f read : ℕ) (levels : List ℕ)
+    (told : List Report)
     → suc place ≤ usedOf told (suc place + length levels)
-    → byReports x g s place bad (place + suc f) (read ∷ levels) told ≡ byReports x g (next g s read .state) (suc place) bad (suc place + f) levels told
+    → byReports x g s place bad (place + suc f) (read ∷ levels) told
+    ≡ byReports x g (next g s read .state) (suc place) bad (suc place + f) levels told
 unfolding afterBy
 passed x g s place bad f read levels told h =
     let at : place + suc f ≡ suc place + f = omega arith in
     let all : place + suc (length levels) ≡ suc place + length levels = omega arith in
-    let part : usedOf told (suc place + length levels) - place ≡ suc (usedOf told (suc place + length levels) - suc place) = omega arith in
+    let part : usedOf told (suc place + length levels) - place
+    ≡ suc (usedOf told (suc place + length levels) - suc place) = omega arith in
     rw (at, all, part) refl
 
 pub by-reads : (x : Receiver) (g : Settings) (s : State) (place : ℕ) (reads : List ℕ)
-    → byReports x g s place (someAbove 1 reads) (place + firstAbove 1 reads) (levelsOf reads) (reports g s place (levelsOf reads)) ≡ heardFrom x g s place reads
+    → byReports x g s place (someAbove 1 reads) (place + firstAbove 1 reads) (levelsOf reads)
+    (reports g s place (levelsOf reads)) ≡ heardFrom x g s place reads
 unfolding firstAbove afterBy reportsBy heardFrom
 by-reads x g s place [] = let e : place + 0 ≡ place = omega arith in rw (take-nil (place + 0 - place), e)
 by-reads x g s place (read ∷ reads) = go (decLe read 1) (by-reads x g (next g s read .state) (suc place) reads)
@@ -52,24 +60,34 @@ by-reads x g s place (read ∷ reads) = go (decLe read 1) (by-reads x g (next g 
     rest = reports g (next g s read .state) (suc place) (take f reads)
 
     came : (event : Event)
-        → byReports x g (next g s read .state) (suc place) (someAbove 1 reads) (suc place + f) (take f reads) rest ≡ heardFrom x g (next g s read .state) (suc place) reads
+        → byReports x g (next g s read .state) (suc place) (someAbove 1 reads) (suc place + f) (take f reads) rest
+        ≡ heardFrom x g (next g s read .state) (suc place) reads
         → byReports x g s place (someAbove 1 reads) (place + suc f) (read ∷ take f reads) (noted place event rest)
         ≡ onward g (next g s read .state) event (suc place) (heardFrom x g (next g s read .state) (suc place) reads)
-    came nothing h = passed x g s place (someAbove 1 reads) f read (take f reads) rest (used-least (next g) (next g s read .state) (suc place) (take f reads)) ∙ h
-    came (row bits) h = let e : place + 1 - place ≡ 1 = omega arith in rw (and-false (someAbove 1 reads), e, add-one place) refl
-    came (broken found) h = let e : place + 1 - place ≡ 1 = omega arith in rw (and-false (someAbove 1 reads), e, add-one place) refl
+    came nothing h =
+        passed x g s place (someAbove 1 reads) f read (take f reads) rest
+        (used-least (next g) (next g s read .state) (suc place) (take f reads)) ∙ h
+    came (row bits) h = let e : place + 1 - place ≡ 1 = omega arith in
+        rw (and-false (someAbove 1 reads), e, add-one place) refl
+    came (broken found) h = let e : place + 1 - place ≡ 1 = omega arith in
+        rw (and-false (someAbove 1 reads), e, add-one place) refl
 
     go : Dec (read ≤ 1)
-        → byReports x g (next g s read .state) (suc place) (someAbove 1 reads) (suc place + f) (take f reads) rest ≡ heardFrom x g (next g s read .state) (suc place) reads
-        → byReports x g s place (someAbove 1 (read ∷ reads)) (place + firstAbove 1 (read ∷ reads)) (levelsOf (read ∷ reads)) (reports g s place (levelsOf (read ∷ reads)))
-        ≡ choose (leb read 1) (onward g (next g s read .state) (next g s read .event) (suc place) (heardFrom x g (next g s read .state) (suc place) reads)) (refusing x 2 place, 0)
+        → byReports x g (next g s read .state) (suc place) (someAbove 1 reads) (suc place + f) (take f reads) rest
+        ≡ heardFrom x g (next g s read .state) (suc place) reads
+        → byReports x g s place (someAbove 1 (read ∷ reads)) (place + firstAbove 1 (read ∷ reads))
+        (levelsOf (read ∷ reads)) (reports g s place (levelsOf (read ∷ reads)))
+        ≡ choose (leb read 1)
+        (onward g (next g s read .state) (next g s read .event) (suc place)
+        (heardFrom x g (next g s read .state) (suc place) reads)) (refusing x 2 place, 0)
     go (yes p) h = rw (le-leb read 1 p, leb·suc-suc (suc f) (length reads)) (came (next g s read .event) h)
     go (no p) h =
         let e : place + 0 ≡ place = omega arith in
         rw (lt-leb read 1 (omega arith), lt-ltb 0 (suc (length reads)) (omega arith), e) refl
 
 from-first : (x : Receiver) (g : Settings) (s : State) (bad : Bool) (f : ℕ) (levels : List ℕ) (told : List Report)
-    → byReports x g s 0 bad (0 + f) levels told ≡ choose (bad && silent told) (refusing x 2 f, 0) (toEvent g s levels told)
+    → byReports x g s 0 bad (0 + f) levels told
+    ≡ choose (bad && silent told) (refusing x 2 f, 0) (toEvent g s levels told)
 from-first x g s bad f levels told =
     let at : 0 + f ≡ f = omega arith in
     let all : 0 + length levels ≡ length levels = omega arith in
@@ -79,23 +97,31 @@ from-first x g s bad f levels told =
 -- the outcome of the slice method, read by read
 pub listened-is : (x : Receiver) (reads : List ℕ)
     → listened x reads
-    ≡ choose (wellFormed x) (choose (ltb entriesMost (length reads)) (refusing x 3 0, 0) (heardFrom x (settingsOf x) (stateOf x) 0 reads)) (refusing x 1 0, 0)
+    ≡ choose (wellFormed x)
+    (choose (ltb entriesMost (length reads)) (refusing x 3 0, 0) (heardFrom x (settingsOf x) (stateOf x) 0 reads))
+    (refusing x 1 0, 0)
 unfolding listened
 listened-is x reads =
-    ap (λ (heard : Outcome × ℕ). choose (wellFormed x) (choose (ltb entriesMost (length reads)) (refusing x 3 0, 0) heard) (refusing x 1 0, 0))
+    ap (λ (heard : Outcome × ℕ). choose (wellFormed x)
+    (choose (ltb entriesMost (length reads)) (refusing x 3 0, 0) heard) (refusing x 1 0, 0))
     (sym
-    (from-first x (settingsOf x) (stateOf x) (someAbove 1 reads) (firstAbove 1 reads) (levelsOf reads) (reports (settingsOf x) (stateOf x) 0 (levelsOf reads)))
+    (from-first x (settingsOf x) (stateOf x) (someAbove 1 reads) (firstAbove 1 reads) (levelsOf reads)
+    (reports (settingsOf x) (stateOf x) 0 (levelsOf reads)))
     ∙ by-reads x (settingsOf x) (stateOf x) 0 reads)
 
 -- the outcome of the method for one read
 pub stepped-is : (x : Receiver) (read : ℕ)
     → stepped x read ≡ choose (wellFormed x) (heardFrom x (settingsOf x) (stateOf x) 0 (read ∷ []) .0) (refusing x 1 0)
 unfolding stepped heardFrom
-stepped-is x read = go (wellFormed x) (leb read 1) (next (settingsOf x) (stateOf x) read .state) (next (settingsOf x) (stateOf x) read .event)
+stepped-is x read =
+    go (wellFormed x) (leb read 1) (next (settingsOf x) (stateOf x) read .state)
+    (next (settingsOf x) (stateOf x) read .event)
   where
     go : (well level : Bool) (s : State) (event : Event)
         → choose well (choose level (reached (settingsOf x) s event) (refusing x 2 0)) (refusing x 1 0)
-        ≡ choose well ((choose level (onward (settingsOf x) s event 1 (reached (settingsOf x) s nothing, 1)) (refusing x 2 0, 0)) .0) (refusing x 1 0)
+        ≡ choose well
+        ((choose level (onward (settingsOf x) s event 1 (reached (settingsOf x) s nothing, 1))
+        (refusing x 2 0, 0)) .0) (refusing x 1 0)
     go true true s nothing = refl
     go true true s (row bits) = refl
     go true true s (broken found) = refl

@@ -1,11 +1,13 @@
--- Bits in words, at every width and for any number of words: a word's binary digits and the bits that it was made of are the same list, so packing and unpacking undo each other.
+-- Bits in words, at every width and for any number of words: a word's binary digits and the bits that it was made of
+-- are the same list, so packing and unpacking undo each other.
 use Prim.Native.Nat.{ℕ, zero, suc, _+_, _-_, _*_, _/_, _%_, _^_, _≤_, _<_}
 use mathlib.Core.Path.{_≡_, refl, sym, _∙_, ap}
 use mathlib.Core.List.{List, [], _∷_, _++_, append-nil, append-assoc}
 use native.Mathlib.Nat.{mul-left-comm, pow-succ', mul-one, zero-mul, suc-mul}
 use native.Mathlib.Omega.{arith}
 use native.Mathlib.Decide.{decLt}
-use lib.ListN.{length, getD, take, drop, set, replicate, length-append, length-drop, drop-of-length-le, take-append-drop, replicate-append-replicate}
+use lib.ListN.{length, getD, take, drop, set, replicate, length-append, length-drop, drop-of-length-le}
+use lib.ListN.{take-append-drop, replicate-append-replicate}
 use lib.Pow.{pow-pos}
 use lib.Seq.{drop-at, drop-append-le, getD-drop, take-all, take-nil}
 use Rattle.board.specs.Packed.{number, digits, packed, unpacked}
@@ -52,7 +54,8 @@ digits-binary (suc w) x (suc i) = digits-binary w (x / 2) i
 pub unpacked-binary : (w : ℕ) (words : List ℕ) → Binary (unpacked w words)
 unfolding unpacked
 unpacked-binary w [] i = omega arith
-unpacked-binary w (x ∷ words) i = binary-append (digits w x) (unpacked w words) (digits-binary w x) (unpacked-binary w words) i
+unpacked-binary w (x ∷ words) i =
+    binary-append (digits w x) (unpacked w words) (digits-binary w x) (unpacked-binary w words) i
 
 -- lengths
 
@@ -70,7 +73,13 @@ pub length-unpacked : (w : ℕ) (words : List ℕ) → length (unpacked w words)
 unfolding unpacked
 length-unpacked w [] = sym (zero-mul w)
 length-unpacked w (x ∷ words) =
-    omega (arith, length-append (digits w x) (unpacked w words), length-digits w x, length-unpacked w words, suc-mul (length words) w)
+    omega (
+      arith,
+      length-append (digits w x) (unpacked w words),
+      length-digits w x,
+      length-unpacked w words,
+      suc-mul (length words) w,
+    )
 
 -- one word
 
@@ -135,7 +144,8 @@ unfolding packed
 packed-snoc w zero l v q r e hr hq = refl
 packed-snoc w (suc m) l v zero r e hr hq =
     let z : length l ≡ r = omega (arith, zero-mul w) in
-    let a : drop w (l ++ v ∷ []) ≡ [] = drop-of-length-le (l ++ v ∷ []) {i = w} (omega (arith, length-append l (v ∷ []))) in
+    let a : drop w (l ++ v ∷ []) ≡ [] =
+    drop-of-length-le (l ++ v ∷ []) {i = w} (omega (arith, length-append l (v ∷ []))) in
     let b : drop w l ≡ [] = drop-of-length-le l {i = w} (omega arith) in
     rw (number-snoc w l v (omega arith), a, b, z)
 packed-snoc w (suc m) l v (suc q) r e hr hq =
@@ -153,7 +163,8 @@ number-low zero l b = pow-pos (length l)
 number-low (suc w) [] b = omega arith
 number-low (suc w) (x ∷ l) b = omega (arith, pow-succ' 2 (length l), b 0, number-low w l (λ i. b (suc i)))
 
-pub packed-low : (w m : ℕ) (l : List ℕ) (q r : ℕ) → Binary l → length l ≡ q * w + r → r < w → q < m → getD (packed w m l) q 0 < 2 ^ r
+pub packed-low : (w m : ℕ) (l : List ℕ) (q r : ℕ) → Binary l → length l ≡ q * w + r → r < w → q < m
+    → getD (packed w m l) q 0 < 2 ^ r
 unfolding packed
 packed-low w zero l q r b e hr hq = absurd (omega arith)
 packed-low w (suc m) l zero r b e hr hq = let z : length l ≡ r = omega (arith, zero-mul w) in rw z at (number-low w l b)
@@ -173,10 +184,14 @@ pub packed-cong : (w m : ℕ) (l t : List ℕ) → ((i : ℕ) → getD l i 0 ≡
 unfolding packed
 packed-cong w zero l t h = refl
 packed-cong w (suc m) l t h =
-    rw (number-cong w l t h, packed-cong w m (drop w l) (drop w t) (λ i. getD-drop w l i 0 ∙ h (w + i) ∙ sym (getD-drop w t i 0)))
+    rw (
+      number-cong w l t h,
+      packed-cong w m (drop w l) (drop w t) (λ i. getD-drop w l i 0 ∙ h (w + i) ∙ sym (getD-drop w t i 0)),
+    )
 
 -- words, unpacked and packed again, are the same words
-pub packed-unpacked : (w m : ℕ) (words : List ℕ) → length words ≡ m → Words w words → packed w m (unpacked w words) ≡ words
+pub packed-unpacked : (w m : ℕ) (words : List ℕ) → length words ≡ m → Words w words
+    → packed w m (unpacked w words) ≡ words
 unfolding packed unpacked
 packed-unpacked w zero [] e h = refl
 packed-unpacked w zero (x ∷ words) e h = absurd (omega arith)
@@ -192,14 +207,21 @@ zeros-join : (l : List ℕ) (a b n : ℕ) → a + b ≡ n → l ++ replicate a 0
 zeros-join l a b n e = append-assoc l (replicate a 0) (replicate b 0) ∙ rw (replicate-append-replicate {A = ℕ} a b 0, e)
 
 -- bits, packed and unpacked again, are the same bits, and 0 in every place after them
-pub unpacked-packed : (w m : ℕ) (l : List ℕ) → Binary l → length l ≤ m * w → unpacked w (packed w m l) ≡ l ++ replicate (m * w - length l) 0
+pub unpacked-packed : (w m : ℕ) (l : List ℕ) → Binary l → length l ≤ m * w
+    → unpacked w (packed w m l) ≡ l ++ replicate (m * w - length l) 0
 unfolding packed unpacked
 unpacked-packed w zero [] b h = let e : 0 * w - 0 ≡ 0 = omega (arith, zero-mul w) in rw e
 unpacked-packed w zero (x ∷ l) b h = absurd (omega (arith, zero-mul w))
 unpacked-packed w (suc m) l b h =
-    rw (digits-number w l b, unpacked-packed w m (drop w l) (binary-drop w l b) (omega (arith, length-drop w l, suc-mul m w)), length-drop w l) (go (decLt (length l) w))
+    rw (
+      digits-number w l b,
+      unpacked-packed w m (drop w l) (binary-drop w l b) (omega (arith, length-drop w l, suc-mul m w)),
+      length-drop w l,
+    ) (go (decLt (length l) w))
   where
-    go : Dec (length l < w) → take w l ++ replicate (w - length l) 0 ++ (drop w l ++ replicate (m * w - (length l - w)) 0) ≡ l ++ replicate (suc m * w - length l) 0
+    go : Dec (length l < w)
+        → take w l ++ replicate (w - length l) 0 ++ (drop w l ++ replicate (m * w - (length l - w)) 0) ≡ l
+        ++ replicate (suc m * w - length l) 0
     go (yes p) =
         let e : length l - w ≡ 0 = omega arith in
         let f : m * w - 0 ≡ m * w = omega arith in

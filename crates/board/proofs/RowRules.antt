@@ -11,7 +11,8 @@ use Rattle.measure.specs.Choose.{choose}
 use Rattle.measure.specs.Cells.{bitOf}
 use Rattle.board.specs.declared.Mode.{Mode}
 use Rattle.board.specs.declared.Mode.the-variants.{Hunting, Ready, Counting, Waiting}
-use Rattle.board.specs.Rows.{Settings, State, Moved, runAfter, hunting, ready, counting, waiting, fresh, collected, listening, next}
+use Rattle.board.specs.Rows.{Settings, State, Moved, runAfter, hunting, ready, counting, waiting, fresh}
+use Rattle.board.specs.Rows.{collected, listening, next}
 use Rattle.board.proofs.PackedBits.{Binary, binary-none, binary-snoc}
 
 -- the settings are in range
@@ -57,7 +58,8 @@ bit-most mark sample = go (eqb sample mark)
     go false = omega arith
 
 -- a choice between two moves that each lead to a well formed state
-chosen : (g : Settings) (b : Bool) (m d : Moved) → (b ≡ true → Valid g (m .state)) → (b ≡ false → Valid g (d .state)) → Valid g (choose b m d .state)
+chosen : (g : Settings) (b : Bool) (m d : Moved) → (b ≡ true → Valid g (m .state)) → (b ≡ false → Valid g (d .state))
+    → Valid g (choose b m d .state)
 chosen g true m d f h = f refl
 chosen g false m d f h = h refl
 
@@ -71,21 +73,28 @@ module _ (g : Settings) (r : Ranged g) where
   pub valid-ready : Valid g (ready (g .Q))
   valid-ready = record { range = r; fitting = (refl, refl, refl, refl); binary = binary-none }
 
-  pub valid-counting : (run read : ℕ) (bits : List ℕ) → run < g .Q → read ≤ 1 → length bits < g .n → Binary bits → Valid g (counting (g .k) read run bits)
+  pub valid-counting : (run read : ℕ) (bits : List ℕ) → run < g .Q → read ≤ 1 → length bits < g .n → Binary bits
+      → Valid g (counting (g .k) read run bits)
   valid-counting run read bits h p f b = record { range = r; fitting = (h, r .k-least, omega arith, f, p); binary = b }
 
-  pub valid-waiting : (run read : ℕ) (bits : List ℕ) → run < g .Q → read ≤ 1 → length bits < g .n → Binary bits → Valid g (waiting read run bits)
+  pub valid-waiting : (run read : ℕ) (bits : List ℕ) → run < g .Q → read ≤ 1 → length bits < g .n → Binary bits
+      → Valid g (waiting read run bits)
   valid-waiting run read bits h p f b = record { range = r; fitting = (h, refl, f, p); binary = b }
 
-  valid-collected : (run read : ℕ) (bits : List ℕ) → run < g .Q → read ≤ 1 → length bits ≤ g .n → Binary bits → Valid g (collected g run read bits .state)
+  valid-collected : (run read : ℕ) (bits : List ℕ) → run < g .Q → read ≤ 1 → length bits ≤ g .n → Binary bits
+      → Valid g (collected g run read bits .state)
   valid-collected run read bits h p f b =
       chosen g (eqb (length bits) (g .n)) _ _ (λ e. valid-hunting run h)
       (λ e. let n = eqb-false (length bits) (g .n) e in valid-waiting run read bits h p (omega arith) b)
 
-  valid-listening : (m : Mode) (run left level : ℕ) (bits : List ℕ) (read : ℕ) → Fitting m g run left (length bits) level → Binary bits → read ≤ 1
+  valid-listening : (m : Mode) (run left level : ℕ) (bits : List ℕ) (read : ℕ)
+      → Fitting m g run left (length bits) level → Binary bits → read ≤ 1
       → runAfter (g .Q) run read < g .Q
-      → Valid g (listening m g (record { mode = m; left = left; level = level; run = run; bits = bits }) (runAfter (g .Q) run read) read .state)
-  valid-listening Hunting run left level bits read f b p h = record { range = r; fitting = (h, f .1, f .2, f .3); binary = b }
+      → Valid g
+      (listening m g (record { mode = m; left = left; level = level; run = run; bits = bits })
+      (runAfter (g .Q) run read) read .state)
+  valid-listening Hunting run left level bits read f b p h =
+      record { range = r; fitting = (h, f .1, f .2, f .3); binary = b }
   valid-listening Ready run left level bits read f b p h =
       chosen g (eqb read level) _ _
       (λ e. absurd (omega (arith, run-full (g .Q) run read (f .0) (rw (eqb-true read level e) (f .3)))))
@@ -93,7 +102,8 @@ module _ (g : Settings) (r : Ranged g) where
   valid-listening Counting run left level bits read f b p h =
       chosen g (eqb (left - 1) 0) _ _
       (λ e.
-      valid-collected (runAfter (g .Q) run read) read (bits ++ bitOf level read ∷ []) h p (omega (arith, length-append bits (bitOf level read ∷ [])))
+      valid-collected (runAfter (g .Q) run read) read (bits ++ bitOf level read ∷ []) h p
+      (omega (arith, length-append bits (bitOf level read ∷ [])))
       (binary-snoc bits (bitOf level read) b (bit-most level read)))
       (λ e.
       let n = eqb-false (left - 1) 0 e in

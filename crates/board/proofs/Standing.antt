@@ -1,4 +1,5 @@
--- A receiver stands for a state: well formed, each is had back from the other, since packing and unpacking undo each other.
+-- A receiver stands for a state: well formed, each is had back from the other, since packing and unpacking undo each
+-- other.
 use Prim.Native.Nat.{ℕ, _+_, _-_, _*_, _/_, _%_, _^_, _≤_, _<_}
 use mathlib.Core.Path.{_≡_, refl, sym, _∙_}
 use mathlib.Core.List.{List, [], _∷_, _++_}
@@ -17,7 +18,8 @@ use Rattle.board.specs.declared.Receiver.{Receiver}
 use Rattle.board.specs.Rows.{Settings, State}
 use Rattle.board.specs.Packed.{unpacked, kept, settingsOf, stateOf, receiverOf}
 use Rattle.board.specs.WellFormed.{runFits, leftFits, foundFits, levelFits, unusedZero, wellFormed}
-use Rattle.board.proofs.PackedBits.{Binary, Words, binary-take, unpacked-binary, length-unpacked, packed-snoc, packed-low, packed-cong, packed-unpacked, unpacked-packed}
+use Rattle.board.proofs.PackedBits.{Binary, Words, binary-take, unpacked-binary, length-unpacked, packed-snoc}
+use Rattle.board.proofs.PackedBits.{packed-low, packed-cong, packed-unpacked, unpacked-packed}
 use Rattle.board.proofs.UnusedBits.{and-left, and-right, zero-at, unused-packed}
 use Rattle.board.proofs.RowRules.{Ranged, Fitting, Valid}
 
@@ -49,39 +51,55 @@ of-ranged g r =
 -- the four tests of the numbers, in the order of the definition
 abbrev Numbered : Mode → Settings → ℕ → ℕ → ℕ → ℕ → Type 0
 Numbered m g run left found level =
-    (runFits m run (g .Q) ≡ true) × (leftFits m left (g .k) ≡ true) × (foundFits m found (g .n) ≡ true) × (levelFits m level ≡ true)
+    (runFits m run (g .Q) ≡ true) × (leftFits m left (g .k) ≡ true) × (foundFits m found (g .n) ≡ true)
+    × (levelFits m level ≡ true)
 
-fitting-of : (m : Mode) (g : Settings) (run left found level : ℕ) → Numbered m g run left found level → Fitting m g run left found level
-fitting-of Hunting g run left found level h = (ltb-true run (g .Q) (h .0), eqb-true left 0 (h .1), eqb-true found 0 (h .2), eqb-true level 1 (h .3))
-fitting-of Ready g run left found level h = (eqb-true run (g .Q) (h .0), eqb-true left 0 (h .1), eqb-true found 0 (h .2), eqb-true level 1 (h .3))
+fitting-of : (m : Mode) (g : Settings) (run left found level : ℕ) → Numbered m g run left found level
+    → Fitting m g run left found level
+fitting-of Hunting g run left found level h =
+    (ltb-true run (g .Q) (h .0), eqb-true left 0 (h .1), eqb-true found 0 (h .2), eqb-true level 1 (h .3))
+fitting-of Ready g run left found level h =
+    (eqb-true run (g .Q) (h .0), eqb-true left 0 (h .1), eqb-true found 0 (h .2), eqb-true level 1 (h .3))
 fitting-of Counting g run left found level h =
     let b = between-both 1 (g .k) left (h .1) in
     (ltb-true run (g .Q) (h .0), b .0, b .1, ltb-true found (g .n) (h .2), leb-true level 1 (h .3))
-fitting-of Waiting g run left found level h = (ltb-true run (g .Q) (h .0), eqb-true left 0 (h .1), ltb-true found (g .n) (h .2), leb-true level 1 (h .3))
+fitting-of Waiting g run left found level h =
+    (ltb-true run (g .Q) (h .0), eqb-true left 0 (h .1), ltb-true found (g .n) (h .2), leb-true level 1 (h .3))
 
-of-fitting : (m : Mode) (g : Settings) (run left found level : ℕ) → Fitting m g run left found level → Numbered m g run left found level
-of-fitting Hunting g run left found level h = (lt-ltb run (g .Q) (h .0), eq-eqb left 0 (h .1), eq-eqb found 0 (h .2), eq-eqb level 1 (h .3))
-of-fitting Ready g run left found level h = (eq-eqb run (g .Q) (h .0), eq-eqb left 0 (h .1), eq-eqb found 0 (h .2), eq-eqb level 1 (h .3))
-of-fitting Counting g run left found level h =
-    (lt-ltb run (g .Q) (h .0), both-between 1 (g .k) left (h .1) (h .2), lt-ltb found (g .n) (h .3), le-leb level 1 (h .4))
-of-fitting Waiting g run left found level h = (lt-ltb run (g .Q) (h .0), eq-eqb left 0 (h .1), lt-ltb found (g .n) (h .2), le-leb level 1 (h .3))
+of-fitting : (m : Mode) (g : Settings) (run left found level : ℕ) → Fitting m g run left found level
+    → Numbered m g run left found level
+of-fitting Hunting g run left found level h =
+    (lt-ltb run (g .Q) (h .0), eq-eqb left 0 (h .1), eq-eqb found 0 (h .2), eq-eqb level 1 (h .3))
+of-fitting Ready g run left found level h =
+    (eq-eqb run (g .Q) (h .0), eq-eqb left 0 (h .1), eq-eqb found 0 (h .2), eq-eqb level 1 (h .3))
+of-fitting Counting g run left found level h = (
+  lt-ltb run (g .Q) (h .0),
+  both-between 1 (g .k) left (h .1) (h .2),
+  lt-ltb found (g .n) (h .3),
+  le-leb level 1 (h .4),
+)
+of-fitting Waiting g run left found level h =
+    (lt-ltb run (g .Q) (h .0), eq-eqb left 0 (h .1), lt-ltb found (g .n) (h .2), le-leb level 1 (h .3))
 
 -- fewer bits fit as well
-fitting-fewer : (m : Mode) (g : Settings) (run left found fewer level : ℕ) → fewer ≤ found → Fitting m g run left found level → Fitting m g run left fewer level
+fitting-fewer : (m : Mode) (g : Settings) (run left found fewer level : ℕ) → fewer ≤ found
+    → Fitting m g run left found level → Fitting m g run left fewer level
 fitting-fewer Hunting g run left found fewer level p h = (h .0, h .1, omega arith, h .3)
 fitting-fewer Ready g run left found fewer level p h = (h .0, h .1, omega arith, h .3)
 fitting-fewer Counting g run left found fewer level p h = (h .0, h .1, h .2, omega arith, h .4)
 fitting-fewer Waiting g run left found fewer level p h = (h .0, h .1, omega arith, h .3)
 
 -- the bits found are fewer than a row's most
-found-most : (m : Mode) (g : Settings) (run left found level : ℕ) → Ranged g → Fitting m g run left found level → found < 1024
+found-most : (m : Mode) (g : Settings) (run left found level : ℕ) → Ranged g → Fitting m g run left found level
+    → found < 1024
 found-most Hunting g run left found level r h = omega arith
 found-most Ready g run left found level r h = omega arith
 found-most Counting g run left found level r h = omega (arith, r .n-most)
 found-most Waiting g run left found level r h = omega (arith, r .n-most)
 
 -- by the tests alone
-pub found-fits-most : (m : Mode) (k n Q found : ℕ) → settingsFit k n Q ≡ true → foundFits m found n ≡ true → found < 1024
+pub found-fits-most : (m : Mode) (k n Q found : ℕ) → settingsFit k n Q ≡ true → foundFits m found n ≡ true
+    → found < 1024
 found-fits-most m k n Q found s f = go m f
   where
     r : Ranged (record { k = k; n = n; Q = Q })
@@ -114,13 +132,18 @@ facts x h =
     record {
       range = ranged-of (settingsOf x) (and-left s r two);
       fitting =
-          fitting-of (x .mode) (settingsOf x) (x .run .0) (x .left .0) (x .found) (x .level)
-          (and-right s r two, and-right (s && r) l three, and-right (s && r && l) f four, and-right (s && r && l && f) v five);
+          fitting-of (x .mode) (settingsOf x) (x .run .0) (x .left .0) (x .found) (x .level) (
+            and-right s r two,
+            and-right (s && r) l three,
+            and-right (s && r && l) f four,
+            and-right (s && r && l && f) v five,
+          );
       unused = and-right (s && r && l && f && v) (unusedZero (x .found) (x .bits)) h;
     }
 
 pub found-below : (x : Receiver) → Facts x → x .found < 1024
-found-below x h = found-most (x .mode) (settingsOf x) (x .run .0) (x .left .0) (x .found) (x .level) (h .range) (h .fitting)
+found-below x h =
+    found-most (x .mode) (settingsOf x) (x .run .0) (x .left .0) (x .found) (x .level) (h .range) (h .fitting)
 
 -- the state of a well formed receiver is well formed
 pub valid-of : (x : Receiver) → wellFormed x ≡ true → Valid (settingsOf x) (stateOf x)
@@ -129,7 +152,8 @@ valid-of x h =
     record {
       range = f .range;
       fitting =
-          fitting-fewer (x .mode) (settingsOf x) (x .run .0) (x .left .0) (x .found) (length (take (x .found) (unpacked 8 (x .bits)))) (x .level)
+          fitting-fewer (x .mode) (settingsOf x) (x .run .0) (x .left .0) (x .found)
+          (length (take (x .found) (unpacked 8 (x .bits)))) (x .level)
           (omega (arith, length-take (x .found) (unpacked 8 (x .bits)))) (f .fitting);
       binary = binary-take (x .found) (unpacked 8 (x .bits)) (unpacked-binary 8 (x .bits));
     }
@@ -138,13 +162,20 @@ valid-of x h =
 
 module _ (x : Receiver) (long : length (x .bits) ≡ 128) (bytes : Words 8 (x .bits)) (h : wellFormed x ≡ true) where
   pub found-is : length (take (x .found) (unpacked 8 (x .bits))) ≡ x .found
-  found-is = omega (arith, length-take (x .found) (unpacked 8 (x .bits)), length-unpacked 8 (x .bits), found-below x (facts x h))
+  found-is =
+      omega (
+        arith,
+        length-take (x .found) (unpacked 8 (x .bits)),
+        length-unpacked 8 (x .bits),
+        found-below x (facts x h),
+      )
 
   unused-at : (i : ℕ) → x .found ≤ i → getD (unpacked 8 (x .bits)) i 0 ≡ 0
   unfolding unusedZero
   unused-at i p =
       let e : x .found + (i - x .found) ≡ i = omega arith in
-      rw e at (sym (getD-drop (x .found) (unpacked 8 (x .bits)) (i - x .found) 0) ∙ zero-at (drop (x .found) (unpacked 8 (x .bits))) (i - x .found) (facts x h .unused))
+      rw e at (sym (getD-drop (x .found) (unpacked 8 (x .bits)) (i - x .found) 0)
+      ∙ zero-at (drop (x .found) (unpacked 8 (x .bits))) (i - x .found) (facts x h .unused))
 
   taken-at : (i : ℕ) → getD (take (x .found) (unpacked 8 (x .bits))) i 0 ≡ getD (unpacked 8 (x .bits)) i 0
   taken-at i = go (decLt i (x .found))
@@ -152,10 +183,12 @@ module _ (x : Receiver) (long : length (x .bits) ≡ 128) (bytes : Words 8 (x .b
       go : Dec (i < x .found) → getD (take (x .found) (unpacked 8 (x .bits))) i 0 ≡ getD (unpacked 8 (x .bits)) i 0
       go (yes p) = getD-take (x .found) (unpacked 8 (x .bits)) i 0 p
       go (no p) =
-          List·getD-eq-default (take (x .found) (unpacked 8 (x .bits))) 0 {n = i} (omega (arith, found-is)) ∙ sym (unused-at i (omega arith))
+          List·getD-eq-default (take (x .found) (unpacked 8 (x .bits))) 0 {n = i} (omega (arith, found-is))
+          ∙ sym (unused-at i (omega arith))
 
   pub bits-are : kept (take (x .found) (unpacked 8 (x .bits))) ≡ x .bits
-  bits-are = packed-cong 8 128 (take (x .found) (unpacked 8 (x .bits))) (unpacked 8 (x .bits)) taken-at ∙ packed-unpacked 8 128 (x .bits) long bytes
+  bits-are = packed-cong 8 128 (take (x .found) (unpacked 8 (x .bits))) (unpacked 8 (x .bits)) taken-at
+      ∙ packed-unpacked 8 128 (x .bits) long bytes
 
   pub receiver-of-state : receiverOf (settingsOf x) (stateOf x) ≡ x
   receiver-of-state = rw (found-is, bits-are)
@@ -168,19 +201,33 @@ module _ (g : Settings) (s : State) (v : Valid g s) where
 
   pub state-of-receiver : stateOf (receiverOf g s) ≡ s
   state-of-receiver =
-      rw (unpacked-packed 8 128 (s .bits) (v .binary) (omega (arith, bits-below)), take-at (s .bits) (replicate (128 * 8 - length (s .bits)) 0) (length (s .bits)) refl)
+      rw (
+        unpacked-packed 8 128 (s .bits) (v .binary) (omega (arith, bits-below)),
+        take-at (s .bits) (replicate (128 * 8 - length (s .bits)) 0) (length (s .bits)) refl,
+      )
 
   pub well-formed-of : wellFormed (receiverOf g s) ≡ true
   unfolding wellFormed unusedZero
   well-formed-of =
       let n = of-fitting (s .mode) g (s .run) (s .left) (length (s .bits)) (s .level) (v .fitting) in
-      simp (of-ranged g (v .range), n .0, n .1, n .2, n .3, unused-packed 8 128 (s .bits) (v .binary) (omega (arith, bits-below)))
+      simp (
+        of-ranged g (v .range),
+        n .0,
+        n .1,
+        n .2,
+        n .3,
+        unused-packed 8 128 (s .bits) (v .binary) (omega (arith, bits-below)),
+      )
 
 -- one bit more
 
 pub one-more : (bits : List ℕ) (v : ℕ) → length bits < 1024
-    → kept (bits ++ v ∷ []) ≡ set (kept bits) (length bits / 8) (getD (kept bits) (length bits / 8) 0 + v * 2 ^ (length bits % 8))
-one-more bits v h = packed-snoc 8 128 bits v (length bits / 8) (length bits % 8) (omega arith) (omega arith) (omega arith)
+    → kept (bits ++ v ∷ [])
+    ≡ set (kept bits) (length bits / 8) (getD (kept bits) (length bits / 8) 0 + v * 2 ^ (length bits % 8))
+one-more bits v h =
+    packed-snoc 8 128 bits v (length bits / 8) (length bits % 8) (omega arith) (omega arith) (omega arith)
 
-pub room-for-one : (bits : List ℕ) → Binary bits → length bits < 1024 → getD (kept bits) (length bits / 8) 0 < 2 ^ (length bits % 8)
-room-for-one bits b h = packed-low 8 128 bits (length bits / 8) (length bits % 8) b (omega arith) (omega arith) (omega arith)
+pub room-for-one : (bits : List ℕ) → Binary bits → length bits < 1024
+    → getD (kept bits) (length bits / 8) 0 < 2 ^ (length bits % 8)
+room-for-one bits b h =
+    packed-low 8 128 bits (length bits / 8) (length bits % 8) b (omega arith) (omega arith) (omega arith)

@@ -1,4 +1,5 @@
--- The bit places from a place on hold 0 exactly where the word that the place falls in stays below the place's weight and every later word is 0.
+-- The bit places from a place on hold 0 exactly where the word that the place falls in stays below the place's weight
+-- and every later word is 0.
 use Prim.Native.Nat.{ℕ, zero, suc, _+_, _-_, _*_, _/_, _%_, _^_, _≤_, _<_}
 use mathlib.Core.Path.{_≡_, refl, sym, _∙_, ap}
 use mathlib.Core.List.{List, [], _∷_, _++_}
@@ -50,7 +51,8 @@ cleared-next (x ∷ l) zero h = refl
 cleared-next (x ∷ l) (suc i) h = cleared-next l i (omega arith)
 
 -- one entry more is cleared
-pub clear-one : (l : List ℕ) (i : ℕ) → i < length l → set (replicate i 0 ++ drop i l) i 0 ≡ replicate (suc i) 0 ++ drop (suc i) l
+pub clear-one : (l : List ℕ) (i : ℕ) → i < length l
+    → set (replicate i 0 ++ drop i l) i 0 ≡ replicate (suc i) 0 ++ drop (suc i) l
 clear-one [] i h = absurd (omega arith)
 clear-one (x ∷ l) zero h = refl
 clear-one (x ∷ l) (suc i) h = ap (λ (t : List ℕ). 0 ∷ t) (clear-one l i (omega arith))
@@ -61,7 +63,8 @@ unfolding firstAbove
 zero-above [] = refl
 zero-above (x ∷ l) = go (decLe x 0) (zero-above l)
   where
-    go : Dec (x ≤ 0) → allZero l ≡ eqb (firstAbove 0 l) (length l) → allZero (x ∷ l) ≡ eqb (firstAbove 0 (x ∷ l)) (suc (length l))
+    go : Dec (x ≤ 0) → allZero l ≡ eqb (firstAbove 0 l) (length l)
+        → allZero (x ∷ l) ≡ eqb (firstAbove 0 (x ∷ l)) (suc (length l))
     go (yes p) e = rw (le-leb x 0 p, eq-eqb x 0 (omega arith)) (e ∙ sym (eqb·suc-suc (firstAbove 0 l) (length l)))
     go (no p) e = rw (lt-leb x 0 (omega arith), ne-eqb x 0 (λ z. omega arith)) (sym (eqb·zero-suc (length l)))
 
@@ -92,7 +95,8 @@ zero-digits : (w x r : ℕ) → r ≤ w → x < 2 ^ w → allZero (drop r (digit
 unfolding digits
 zero-digits zero x zero hr h = sym (lt-ltb x 1 h)
 zero-digits zero x (suc r) hr h = absurd (omega arith)
-zero-digits (suc w) x zero hr h = rw (zero-digits w (x / 2) zero (omega arith) (omega (arith, pow-succ' 2 w))) (zero-halved x)
+zero-digits (suc w) x zero hr h =
+    rw (zero-digits w (x / 2) zero (omega arith) (omega (arith, pow-succ' 2 w))) (zero-halved x)
 zero-digits (suc w) x (suc r) hr h =
     zero-digits w (x / 2) r (omega arith) (omega (arith, pow-succ' 2 w))
     ∙ same-test (x / 2) (2 ^ r) x (2 ^ suc r) (λ p. omega (arith, pow-succ' 2 r)) (λ p. omega (arith, pow-succ' 2 r))
@@ -120,26 +124,35 @@ unused-words w (x ∷ words) zero r hr hq h =
     )
 unused-words w (x ∷ words) (suc q) r hr hq h =
     let e : suc q * w + r ≡ length (digits w x) + (q * w + r) = omega (arith, suc-mul q w, length-digits w x) in
-    rw (e, drop-append-add (digits w x) (unpacked w words) (q * w + r)) (unused-words w words q r hr (omega arith) (λ i. h (suc i)))
+    rw (e, drop-append-add (digits w x) (unpacked w words) (q * w + r))
+    (unused-words w words q r hr (omega arith) (λ i. h (suc i)))
 
 -- after bits that were packed, every place holds 0
-pub unused-packed : (w m : ℕ) (l : List ℕ) → Binary l → length l ≤ m * w → allZero (drop (length l) (unpacked w (packed w m l))) ≡ true
+pub unused-packed : (w m : ℕ) (l : List ℕ) → Binary l → length l ≤ m * w
+    → allZero (drop (length l) (unpacked w (packed w m l))) ≡ true
 unused-packed w m l b h =
-    rw (unpacked-packed w m l b h, drop-at l (replicate (m * w - length l) 0) (length l) refl) (zero-replicate (m * w - length l))
+    rw (unpacked-packed w m l b h, drop-at l (replicate (m * w - length l) 0) (length l) refl)
+    (zero-replicate (m * w - length l))
 
 -- bytes: a bit too many in the byte in which the next one falls
 
 split-bytes : (bytes : List ℕ) (found : ℕ) → found / 8 < length bytes → Words 8 bytes
-    → unusedZero found bytes ≡ (ltb (getD bytes (found / 8) 0) (2 ^ (found % 8)) && allZero (drop (suc (found / 8)) bytes))
+    → unusedZero found bytes
+    ≡ (ltb (getD bytes (found / 8) 0) (2 ^ (found % 8)) && allZero (drop (suc (found / 8)) bytes))
 unfolding unusedZero
 split-bytes bytes found h words =
     let e : found ≡ found / 8 * 8 + found % 8 = omega arith in
-    ap (λ (n : ℕ). allZero (drop n (unpacked 8 bytes))) e ∙ unused-words 8 bytes (found / 8) (found % 8) (omega arith) h words
+    ap (λ (n : ℕ). allZero (drop n (unpacked 8 bytes))) e
+    ∙ unused-words 8 bytes (found / 8) (found % 8) (omega arith) h words
 
-pub unused-over : (bytes : List ℕ) (found : ℕ) → found / 8 < length bytes → Words 8 bytes → 2 ^ (found % 8) ≤ getD bytes (found / 8) 0 → unusedZero found bytes ≡ false
-unused-over bytes found h words p = split-bytes bytes found h words ∙ rw (le-ltb (getD bytes (found / 8) 0) (2 ^ (found % 8)) p)
+pub unused-over : (bytes : List ℕ) (found : ℕ) → found / 8 < length bytes → Words 8 bytes
+    → 2 ^ (found % 8) ≤ getD bytes (found / 8) 0 → unusedZero found bytes ≡ false
+unused-over bytes found h words p = split-bytes bytes found h words
+    ∙ rw (le-ltb (getD bytes (found / 8) 0) (2 ^ (found % 8)) p)
 
 -- otherwise all turns on the bytes after that one
-pub unused-rest : (bytes : List ℕ) (found : ℕ) → found / 8 < length bytes → Words 8 bytes → getD bytes (found / 8) 0 < 2 ^ (found % 8)
+pub unused-rest : (bytes : List ℕ) (found : ℕ) → found / 8 < length bytes → Words 8 bytes
+    → getD bytes (found / 8) 0 < 2 ^ (found % 8)
     → unusedZero found bytes ≡ allZero (drop (suc (found / 8)) bytes)
-unused-rest bytes found h words p = split-bytes bytes found h words ∙ rw (lt-ltb (getD bytes (found / 8) 0) (2 ^ (found % 8)) p)
+unused-rest bytes found h words p = split-bytes bytes found h words
+    ∙ rw (lt-ltb (getD bytes (found / 8) 0) (2 ^ (found % 8)) p)

@@ -1,4 +1,5 @@
--- Every operation hands back a well formed receiver where it was given one: each read takes a well formed state to a well formed one, and the receiver that keeps such a state is well formed.
+-- Every operation hands back a well formed receiver where it was given one: each read takes a well formed state to a
+-- well formed one, and the receiver that keeps such a state is well formed.
 use Prim.Native.Nat.{ℕ, suc, _≤_}
 use mathlib.Core.Path.{_≡_}
 use mathlib.Core.List.{List, [], _∷_}
@@ -24,13 +25,15 @@ use Rattle.board.proofs.ListenedLaws.{listened-is}
 
 -- the definitions
 
-pub fresh-well-formed : (g : Settings) → settingsFit (g .k) (g .n) (g .Q) ≡ true → wellFormed (receiverOf g fresh) ≡ true
+pub fresh-well-formed : (g : Settings) → settingsFit (g .k) (g .n) (g .Q) ≡ true
+    → wellFormed (receiverOf g fresh) ≡ true
 fresh-well-formed g h = well-formed-of g fresh (valid-fresh g (ranged-of g h))
 
 pub next-well-formed : (x : Receiver) (read : ℕ) → wellFormed x ≡ true → read ≤ 1
     → wellFormed (receiverOf (settingsOf x) (next (settingsOf x) (stateOf x) read .state)) ≡ true
 next-well-formed x read h p =
-    well-formed-of (settingsOf x) (next (settingsOf x) (stateOf x) read .state) (valid-next (settingsOf x) (stateOf x) read (valid-of x h) p)
+    well-formed-of (settingsOf x) (next (settingsOf x) (stateOf x) read .state)
+    (valid-next (settingsOf x) (stateOf x) read (valid-of x h) p)
 
 pub after-well-formed : (x : Receiver) (reads : List ℕ) → wellFormed x ≡ true → ((i : ℕ) → getD reads i 0 ≤ 1)
     → wellFormed (receiverOf (settingsOf x) (after (settingsOf x) (stateOf x) reads)) ≡ true
@@ -53,28 +56,37 @@ stepped-well-formed x read h = go (decLe read 1)
     go (yes p) = simp (h, le-leb read 1 p) (next-well-formed x read h p)
     go (no p) = simp (h, lt-leb read 1 (omega arith))
 
-heard-well-formed : (x : Receiver) (g : Settings) (s : State) (place : ℕ) (reads : List ℕ) → wellFormed x ≡ true → Valid g s
+heard-well-formed : (x : Receiver) (g : Settings) (s : State) (place : ℕ) (reads : List ℕ) → wellFormed x ≡ true
+    → Valid g s
     → wellFormed (heardFrom x g s place reads .0 .receiver) ≡ true
 unfolding heardFrom
 heard-well-formed x g s place [] h v = well-formed-of g s v
-heard-well-formed x g s place (read ∷ reads) h v = go (decLe read 1) (heard-well-formed x g (next g s read .state) (suc place) reads h)
+heard-well-formed x g s place (read ∷ reads) h v =
+    go (decLe read 1) (heard-well-formed x g (next g s read .state) (suc place) reads h)
   where
     came : (event : Event) → Valid g (next g s read .state)
-        → (Valid g (next g s read .state) → wellFormed (heardFrom x g (next g s read .state) (suc place) reads .0 .receiver) ≡ true)
-        → wellFormed (onward g (next g s read .state) event (suc place) (heardFrom x g (next g s read .state) (suc place) reads) .0 .receiver) ≡ true
+        → (Valid g (next g s read .state)
+        → wellFormed (heardFrom x g (next g s read .state) (suc place) reads .0 .receiver) ≡ true)
+        → wellFormed
+        (onward g (next g s read .state) event (suc place)
+        (heardFrom x g (next g s read .state) (suc place) reads) .0 .receiver) ≡ true
     came nothing v rest = rest v
     came (row bits) v rest = well-formed-of g (next g s read .state) v
     came (broken found) v rest = well-formed-of g (next g s read .state) v
 
     go : Dec (read ≤ 1)
-        → (Valid g (next g s read .state) → wellFormed (heardFrom x g (next g s read .state) (suc place) reads .0 .receiver) ≡ true)
+        → (Valid g (next g s read .state)
+        → wellFormed (heardFrom x g (next g s read .state) (suc place) reads .0 .receiver) ≡ true)
         → wellFormed (heardFrom x g s place (read ∷ reads) .0 .receiver) ≡ true
     go (yes p) rest = rw (le-leb read 1 p) (came (next g s read .event) (valid-next g s read v p) rest)
     go (no p) rest = rw (lt-leb read 1 (omega arith)) h
 
-pub listened-well-formed : (x : Receiver) (reads : List ℕ) → wellFormed x ≡ true → wellFormed (listened x reads .0 .receiver) ≡ true
+pub listened-well-formed : (x : Receiver) (reads : List ℕ) → wellFormed x ≡ true
+    → wellFormed (listened x reads .0 .receiver) ≡ true
 listened-well-formed x reads h = rw (listened-is x reads, h) (go (ltb entriesMost (length reads)))
   where
-    go : (long : Bool) → wellFormed (choose long (refusing x 3 0, 0) (heardFrom x (settingsOf x) (stateOf x) 0 reads) .0 .receiver) ≡ true
+    go : (long : Bool)
+        → wellFormed (choose long (refusing x 3 0, 0) (heardFrom x (settingsOf x) (stateOf x) 0 reads) .0 .receiver)
+        ≡ true
     go true = h
     go false = heard-well-formed x (settingsOf x) (stateOf x) 0 reads h (valid-of x h)

@@ -1,4 +1,5 @@
--- 01, "The row receiver" and "Refusal numbers": what starting, one read, and reads up to the first event answer, for all input; and what each case of the code says.
+-- 01, "The row receiver" and "Refusal numbers": what starting, one read, and reads up to the first event answer, for
+-- all input; and what each case of the code says.
 use Prim.Native.Nat.{ℕ}
 use mathlib.Core.List.{List, [], _∷_}
 use mathlib.Core.Bool.{Bool, true, false, _&&_}
@@ -21,7 +22,8 @@ use Rattle.board.specs.declared.Start.the-variants.{Fresh, Refused as St
 use Rattle.board.specs.declared.Stepped.{Stepped}
 use Rattle.board.specs.declared.Listened.{Listened}
 
--- the receiver afterwards, what the reads brought or the refusal, and a delivered row's bits as they are kept (all 0 otherwise)
+-- the receiver afterwards, what the reads brought or the refusal, and a delivered row's bits as they are kept (all 0
+-- otherwise)
 pub record Outcome : Type 0 where
   pub receiver : Receiver
   pub answer : Answer Event
@@ -41,7 +43,8 @@ reached g s event = record { receiver = receiverOf g s; answer = given event; ro
 abbrev pub refusing : Receiver → ℕ → ℕ → Outcome
 refusing x number place = record { receiver = x; answer = refused number place; row = kept [] }
 
--- starting: a fresh receiver, or refusal 1 for k, n or Q out of range, with a receiver that hunts and holds nothing but zeros
+-- starting: a fresh receiver, or refusal 1 for k, n or Q out of range, with a receiver that hunts and holds nothing but
+-- zeros
 unfoldable pub begun : ℕ → ℕ → ℕ → Answer Event × Receiver
 begun k n Q =
     choose (settingsFit k n Q) (given nothing, receiverOf (record { k = k; n = n; Q = Q }) fresh) (
@@ -82,7 +85,8 @@ abbrev pub toEvent : Settings → State → List ℕ → List Report → Outcome
 toEvent g s reads told =
     (reached g (after g s (take (usedOf told (length reads)) reads)) (firstEvent told), usedOf told (length reads))
 
--- Reads up to and with the first that brings an event: refusal 1 as above, 3 for a list over its limit, 2 for a read that is no level where no event comes before it.
+-- Reads up to and with the first that brings an event: refusal 1 as above, 3 for a list over its limit, 2 for a read
+-- that is no level where no event comes before it.
 -- With a refusal no read is used.
 unfoldable pub listened : Receiver → List ℕ → Outcome × ℕ
 listened x reads =
@@ -109,5 +113,7 @@ abbrev pub steppedSays : Stepped → Outcome
 steppedSays x = record { receiver = x .receiver; answer = eventSays (x .receiver .n) (x .row) (x .event); row = x .row }
 
 abbrev pub listenedSays : Listened → Outcome × ℕ
-listenedSays x =
-    (record { receiver = x .receiver; answer = eventSays (x .receiver .n) (x .row) (x .event); row = x .row }, x .used .0)
+listenedSays x = (
+  record { receiver = x .receiver; answer = eventSays (x .receiver .n) (x .row) (x .event); row = x .row },
+  x .used .0,
+)

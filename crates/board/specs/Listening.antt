@@ -45,18 +45,21 @@ pub record Keeps (g : Settings) (now : Numbers) (bytes : List ℕ) : Type 0 wher
 abbrev pub longer : ℕ → ℕ → ℕ
 longer run read = choose (eqb read 1) (run + 1) 0
 
--- a move that brings an event is the outcome, with the reads used by then; one that brings nothing leaves it to what follows
+-- a move that brings an event is the outcome, with the reads used by then; one that brings nothing leaves it to what
+-- follows
 abbrev pub onward : Settings → State → Event → ℕ → Outcome × ℕ → Outcome × ℕ
 onward g s nothing used rest = rest
 onward g s (row bits) used rest = (reached g s (row bits), used)
 onward g s (broken found) used rest = (reached g s (broken found), used)
 
--- the outcome of reads from a state on, the first of them at this place: up to the first event, the first read that is no level, or the end
+-- the outcome of reads from a state on, the first of them at this place: up to the first event, the first read that is
+-- no level, or the end
 unfoldable pub heardFrom : Receiver → Settings → State → ℕ → List ℕ → Outcome × ℕ
 heardFrom x g s place [] = (reached g s nothing, place)
 heardFrom x g s place (read ∷ reads) =
     choose (leb read 1)
-    (onward g (next g s read .state) (next g s read .event) (suc place) (heardFrom x g (next g s read .state) (suc place) reads))
+    (onward g (next g s read .state) (next g s read .event) (suc place)
+    (heardFrom x g (next g s read .state) (suc place) reads))
     (refusing x 2 place, 0)
 
 -- the same from a move on
@@ -65,10 +68,18 @@ movedFrom x g m place reads = onward g (m .state) (m .event) place (heardFrom x 
 
 -- what each case of the code says, beside the bytes that it leaves and the number of all reads
 abbrev pub heardSays : Receiver → Settings → ℕ → List ℕ → Heard → Outcome × ℕ
-heardSays x g all bytes (Ended now) = (record { receiver = keeping g now bytes; answer = given nothing; row = kept [] }, all)
+heardSays x g all bytes (Ended now) =
+    (record { receiver = keeping g now bytes; answer = given nothing; row = kept [] }, all)
 heardSays x g all bytes (Bad place) = (refusing x 2 place, 0)
-heardSays x g all bytes (Full run used) =
-    (record { receiver = receiverOf g (hunting run); answer = given (row (take (g .n) (unpacked 8 bytes))); row = bytes }, used)
+heardSays x g all bytes (Full run used) = (
+  record {
+    receiver = receiverOf g (hunting run);
+    answer = given (row (take (g .n) (unpacked 8 bytes)));
+    row =
+        bytes;
+  },
+  used,
+)
 heardSays x g all bytes (Broken found used) = (reached g (ready (g .Q)) (broken found), used)
 
 -- the same for a search among the reads: where it finds its read, what is done with that read follows

@@ -1,11 +1,13 @@
--- 01, "The row receiver" and the forms: a row's bits are kept packed, the first bit lowest in the first word, 128 bytes for up to 1,024 bits; and how a receiver keeps a state.
+-- 01, "The row receiver" and the forms: a row's bits are kept packed, the first bit lowest in the first word, 128 bytes
+-- for up to 1,024 bits; and how a receiver keeps a state.
 use Prim.Native.Nat.{ℕ, zero, suc, _+_, _*_, _/_, _%_}
 use mathlib.Core.List.{List, [], _∷_, _++_}
 use lib.ListN.{length, take, drop}
 use Rattle.board.specs.Rows.{Settings, State}
 use Rattle.board.specs.declared.Receiver.{Receiver}
 
--- the number whose binary digits, lowest first, are the first `width` entries of a list; a place past the end counts as 0
+-- the number whose binary digits, lowest first, are the first `width` entries of a list; a place past the end counts as
+-- 0
 unfoldable pub number : ℕ → List ℕ → ℕ
 number zero bits = 0
 number (suc width) [] = 0

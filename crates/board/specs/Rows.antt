@@ -34,7 +34,8 @@ pub record Moved : Type 0 where
   pub state : State
   pub event : Event
 
--- 01, first rule of a read: the run grows by one with each high read until it stands at Q, and falls back to 0 with a low one
+-- 01, first rule of a read: the run grows by one with each high read until it stands at Q, and falls back to 0 with a
+-- low one
 abbrev pub runAfter : ℕ → ℕ → ℕ → ℕ
 runAfter Q run read = choose (eqb read 1) (min (run + 1) Q) 0
 
@@ -64,9 +65,15 @@ inProgress Waiting = true
 
 -- nothing but the run changes, and nothing is reported
 abbrev pub stays : State → ℕ → Moved
-stays s run = record { state = record { mode = s .mode; left = s .left; level = s .level; run = run; bits = s .bits }; event = nothing }
+stays s run =
+    record {
+      state = record { mode = s .mode; left = s .left; level = s .level; run = run; bits = s .bits };
+      event =
+          nothing;
+    }
 
--- 01, when the run stands at Q: whatever the mode was it is now ready, and a row that was under way is lost, which is told with how many bits it had
+-- 01, when the run stands at Q: whatever the mode was it is now ready, and a row that was under way is lost, which is
+-- told with how many bits it had
 abbrev pub quietened : Settings → State → Moved
 quietened g s =
     record { state = ready (g .Q); event = choose (inProgress (s .mode)) (broken (length (s .bits))) nothing }
@@ -75,7 +82,8 @@ quietened g s =
 abbrev pub marked : Settings → State → ℕ → ℕ → Moved
 marked g s run read = record { state = counting (g .k) read run (s .bits); event = nothing }
 
--- 01, a sample has given one bit more: the n-th completes the row, which is handed over and leaves nothing behind but the run; before that the receiver waits, keeping the sample's level
+-- 01, a sample has given one bit more: the n-th completes the row, which is handed over and leaves nothing behind but
+-- the run; before that the receiver waits, keeping the sample's level
 abbrev pub collected : Settings → ℕ → ℕ → List ℕ → Moved
 collected g run sample bits =
     choose (eqb (length bits) (g .n)) (record { state = hunting run; event = row bits })
@@ -87,7 +95,8 @@ counted g s run read =
     choose (eqb (s .left - 1) 0) (collected g run read (s .bits ++ bitOf (s .level) read ∷ []))
     (record { state = counting (s .left - 1) (s .level) run (s .bits); event = nothing })
 
--- 01, ready and waiting: the first read unlike the level kept is a mark. A ready receiver keeps high, so for it that is a low read
+-- 01, ready and waiting: the first read unlike the level kept is a mark. A ready receiver keeps high, so for it that is
+-- a low read
 abbrev pub awaited : Settings → State → ℕ → ℕ → Moved
 awaited g s run read = choose (eqb read (s .level)) (stays s run) (marked g s run read)
 

@@ -12,7 +12,8 @@ ghost use Rattle.measure.specs.Ranges.{bitsMost, settingsFit};
 ghost use Rattle.measure.specs.Refusals.{numberOf, placeOf};
 ghost use Rattle.measure.specs.Cells.{bitOf};
 ghost use Rattle.board.specs.Answers.{begun, startSays, stepped, steppedSays, listened, listenedSays, refusing};
-ghost use Rattle.board.specs.Listening.{settings, keeping, Keeps, longer as longerRun, heardFrom, heardSays, soughtSays, Lands};
+ghost use Rattle.board.specs.Listening.{settings, keeping, Keeps, longer as longerRun, heardFrom, heardSays};
+ghost use Rattle.board.specs.Listening.{soughtSays, Lands};
 use measure::ENTRIES_MOST;
 use measure::HIGH;
 use measure::ReadCycles;
@@ -121,7 +122,8 @@ fn none() -> [u8; 128]
 
 // A receiver in hunting or ready, which keep no bits.
 fn idle(mode: Mode, run: usize, k: usize, n: usize, q: usize) -> Receiver
-    ensures { λ x. ⌜ receiverOf (settings k n q) (record { mode = mode; left = 0; level = 1; run = run; bits = [] }) ≡ x ⌝ }
+    ensures { λ x. ⌜ receiverOf (settings k n q) (record { mode = mode; left = 0; level = 1; run = run; bits = [] })
+        ≡ x ⌝ }
 {
     let zeros = none();
     Receiver {
@@ -203,7 +205,8 @@ fn cleared(bits: [u8; 128], before: usize) -> [u8; 128]
     rest
 }
 
-// Whether the places from the number found on hold 0: those of the byte that the next bit falls in, and whole bytes by their
+// Whether the places from the number found on hold 0: those of the byte that the next bit falls in, and whole bytes by
+// their
 // greatest. The bytes before are cleared and not left out, since the greatest of a fixed number of bytes takes no loop.
 fn unused_zero(bits: [u8; 128], found: usize) -> bool
     requires { ⌜ found < bitsMost ⌝ }
@@ -255,7 +258,8 @@ fn longer(run: usize, read: u8) -> usize
 // Puts the bit of a cell, by its mark and its sample, in a place that holds 0, as do all later ones.
 fn put(bits: &mut [u8; 128], at: usize, mark: u8, sample: u8)
     requires { ⌜ (at < bitsMost) × (getD (now bits) (at / 8) 0 < 2 ^ (at % 8)) ⌝ }
-    ensures { λ x. ⌜ set (now (bits .entry)) (at / 8) (getD (now (bits .entry)) (at / 8) 0 + bitOf mark sample * 2 ^ (at % 8)) ≡ now (bits .exit) ⌝ }
+    ensures { λ x. ⌜ set (now (bits .entry)) (at / 8)
+        (getD (now (bits .entry)) (at / 8) 0 + bitOf mark sample * 2 ^ (at % 8)) ≡ now (bits .exit) ⌝ }
 {
     if sample != mark {
         let j = at / 8;
@@ -269,8 +273,11 @@ fn to_sample(reads: &[u8], from: usize, start: Numbers, q: usize) -> Sought
     requires { ⌜ (from ≤ length (now reads)) × (start .run < q) × (1 ≤ start .left) ⌝ }
     ensures { λ x. ⌜ Lands from (length (now (reads .entry))) q x ⌝ }
     ensures { λ x. ⌜ ((any : Receiver) (k n : ℕ) (l : List ℕ) → length l ≡ start .found →
-        heardFrom any (settings k n q) (counting (start .left) (start .level) (start .run) l) from (drop from (now (reads .entry)))
-        ≡ soughtSays any (settings k n q) (λ run read. collected (settings k n q) run read (l ++ bitOf (start .level) read ∷ [])) l (now (reads .entry)) x) ⌝ }
+        heardFrom any (settings k n q) (counting (start .left) (start .level) (start .run) l) from
+        (drop from (now (reads .entry)))
+        ≡ soughtSays any (settings k n q)
+        (λ run read. collected (settings k n q) run read (l ++ bitOf (start .level) read ∷ [])) l
+        (now (reads .entry)) x) ⌝ }
 {
     let level = start.level;
     let found = start.found;
@@ -307,7 +314,9 @@ fn to_mark(reads: &[u8], from: usize, start: Numbers, q: usize) -> Sought
     ensures { λ x. ⌜ Lands from (length (now (reads .entry))) q x ⌝ }
     ensures { λ x. ⌜ ((any : Receiver) (k n : ℕ) (l : List ℕ) → length l ≡ start .found →
         heardFrom any (settings k n q) (waiting (start .level) (start .run) l) from (drop from (now (reads .entry)))
-        ≡ soughtSays any (settings k n q) (λ run read. marked (settings k n q) (waiting (start .level) (start .run) l) run read) l (now (reads .entry)) x) ⌝ }
+        ≡ soughtSays any (settings k n q)
+        (λ run read. marked (settings k n q) (waiting (start .level) (start .run) l) run read) l
+        (now (reads .entry)) x) ⌝ }
 {
     let level = start.level;
     let found = start.found;
@@ -349,7 +358,8 @@ fn from_counting(
     requires { ⌜ Keeps (settings k n q) start (now bits) ⌝ }
     requires { ⌜ (start .mode ≡ Mode.Counting) × (from ≤ length (now reads)) ⌝ }
     ensures { λ x. ⌜ ((any : Receiver) →
-        heardFrom any (settings k n q) (stateOf (keeping (settings k n q) start (now (bits .entry)))) from (drop from (now (reads .entry)))
+        heardFrom any (settings k n q) (stateOf (keeping (settings k n q) start (now (bits .entry)))) from
+        (drop from (now (reads .entry)))
         ≡ heardSays any (settings k n q) (length (now (reads .entry))) (now (bits .exit)) x) ⌝ }
 {
     let mut i = from;
@@ -409,7 +419,8 @@ fn from_waiting(
     requires { ⌜ Keeps (settings k n q) start (now bits) ⌝ }
     requires { ⌜ start .mode ≡ Mode.Waiting ⌝ }
     ensures { λ x. ⌜ ((any : Receiver) →
-        heardFrom any (settings k n q) (stateOf (keeping (settings k n q) start (now (bits .entry)))) 0 (now (reads .entry))
+        heardFrom any (settings k n q) (stateOf (keeping (settings k n q) start (now (bits .entry)))) 0
+        (now (reads .entry))
         ≡ heardSays any (settings k n q) (length (now (reads .entry))) (now (bits .exit)) x) ⌝ }
 {
     let marked = to_mark(reads, 0, start, q);
@@ -510,7 +521,8 @@ fn from_hunting(
 fn hear(reads: &[u8], bits: &mut [u8; 128], start: Numbers, k: usize, n: usize, q: usize) -> Heard
     requires { ⌜ Keeps (settings k n q) start (now bits) ⌝ }
     ensures { λ x. ⌜ ((any : Receiver) →
-        heardFrom any (settings k n q) (stateOf (keeping (settings k n q) start (now (bits .entry)))) 0 (now (reads .entry))
+        heardFrom any (settings k n q) (stateOf (keeping (settings k n q) start (now (bits .entry)))) 0
+        (now (reads .entry))
         ≡ heardSays any (settings k n q) (length (now (reads .entry))) (now (bits .exit)) x) ⌝ }
 {
     let mode = start.mode;
@@ -572,7 +584,8 @@ impl Receiver {
         }
     }
 
-    // Tells whether the state is well formed. Refuses nothing. The operations refuse any other state, and hand back a well
+    // Tells whether the state is well formed. Refuses nothing. The operations refuse any other state, and hand back a
+    // well
     // formed one for a well formed one.
     pub fn well_formed(self) -> bool
         ensures { λ x. ⌜ x ≡ wellFormed self ⌝ }
@@ -646,10 +659,14 @@ impl Receiver {
         }
     }
 
-    // Gives the receiver after reads up to and with the first that brings an event, or after all, with that event and the number
-    // of reads used; a delivered row's bits stand beside the event, and otherwise 0 in every place there. Refused with 1
-    // where the state is not well formed, with 3 where there are more reads than a list may have, and with 2 and its place at a
-    // read that is no level where no event comes before it. After a refusal the receiver is as it came, and no read is used.
+    // Gives the receiver after reads up to and with the first that brings an event, or after all, with that event and
+    // the number
+    // of reads used; a delivered row's bits stand beside the event, and otherwise 0 in every place there. Refused with
+    // 1
+    // where the state is not well formed, with 3 where there are more reads than a list may have, and with 2 and its
+    // place at a
+    // read that is no level where no event comes before it. After a refusal the receiver is as it came, and no read is
+    // used.
     // Reads after the event are not looked at, so whoever goes on from there pays for each read once.
     pub fn listen(self, reads: &[u8]) -> Listened
         ensures { λ x. ⌜ listened self (now (reads .entry)) ≡ listenedSays x ⌝ }
@@ -669,10 +686,13 @@ impl Receiver {
         self.answer(heard, bits, reads.len())
     }
 
-    // Gives the receiver after one read, with its event; a delivered row's bits stand beside the event, and otherwise 0 in every
-    // place there. Refused with 1 where the state is not well formed and with 2 where the read is no level; the receiver is
+    // Gives the receiver after one read, with its event; a delivered row's bits stand beside the event, and otherwise 0
+    // in every
+    // place there. Refused with 1 where the state is not well formed and with 2 where the read is no level; the
+    // receiver is
     // then as it came.
-    // It does not go by way of `listen`: with two callers `hear` stays a function of its own, and the rest of both is small
+    // It does not go by way of `listen`: with two callers `hear` stays a function of its own, and the rest of both is
+    // small
     // enough to be built into whoever calls them, which saves copies of the receiver.
     pub fn step(self, read: u8) -> Stepped
         ensures { λ x. ⌜ stepped self read ≡ steppedSays x ⌝ }

@@ -1,4 +1,5 @@
-// Runs the row receiver and the capture file through worked cases, limits and refusals, and prints what each gives; the file `stdout` has what it is to be.
+// Runs the row receiver and the capture file through worked cases, limits and refusals, and prints what each gives; the
+// file `stdout` has what it is to be.
 mod capturing;
 mod hearing;
 mod refusing;

@@ -1,4 +1,5 @@
-// States that are not well formed, and reads that are no levels: refused by stepping and by listening, with the receiver as it was.
+// States that are not well formed, and reads that are no levels: refused by stepping and by listening, with the
+// receiver as it was.
 use board::Event;
 use board::Mode;
 use board::Receiver;
@@ -225,7 +226,8 @@ fn idle_bits(state: Receiver) {
     other_byte(state, 127, 128);
 }
 
-// The next bit's place, the last of its byte, the first of the byte after it, and the last of all; and a place that is used.
+// The next bit's place, the last of its byte, the first of the byte after it, and the last of all; and a place that is
+// used.
 fn busy_bits(state: Receiver) {
     other_byte(state, 1, 15);
     other_byte(state, 1, 135);

@@ -24,19 +24,24 @@ module _ (s : List ℕ) where
   pub heading-short : length s ≤ captureMost → judgedHeading s ≡ heading s
   heading-short h = rw (le-ltb captureMost (length s) h)
 
-  capture-judged : capture s ≡ then (judgedHeading s) (λ h. then (runsFrom 0 0 (h .after) (drop (h .after) s)) (withRuns h))
+  capture-judged : capture s
+      ≡ then (judgedHeading s) (λ h. then (runsFrom 0 0 (h .after) (drop (h .after) s)) (withRuns h))
   unfolding capture
   capture-judged = go (ltb captureMost (length s))
     where
-      go : (test : Bool) → choose test (refused 3 0) (then (heading s) (λ h. then (runsFrom 0 0 (h .after) (drop (h .after) s)) (withRuns h)))
-          ≡ then (choose test (refused 3 0) (heading s)) (λ h. then (runsFrom 0 0 (h .after) (drop (h .after) s)) (withRuns h))
+      go : (test : Bool)
+          → choose test (refused 3 0)
+          (then (heading s) (λ h. then (runsFrom 0 0 (h .after) (drop (h .after) s)) (withRuns h)))
+          ≡ then (choose test (refused 3 0) (heading s))
+          (λ h. then (runsFrom 0 0 (h .after) (drop (h .after) s)) (withRuns h))
       go true = refl
       go false = refl
 
   pub capture-refused : (number place : ℕ) → judgedHeading s ≡ refused number place → capture s ≡ refused number place
   capture-refused number place e = capture-judged ∙ rw e
 
-  pub capture-found : (h : Heading) → judgedHeading s ≡ given h → capture s ≡ then (runsFrom 0 0 (h .after) (drop (h .after) s)) (withRuns h)
+  pub capture-found : (h : Heading) → judgedHeading s ≡ given h
+      → capture s ≡ then (runsFrom 0 0 (h .after) (drop (h .after) s)) (withRuns h)
   capture-found h e = capture-judged ∙ rw e
 
   pub heading-found : (h : Heading) → judgedHeading s ≡ given h → heading s ≡ given h
@@ -48,7 +53,8 @@ module _ (s : List ℕ) where
 
 -- an accepted capture has a heading, and is that heading with its runs
 pub capture-given : (s : List ℕ) (c : Capture) → capture s ≡ given c
-    → (h : Heading) × ((heading s ≡ given h) × (then (runsFrom 0 0 (h .after) (drop (h .after) s)) (withRuns h) ≡ given c))
+    → (h : Heading)
+    × ((heading s ≡ given h) × (then (runsFrom 0 0 (h .after) (drop (h .after) s)) (withRuns h) ≡ given c))
 capture-given s c e =
     let h = then-given (judgedHeading s) _ c (sym (capture-judged s) ∙ e) in
     (h .0, (heading-found s (h .0) (h .1 .0), h .1 .1))

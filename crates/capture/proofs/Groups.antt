@@ -1,4 +1,5 @@
--- What stands at the front of bytes follows from the first byte and what stands behind it, and is as small as its bytes allow.
+-- What stands at the front of bytes follows from the first byte and what stands behind it, and is as small as its bytes
+-- allow.
 use Prim.Native.Nat.{ℕ, zero, suc, _+_, _-_, _*_, _≤_, _<_}
 use mathlib.Core.Path.{_≡_, refl}
 use mathlib.Core.List.{List, [], _∷_}
@@ -14,7 +15,8 @@ use Rattle.measure.specs.Choose.{choose}
 use Rattle.capture.specs.Numbers.{Group, value, cut, long, before, following, group, lastMost, bound}
 
 -- what holds of both of a choice holds of the choice
-pub either : {A : Type 0} (P : A → Type 0) (test : Bool) {one other : A} → (test ≡ true → P one) → (test ≡ false → P other) → P (choose test one other)
+pub either : {A : Type 0} (P : A → Type 0) (test : Bool) {one other : A} → (test ≡ true → P one)
+    → (test ≡ false → P other) → P (choose test one other)
 either P true f g = f refl
 either P false f g = g refl
 
@@ -44,12 +46,14 @@ module _ (more b : ℕ) (l : List ℕ) where
   unfolding following
   following-over e n h = simp (e, ne-eqb b 0 n, lt-leb b lastMost h)
 
-pub following-one : (more b : ℕ) (l : List ℕ) → (more ≡ 0 → ⊥) → (b ≡ 0 → ⊥) → b < 128 → following more (b ∷ l) ≡ value b 1
+pub following-one : (more b : ℕ) (l : List ℕ) → (more ≡ 0 → ⊥) → (b ≡ 0 → ⊥) → b < 128
+    → following more (b ∷ l) ≡ value b 1
 unfolding following
 following-one zero b l p n h = absurd (p refl)
 following-one (suc more) b l p n h = simp (ne-eqb b 0 n, lt-ltb b 128 h)
 
-pub following-on : (more b : ℕ) (l : List ℕ) → (more ≡ 0 → ⊥) → 128 ≤ b → following more (b ∷ l) ≡ before b (following (more - 1) l)
+pub following-on : (more b : ℕ) (l : List ℕ) → (more ≡ 0 → ⊥) → 128 ≤ b
+    → following more (b ∷ l) ≡ before b (following (more - 1) l)
 unfolding following
 following-on zero b l p h = absurd (p refl)
 following-on (suc more) b l p h =
@@ -67,7 +71,8 @@ unfolding group
 group-one zero b l p h = absurd (p refl)
 group-one (suc more) b l p h = simp (lt-ltb b 128 h)
 
-pub group-on : (more b : ℕ) (l : List ℕ) → (more ≡ 0 → ⊥) → 128 ≤ b → group more (b ∷ l) ≡ before b (following (more - 1) l)
+pub group-on : (more b : ℕ) (l : List ℕ) → (more ≡ 0 → ⊥) → 128 ≤ b
+    → group more (b ∷ l) ≡ before b (following (more - 1) l)
 unfolding group
 group-on zero b l p h = absurd (p refl)
 group-on (suc more) b l p h =
@@ -111,7 +116,8 @@ unfolding following
 following-within more [] h = tt
 following-within zero (b ∷ l) h =
     either (Within zero (suc (length l))) (eqb b 0) (λ e. tt)
-    (λ e. either (Within zero (suc (length l))) (leb b lastMost) (λ f. within-last b l (leb-true b lastMost f)) (λ f. tt))
+    (λ e. either (Within zero (suc (length l))) (leb b lastMost) (λ f. within-last b l (leb-true b lastMost f))
+    (λ f. tt))
 following-within (suc more) (b ∷ l) h =
     either (Within (suc more) (suc (length l))) (eqb b 0) (λ e. tt)
     (λ e. either (Within (suc more) (suc (length l))) (ltb b 128)

@@ -13,7 +13,8 @@ use Rattle.capture.specs.Numbers.{Numeral, numberAt}
 use Rattle.capture.specs.Capture.{Heading, then, passing, fittingAt, heading}
 
 -- what was given after an answer was given after that answer
-pub then-given : {A B : Type 0} (answer : Answer A) (go : A → Answer B) (y : B) → then answer go ≡ given y → (x : A) × ((answer ≡ given x) × (go x ≡ given y))
+pub then-given : {A B : Type 0} (answer : Answer A) (go : A → Answer B) (y : B) → then answer go ≡ given y
+    → (x : A) × ((answer ≡ given x) × (go x ≡ given y))
 then-given (given x) go y e = (x, (refl, e))
 then-given (refused number place) go y e = let z : _≡_ {A = ℕ} 0 1 = cc in absurd (omega arith)
 then-given (refusedAfter number place count) go y e = let z : _≡_ {A = ℕ} 0 1 = cc in absurd (omega arith)
@@ -28,7 +29,8 @@ in-range least most x = go (leb least x) refl
 
 -- a number that has to pass a test
 module _ (fits : ℕ → Bool) (s : List ℕ) (at : ℕ) where
-  pub fitting-refused : (number place : ℕ) → numberAt s at ≡ refused number place → fittingAt fits s at ≡ refused number place
+  pub fitting-refused : (number place : ℕ) → numberAt s at ≡ refused number place
+      → fittingAt fits s at ≡ refused number place
   unfolding fittingAt
   fitting-refused number place e = ap (passing fits at) e
 
@@ -36,12 +38,14 @@ module _ (fits : ℕ → Bool) (s : List ℕ) (at : ℕ) where
   unfolding fittingAt
   fitting-in n e f = ap (passing fits at) e ∙ ap (λ (test : Bool). choose test (given n) (refused 8 at)) f
 
-  pub fitting-out : (n : Numeral) → numberAt s at ≡ given n → fits (n .value) ≡ false → fittingAt fits s at ≡ refused 8 at
+  pub fitting-out : (n : Numeral) → numberAt s at ≡ given n → fits (n .value) ≡ false
+      → fittingAt fits s at ≡ refused 8 at
   unfolding fittingAt
   fitting-out n e f = ap (passing fits at) e ∙ ap (λ (test : Bool). choose test (given n) (refused 8 at)) f
 
 -- a number that was had, and passed its test
-pub fitting-given : (fits : ℕ → Bool) (s : List ℕ) (at : ℕ) (n : Numeral) → fittingAt fits s at ≡ given n → (numberAt s at ≡ given n) × (fits (n .value) ≡ true)
+pub fitting-given : (fits : ℕ → Bool) (s : List ℕ) (at : ℕ) (n : Numeral) → fittingAt fits s at ≡ given n
+    → (numberAt s at ≡ given n) × (fits (n .value) ≡ true)
 unfolding fittingAt
 fitting-given fits s at n e =
     let f = then-given (numberAt s at) _ n e in
@@ -68,13 +72,25 @@ module _ (s : List ℕ) (number place : ℕ) where
       unfolding heading
       heading-no-Q g = simp (e, f, g)
 
-      pub heading-no-level : {Q : Numeral} → fittingAt quiet s (n .after) ≡ given Q → fittingAt (between 0 1) s (Q .after) ≡ refused number place → heading s ≡ refused number place
+      pub heading-no-level : {Q : Numeral} → fittingAt quiet s (n .after) ≡ given Q
+          → fittingAt (between 0 1) s (Q .after) ≡ refused number place → heading s ≡ refused number place
       unfolding heading
       heading-no-level g h = simp (e, f, g, h)
 
 -- all four
-pub heading-is : (s : List ℕ) {k n Q level : Numeral} → fittingAt sampling s 0 ≡ given k → fittingAt rowBits s (k .after) ≡ given n → fittingAt quiet s (n .after) ≡ given Q → fittingAt (between 0 1) s (Q .after) ≡ given level
-    → heading s ≡ given (record { k = k .value; n = n .value; Q = Q .value; level = level .value; level-at = Q .after; after = level .after })
+pub heading-is : (s : List ℕ) {k n Q level : Numeral} → fittingAt sampling s 0 ≡ given k
+    → fittingAt rowBits s (k .after) ≡ given n → fittingAt quiet s (n .after) ≡ given Q
+    → fittingAt (between 0 1) s (Q .after) ≡ given level
+    → heading s
+    ≡ given (record {
+      k = k .value;
+      n = n .value;
+      Q = Q .value;
+      level = level .value;
+      level-at = Q .after;
+      after =
+          level .after;
+    })
 unfolding heading
 heading-is s e f g h = simp (e, f, g, h)
 
@@ -88,7 +104,16 @@ pub record Four (s : List ℕ) (h : Heading) : Type 0 where
   pub n-fits : fittingAt rowBits s (k .after) ≡ given n
   pub Q-fits : fittingAt quiet s (n .after) ≡ given Q
   pub level-fits : fittingAt (between 0 1) s (Q .after) ≡ given level
-  pub is : h ≡ record { k = k .value; n = n .value; Q = Q .value; level = level .value; level-at = Q .after; after = level .after }
+  pub is : h
+      ≡ record {
+        k = k .value;
+        n = n .value;
+        Q = Q .value;
+        level = level .value;
+        level-at = Q .after;
+        after =
+            level .after;
+      }
 
 pub heading-given : (s : List ℕ) (h : Heading) → heading s ≡ given h → Four s h
 unfolding heading
@@ -112,4 +137,6 @@ heading-given s h e =
 pub heading-level : (s : List ℕ) (h : Heading) → heading s ≡ given h → h .level ≤ 1
 heading-level s h e =
     let four = heading-given s h e in
-    rw (four .is) (in-range 0 1 (four .level .value) (fitting-given (between 0 1) s (four .Q .after) (four .level) (four .level-fits) .1) .1)
+    rw (four .is)
+    (in-range 0 1 (four .level .value)
+    (fitting-given (between 0 1) s (four .Q .after) (four .level) (four .level-fits) .1) .1)

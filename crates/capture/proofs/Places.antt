@@ -6,7 +6,8 @@ use native.Mathlib.Omega.{arith}
 use lib.ListN.{length, drop, length-drop}
 use lib.Seq.{getD-drop}
 use Rattle.measure.specs.Refusals.{given}
-use Rattle.capture.specs.Numbers.{Group, value, cut, long, following, group, further, bound, Numeral, placed, numberAt}
+use Rattle.capture.specs.Numbers.{Group, value, cut, long, following, group, further, bound, Numeral, placed}
+use Rattle.capture.specs.Numbers.{numberAt}
 use Rattle.capture.specs.Answers.{frontSays}
 use Rattle.capture.specs.declared.Front.{Front}
 use Rattle.capture.specs.declared.Front.the-variants.{Value}
@@ -16,17 +17,20 @@ pub bytes-from : (s : List ℕ) (at : ℕ) → Bytes s → Bytes (drop at s)
 bytes-from s at b i = rw getD-drop (b (at + i))
 
 -- what is told of a number that stands behind a byte: its value and its bytes leave room for one group more
-pub following-small : (s : List ℕ) (at more : ℕ) (x : Front) → Bytes s → more < further → following more (drop at s) ≡ frontSays x
+pub following-small : (s : List ℕ) (at more : ℕ) (x : Front) → Bytes s → more < further
+    → following more (drop at s) ≡ frontSays x
     → (v size : ℕ) → x ≡ Value v size → (v < bound further) × (size ≤ further)
 following-small s at more x b h e v size f =
-    let w : Within more (length (drop at s)) (value v size) = rw (e ∙ ap frontSays f) at (following-within more (drop at s) (bytes-from s at b)) in
+    let w : Within more (length (drop at s)) (value v size) =
+    rw (e ∙ ap frontSays f) at (following-within more (drop at s) (bytes-from s at b)) in
     omega (arith, bound-le more further (omega arith))
 
 -- what is told of a number whose first byte stands at a place
 pub front-small : (s : List ℕ) (at : ℕ) (x : Front) → Bytes s → group further (drop at s) ≡ frontSays x
     → (v size : ℕ) → x ≡ Value v size → at + size ≤ length s
 front-small s at x b e v size f =
-    let w : Within further (length (drop at s)) (value v size) = rw (e ∙ ap frontSays f) at (group-within further (drop at s) (bytes-from s at b)) in
+    let w : Within further (length (drop at s)) (value v size) =
+    rw (e ∙ ap frontSays f) at (group-within further (drop at s) (bytes-from s at b)) in
     omega (arith, length-drop at s)
 
 -- a number that stands at a place: its value is below the bound, and it ends behind its place and within the bytes

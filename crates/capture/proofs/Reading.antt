@@ -25,27 +25,35 @@ pub with-given : (h : Heading) (runs : List ℕ) (c : Capture) → withRuns h ru
     → (c ≡ captured h runs) × ((eqb (h .level) 0 && eqb (length runs) 0) ≡ false)
 with-given h runs c = go (eqb (h .level) 0 && eqb (length runs) 0)
   where
-    go : (test : Bool) → choose test (refused 8 (h .level-at)) (given (captured h runs)) ≡ given c → (c ≡ captured h runs) × (test ≡ false)
+    go : (test : Bool) → choose test (refused 8 (h .level-at)) (given (captured h runs)) ≡ given c
+        → (c ≡ captured h runs) × (test ≡ false)
     go true e = let z : _≡_ {A = ℕ} 0 1 = cc in absurd (omega arith)
     go false e = (cc, refl)
 
-summed-refused : (answer : Answer Capture) (number place : ℕ) → summed answer ≡ refused number place → answer ≡ refused number place
+summed-refused : (answer : Answer Capture) (number place : ℕ) → summed answer ≡ refused number place
+    → answer ≡ refused number place
 summed-refused (given c) number place e = let z : _≡_ {A = ℕ} 0 1 = cc in absurd (omega arith)
 summed-refused (refused a b) number place e = cc
 summed-refused (refusedAfter a b d) number place e = let z : _≡_ {A = ℕ} 0 1 = cc in absurd (omega arith)
 
 module _ (s out : List ℕ) where
-  pub read-refused : (number place : ℕ) → capture s ≡ refused number place → readBack s out ≡ (refused number place, out)
+  pub read-refused : (number place : ℕ) → capture s ≡ refused number place
+      → readBack s out ≡ (refused number place, out)
   unfolding readBack
   read-refused number place e = ap (λ answer. unrolled answer out) e
 
   module _ (h : Heading) (found : capture s ≡ then (runsFrom 0 0 (h .after) (drop (h .after) s)) (withRuns h)) where
-    pub read-runs-refused : (number place : ℕ) → summed (then (runsFrom 0 0 (h .after) (drop (h .after) s)) (withRuns h)) ≡ refused number place → readBack s out ≡ (refused number place, out)
+    pub read-runs-refused : (number place : ℕ)
+        → summed (then (runsFrom 0 0 (h .after) (drop (h .after) s)) (withRuns h)) ≡ refused number place
+        → readBack s out ≡ (refused number place, out)
     read-runs-refused number place e = read-refused number place (found ∙ summed-refused _ number place e)
 
-    module _ (x : Summary) (e : summed (then (runsFrom 0 0 (h .after) (drop (h .after) s)) (withRuns h)) ≡ given x) where
+    module _ (x : Summary)
+        (e : summed (then (runsFrom 0 0 (h .after) (drop (h .after) s)) (withRuns h)) ≡ given x) where
       -- the runs of an accepted capture
-      good : (runs : List ℕ) × ((runsFrom 0 0 (h .after) (drop (h .after) s) ≡ given runs) × ((capture s ≡ given (captured h runs)) × (summary (captured h runs) ≡ x)))
+      good : (runs : List ℕ)
+          × ((runsFrom 0 0 (h .after) (drop (h .after) s) ≡ given runs)
+          × ((capture s ≡ given (captured h runs)) × (summary (captured h runs) ≡ x)))
       good =
           let c = then-given (then (runsFrom 0 0 (h .after) (drop (h .after) s)) (withRuns h)) _ x e in
           let r = then-given (runsFrom 0 0 (h .after) (drop (h .after) s)) (withRuns h) (c .0) (c .1 .0) in
@@ -63,19 +71,25 @@ module _ (s out : List ℕ) where
       unfolding readBack reads
       read-good =
           ap (λ answer. unrolled answer out) (good .1 .1 .0)
-          ∙ ap (λ (y : Summary). choose (ltb (length out) (length reads)) (refused 4 0, out) (given y, onto reads out)) (good .1 .1 .1)
+          ∙ ap (λ (y : Summary). choose (ltb (length out) (length reads)) (refused 4 0, out) (given y, onto reads out))
+          (good .1 .1 .1)
 
       pub read-short : length out < x .reads .0 → readBack s out ≡ (refused 4 0, out)
       read-short l = read-good ∙ rw (lt-ltb (length out) (length reads) (omega (arith, count)))
 
       module _ (room : x .reads .0 ≤ length out) where
-        pub read-roomy : then (runsFrom 0 0 (h .after) (drop (h .after) s)) (λ runs. given (leb (length (readsOf (h .level) runs)) (length out))) ≡ given true
+        pub read-roomy : then (runsFrom 0 0 (h .after) (drop (h .after) s))
+            (λ runs. given (leb (length (readsOf (h .level) runs)) (length out))) ≡ given true
         unfolding reads
         read-roomy = rw (good .1 .0, le-leb (length reads) (length out) (omega (arith, count)))
 
-        pub read-whole : (out′ : List ℕ) → then (runsFrom 0 0 (h .after) (drop (h .after) s)) (λ runs. given (sets out 0 (readsOf (h .level) runs))) ≡ given out′ → readBack s out ≡ (given x, out′)
+        pub read-whole : (out′ : List ℕ)
+            → then (runsFrom 0 0 (h .after) (drop (h .after) s)) (λ runs. given (sets out 0 (readsOf (h .level) runs)))
+            ≡ given out′ → readBack s out ≡ (given x, out′)
         unfolding reads
         read-whole out′ o =
             let p : sets out 0 reads ≡ out′ = cc (rw (good .1 .0) at o) in
             let q : length reads ≤ length out = omega (arith, count) in
-            read-good ∙ rw (le-ltb (length out) (length reads) q) (ap (λ (l : List ℕ). (given x, l)) (sym (laid-first reads out q) ∙ p))
+            read-good
+            ∙ rw (le-ltb (length out) (length reads) q)
+            (ap (λ (l : List ℕ). (given x, l)) (sym (laid-first reads out q) ∙ p))

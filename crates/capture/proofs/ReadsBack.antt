@@ -1,4 +1,5 @@
--- Each number of a capture that was written is read back where it stands, so the whole is; and the reads are those of their runs.
+-- Each number of a capture that was written is read back where it stands, so the whole is; and the reads are those of
+-- their runs.
 use Prim.Native.Nat.{ℕ, suc, _+_, _-_, _≤_, _<_}
 use mathlib.Core.Path.{_≡_, refl, sym, ap, _∙_}
 use mathlib.Core.List.{List, [], _∷_, _++_, append-assoc}
@@ -12,7 +13,8 @@ use Rattle.measure.specs.Choose.{choose, between}
 use Rattle.measure.specs.Ranges.{sampling, rowBits, quiet, entriesMost, captureMost}
 use Rattle.measure.specs.Refusals.{given, refused}
 use Rattle.capture.specs.Numbers.{value, group, further, bound, spelled}
-use Rattle.capture.specs.Capture.{Heading, heading, fittingAt, joined, runsFrom, totalMost, withRuns, capture, readsOf}
+use Rattle.capture.specs.Capture.{Heading, heading, fittingAt, joined, runsFrom, totalMost, withRuns, capture}
+use Rattle.capture.specs.Capture.{readsOf}
 use Rattle.capture.specs.Writing.{runsAfter, runsOf, firstLevel, numbers, captureOf}
 use Rattle.capture.proofs.Groups.{either}
 use Rattle.capture.proofs.Headings.{in-range, fitting-in, heading-is}
@@ -34,7 +36,8 @@ Levels [] = Unit {0}
 Levels (read ∷ reads) = (read ≤ 1) × Levels reads
 
 -- a run at the front of bytes is read back
-run-back : (total at v : ℕ) (x l : List ℕ) → group further (x ++ l) ≡ value v (length x) → 1 ≤ length x → 1 ≤ v → total + v ≤ totalMost
+run-back : (total at v : ℕ) (x l : List ℕ) → group further (x ++ l) ≡ value v (length x) → 1 ≤ length x → 1 ≤ v
+    → total + v ≤ totalMost
     → runsFrom 0 total at (x ++ l) ≡ joined v (runsFrom 0 (total + v) (at + length x) l)
 unfolding runsFrom
 run-back total at v [] l e s h o = absurd (omega arith)
@@ -42,14 +45,17 @@ run-back total at v (b ∷ bs) l e s h o =
     let k : suc (length bs) - 1 ≡ length bs = omega arith in
     let p : suc at + length bs ≡ at + suc (length bs) = omega arith in
     let y : runsFrom (length bs) (total + v) (suc at) (bs ++ l) ≡ runsFrom 0 (total + v) (at + suc (length bs)) l =
-    runs-skip (length bs) (total + v) (suc at) (bs ++ l) (omega (arith, length-append bs l)) ∙ rw (drop-at bs l (length bs) refl, p) in
+    runs-skip (length bs) (total + v) (suc at) (bs ++ l) (omega (arith, length-append bs l))
+    ∙ rw (drop-at bs l (length bs) refl, p) in
     rw (e, le-leb 1 v h, le-leb (total + v) totalMost o, k, y)
 
-pub runs-back : (runs : List ℕ) (total at : ℕ) → Some runs → total + sum runs ≤ totalMost → runsFrom 0 total at (numbers runs) ≡ given runs
+pub runs-back : (runs : List ℕ) (total at : ℕ) → Some runs → total + sum runs ≤ totalMost
+    → runsFrom 0 total at (numbers runs) ≡ given runs
 unfolding numbers runsFrom
 runs-back [] total at p h = refl
 runs-back (run ∷ runs) total at p h =
-    run-back total at run (spelled run) (numbers runs) (group-back further run (numbers runs) (omega arith)) (size-some further run) (p .0) (omega arith)
+    run-back total at run (spelled run) (numbers runs) (group-back further run (numbers runs) (omega arith))
+    (size-some further run) (p .0) (omega arith)
     ∙ ap (joined run) (runs-back runs (total + run) (at + length (spelled run)) (p .1) (omega arith))
 
 -- the runs of reads: each has a read, and together they have as many as there are
@@ -57,7 +63,8 @@ after-some : (level count : ℕ) (reads : List ℕ) → 1 ≤ count → Some (ru
 unfolding runsAfter
 after-some level count [] h = (h, tt)
 after-some level count (read ∷ reads) h =
-    either Some (eqb read level) (λ e. after-some level (suc count) reads (omega arith)) (λ e. (h, after-some read 1 reads (omega arith)))
+    either Some (eqb read level) (λ e. after-some level (suc count) reads (omega arith))
+    (λ e. (h, after-some read 1 reads (omega arith)))
 
 after-sum : (level count : ℕ) (reads : List ℕ) → sum (runsAfter level count reads) ≡ count + length reads
 unfolding runsAfter
@@ -80,20 +87,27 @@ runs-sum (read ∷ reads) = omega (arith, after-sum read 1 reads)
 turned : (x y : ℕ) → x ≤ 1 → y ≤ 1 → (y ≡ x → ⊥) → 1 - x ≡ y
 turned x y a b n = omega arith
 
-after-reads : (level count : ℕ) (reads : List ℕ) → level ≤ 1 → Levels reads → readsOf level (runsAfter level count reads) ≡ replicate count level ++ reads
+after-reads : (level count : ℕ) (reads : List ℕ) → level ≤ 1 → Levels reads
+    → readsOf level (runsAfter level count reads) ≡ replicate count level ++ reads
 unfolding runsAfter readsOf
 after-reads level count [] h l = refl
-after-reads level count (read ∷ reads) h l = go (after-reads level (suc count) reads h (l .1)) (after-reads read 1 reads (l .0) (l .1)) (eqb read level) refl
+after-reads level count (read ∷ reads) h l =
+    go (after-reads level (suc count) reads h (l .1)) (after-reads read 1 reads (l .0) (l .1)) (eqb read level) refl
   where
-    go : readsOf level (runsAfter level (suc count) reads) ≡ replicate (suc count) level ++ reads → readsOf read (runsAfter read 1 reads) ≡ replicate 1 read ++ reads
-        → (test : Bool) → eqb read level ≡ test → readsOf level (runsAfter level count (read ∷ reads)) ≡ replicate count level ++ (read ∷ reads)
+    go : readsOf level (runsAfter level (suc count) reads) ≡ replicate (suc count) level ++ reads
+        → readsOf read (runsAfter read 1 reads) ≡ replicate 1 read ++ reads
+        → (test : Bool) → eqb read level ≡ test
+        → readsOf level (runsAfter level count (read ∷ reads)) ≡ replicate count level ++ (read ∷ reads)
     go same other true e =
         let f : suc count ≡ count + 1 = omega arith in
         rw (e, eqb-true read level e)
-        (same ∙ ap (λ (i : ℕ). replicate i level ++ reads) f ∙ ap (λ (l : List ℕ). l ++ reads) (sym (replicate-append-replicate count 1 level)) ∙ append-assoc (replicate count level) (level ∷ []) reads)
+        (same ∙ ap (λ (i : ℕ). replicate i level ++ reads) f
+        ∙ ap (λ (l : List ℕ). l ++ reads) (sym (replicate-append-replicate count 1 level))
+        ∙ append-assoc (replicate count level) (level ∷ []) reads)
     go same other false e =
         let f : 1 - level ≡ read = turned level read h (l .0) (eqb-false read level e) in
-        rw e (ap (λ (i : ℕ). replicate count level ++ readsOf i (runsAfter read 1 reads)) f ∙ ap (λ (l : List ℕ). replicate count level ++ l) other)
+        rw e (ap (λ (i : ℕ). replicate count level ++ readsOf i (runsAfter read 1 reads)) f
+        ∙ ap (λ (l : List ℕ). replicate count level ++ l) other)
 
 pub reads-back : (reads : List ℕ) → Levels reads → readsOf (firstLevel reads) (runsOf reads) ≡ reads
 unfolding runsOf readsOf
@@ -101,7 +115,8 @@ reads-back [] l = refl
 reads-back (read ∷ reads) l = after-reads read 1 reads (l .0) (l .1)
 
 -- the first four numbers, each behind those before it
-fitting-back : (fits : ℕ → Bool) (s p l : List ℕ) (at v : ℕ) → s ≡ p ++ (spelled v ++ l) → length p ≡ at → fits v ≡ true → v < bound further
+fitting-back : (fits : ℕ → Bool) (s p l : List ℕ) (at v : ℕ) → s ≡ p ++ (spelled v ++ l) → length p ≡ at
+    → fits v ≡ true → v < bound further
     → fittingAt fits s at ≡ given (record { value = v; after = at + length (spelled v) })
 fitting-back fits s p l at v e f t h = fitting-in fits s at _ (number-back s p l at v e f h) t
 
@@ -129,22 +144,33 @@ module _ (k n Q level : ℕ) (runs : List ℕ) where
   heading-back r l =
       let f = all-in (sampling k) (rowBits n) (quiet Q) r in
       heading-is whole
-      (fitting-back sampling whole [] (spelled n ++ (spelled Q ++ (spelled level ++ numbers runs))) 0 k refl refl (f .0) (omega (arith, in-range _ _ k (f .0))))
-      (fitting-back rowBits whole (spelled k) (spelled Q ++ (spelled level ++ numbers runs)) n-at n refl (omega arith) (f .1 .0) (omega (arith, in-range _ _ n (f .1 .0))))
-      (fitting-back quiet whole (spelled k ++ spelled n) (spelled level ++ numbers runs) Q-at Q (simp append-assoc) (omega (arith, length-append (spelled k) (spelled n))) (f .1 .1) (omega (arith, in-range _ _ Q (f .1 .1))))
-      (fitting-back (between 0 1) whole (spelled k ++ (spelled n ++ spelled Q)) (numbers runs) level-at level (simp append-assoc)
-      (omega (arith, length-append (spelled k) (spelled n ++ spelled Q), length-append (spelled n) (spelled Q))) (rw (le-leb 0 level (omega arith), le-leb level 1 l)) (omega arith))
+      (fitting-back sampling whole [] (spelled n ++ (spelled Q ++ (spelled level ++ numbers runs))) 0 k refl refl
+      (f .0) (omega (arith, in-range _ _ k (f .0))))
+      (fitting-back rowBits whole (spelled k) (spelled Q ++ (spelled level ++ numbers runs)) n-at n refl (omega arith)
+      (f .1 .0) (omega (arith, in-range _ _ n (f .1 .0))))
+      (fitting-back quiet whole (spelled k ++ spelled n) (spelled level ++ numbers runs) Q-at Q (simp append-assoc)
+      (omega (arith, length-append (spelled k) (spelled n))) (f .1 .1) (omega (arith, in-range _ _ Q (f .1 .1))))
+      (fitting-back (between 0 1) whole (spelled k ++ (spelled n ++ spelled Q)) (numbers runs) level-at level
+      (simp append-assoc)
+      (omega (arith, length-append (spelled k) (spelled n ++ spelled Q), length-append (spelled n) (spelled Q)))
+      (rw (le-leb 0 level (omega arith), le-leb level 1 l)) (omega arith))
 
   tail-back : drop runs-at whole ≡ numbers runs
   tail-back =
       let p : whole ≡ (spelled k ++ (spelled n ++ (spelled Q ++ spelled level))) ++ numbers runs = simp append-assoc in
       rw p (drop-at (spelled k ++ (spelled n ++ (spelled Q ++ spelled level))) (numbers runs) runs-at
-      (omega (arith, length-append (spelled k) (spelled n ++ (spelled Q ++ spelled level)), length-append (spelled n) (spelled Q ++ spelled level), length-append (spelled Q) (spelled level))))
+      (omega (
+        arith,
+        length-append (spelled k) (spelled n ++ (spelled Q ++ spelled level)),
+        length-append (spelled n) (spelled Q ++ spelled level),
+        length-append (spelled Q) (spelled level),
+      )))
 
   with-back : (length runs ≡ 0 → level ≡ 1) → withRuns front runs ≡ given (captured front runs)
   with-back e = go (eqb level 0) refl (eqb (length runs) 0) refl
     where
-      go : (a : Bool) → eqb level 0 ≡ a → (b : Bool) → eqb (length runs) 0 ≡ b → choose (a && b) (refused 8 level-at) (given (captured front runs)) ≡ given (captured front runs)
+      go : (a : Bool) → eqb level 0 ≡ a → (b : Bool) → eqb (length runs) 0 ≡ b
+          → choose (a && b) (refused 8 level-at) (given (captured front runs)) ≡ given (captured front runs)
       go true f true g = absurd (omega (arith, eqb-true level 0 f, e (eqb-true (length runs) 0 g)))
       go true f false g = refl
       go false f b g = refl
@@ -153,7 +179,8 @@ module _ (k n Q level : ℕ) (runs : List ℕ) where
 pub size-runs : (runs : List ℕ) → Some runs → length (numbers runs) ≤ sum runs
 unfolding numbers
 size-runs [] p = omega arith
-size-runs (run ∷ runs) p = omega (arith, length-append (spelled run) (numbers runs), size-run further run (p .0), size-runs runs (p .1))
+size-runs (run ∷ runs) p =
+    omega (arith, length-append (spelled run) (numbers runs), size-run further run (p .0), size-runs runs (p .1))
 
 first-low : (reads : List ℕ) → Levels reads → firstLevel reads ≤ 1
 first-low [] l = omega arith
@@ -167,8 +194,10 @@ first-none : (reads : List ℕ) → length (runsOf reads) ≡ 0 → firstLevel r
 first-none [] e = refl
 first-none (read ∷ reads) e = absurd (omega (arith, sum-none (runsOf (read ∷ reads)) e, runs-sum (read ∷ reads)))
 
--- A capture has no more bytes than it may: its settings need two groups each, its level one, its runs no more bytes than reads.
-capture-short : (k n Q : ℕ) (reads : List ℕ) → InRange k n Q → length reads ≤ entriesMost → Levels reads → length (captureOf k n Q reads) ≤ captureMost
+-- A capture has no more bytes than it may: its settings need two groups each, its level one, its runs no more bytes
+-- than reads.
+capture-short : (k n Q : ℕ) (reads : List ℕ) → InRange k n Q → length reads ≤ entriesMost → Levels reads
+    → length (captureOf k n Q reads) ≤ captureMost
 capture-short k n Q reads r h l =
     let f = all-in (sampling k) (rowBits n) (quiet Q) r in
     omega (
@@ -184,11 +213,17 @@ capture-short k n Q reads r h l =
 
 -- the capture of settings and reads is accepted, with its settings, its first level and its runs
 pub capture-back : (k n Q : ℕ) (reads : List ℕ) → InRange k n Q → length reads ≤ entriesMost → Levels reads
-    → capture (captureOf k n Q reads) ≡ given (record { k = k; n = n; Q = Q; level = firstLevel reads; runs = runsOf reads })
+    → capture (captureOf k n Q reads)
+    ≡ given (record { k = k; n = n; Q = Q; level = firstLevel reads; runs = runsOf reads })
 unfolding captureOf numbers
 capture-back k n Q reads r h l =
     let level = firstLevel reads in
     let runs = runsOf reads in
     capture-found (whole k n Q level runs) (front k n Q level runs)
-    (heading-short (whole k n Q level runs) (capture-short k n Q reads r h l) ∙ heading-back k n Q level runs r (first-low reads l))
-    ∙ rw (tail-back k n Q level runs, runs-back runs 0 (runs-at k n Q level runs) (runs-some reads) (omega (arith, runs-sum reads))) (with-back k n Q level runs (first-none reads))
+    (heading-short (whole k n Q level runs) (capture-short k n Q reads r h l)
+    ∙ heading-back k n Q level runs r (first-low reads l))
+    ∙ rw (
+      tail-back k n Q level runs,
+      runs-back runs 0 (runs-at k n Q level runs) (runs-some reads) (omega (arith, runs-sum reads)),
+    )
+    (with-back k n Q level runs (first-none reads))

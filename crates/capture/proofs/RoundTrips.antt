@@ -60,28 +60,35 @@ no-higher : (x : ℕ) (l : List ℕ) → x ≤ 1 → length l ≤ firstAbove 1 l
 unfolding firstAbove
 no-higher x l h k = rw (le-leb x 1 h) (omega arith)
 
-no-higher-run : (level times : ℕ) (l : List ℕ) → level ≤ 1 → length l ≤ firstAbove 1 l → length (replicate times level ++ l) ≤ firstAbove 1 (replicate times level ++ l)
+no-higher-run : (level times : ℕ) (l : List ℕ) → level ≤ 1 → length l ≤ firstAbove 1 l
+    → length (replicate times level ++ l) ≤ firstAbove 1 (replicate times level ++ l)
 no-higher-run level zero l h k = k
 no-higher-run level (suc times) l h k = no-higher level (replicate times level ++ l) h (no-higher-run level times l h k)
 
-no-higher-reads : (level : ℕ) (runs : List ℕ) → level ≤ 1 → length (readsOf level runs) ≤ firstAbove 1 (readsOf level runs)
+no-higher-reads : (level : ℕ) (runs : List ℕ) → level ≤ 1
+    → length (readsOf level runs) ≤ firstAbove 1 (readsOf level runs)
 unfolding readsOf firstAbove
 no-higher-reads level [] h = omega arith
-no-higher-reads level (run ∷ runs) h = no-higher-run level run (readsOf (1 - level) runs) h (no-higher-reads (1 - level) runs (omega arith))
+no-higher-reads level (run ∷ runs) h =
+    no-higher-run level run (readsOf (1 - level) runs) h (no-higher-reads (1 - level) runs (omega arith))
 
--- an answer that was given was not refused: a test that refuses where it fails held, and one that refuses where it holds failed
-refused-none : {A : Type 0} (number place : ℕ) (out out′ : List ℕ) (x : A) → _≡_ {A = Answer A × List ℕ} (refused number place, out) (given x, out′) → ⊥
+-- an answer that was given was not refused: a test that refuses where it fails held, and one that refuses where it
+-- holds failed
+refused-none : {A : Type 0} (number place : ℕ) (out out′ : List ℕ) (x : A)
+    → _≡_ {A = Answer A × List ℕ} (refused number place, out) (given x, out′) → ⊥
 refused-none {A} number place out out′ x e =
     let f : _≡_ {A = Answer A} (refused number place) (given x) = ap (λ (p : Answer A × List ℕ). p .0) e in
     let z : _≡_ {A = ℕ} 0 1 = cc in
     omega arith
 
 module _ {A : Type 0} (number place : ℕ) (out out′ : List ℕ) (x : A) where
-  held : (test : Bool) (rest : Answer A × List ℕ) → choose test rest (refused number place, out) ≡ (given x, out′) → (test ≡ true) × (rest ≡ (given x, out′))
+  held : (test : Bool) (rest : Answer A × List ℕ) → choose test rest (refused number place, out) ≡ (given x, out′)
+      → (test ≡ true) × (rest ≡ (given x, out′))
   held true rest e = (refl, e)
   held false rest e = absurd (refused-none number place out out′ x e)
 
-  failed : (test : Bool) (rest : Answer A × List ℕ) → choose test (refused number place, out) rest ≡ (given x, out′) → (test ≡ false) × (rest ≡ (given x, out′))
+  failed : (test : Bool) (rest : Answer A × List ℕ) → choose test (refused number place, out) rest ≡ (given x, out′)
+      → (test ≡ false) × (rest ≡ (given x, out′))
   failed true rest e = absurd (refused-none number place out out′ x e)
   failed false rest e = (refl, e)
 
@@ -93,7 +100,8 @@ record Wrote (k n Q : ℕ) (reads out out′ : List ℕ) (size : ℕ) : Type 0 w
   sized : length (captureOf k n Q reads) ≡ size
   laid : onto (captureOf k n Q reads) out ≡ out′
 
-wrote : (k n Q : ℕ) (reads out out′ : List ℕ) (size : ℕ) → written k n Q reads out ≡ (given size, out′) → Wrote k n Q reads out out′ size
+wrote : (k n Q : ℕ) (reads out out′ : List ℕ) (size : ℕ) → written k n Q reads out ≡ (given size, out′)
+    → Wrote k n Q reads out out′ size
 unfolding written
 wrote k n Q reads out out′ size e =
     let fit = held 1 0 out out′ size (settingsFit k n Q) _ e in
@@ -115,7 +123,8 @@ written-read-back k n Q reads out out′ room size e h =
     let w = wrote k n Q reads out out′ size e in
     let l = levels reads (w .low) in
     let same : readsOf (firstLevel reads) (runsOf reads) ≡ reads = reads-back reads l in
-    let bytes : take size out′ ≡ captureOf k n Q reads = ap (take size) (sym (w .laid)) ∙ take-at (captureOf k n Q reads) (drop (length (captureOf k n Q reads)) out) size (w .sized) in
+    let bytes : take size out′ ≡ captureOf k n Q reads = ap (take size) (sym (w .laid))
+    ∙ take-at (captureOf k n Q reads) (drop (length (captureOf k n Q reads)) out) size (w .sized) in
     rw (bytes, capture-back k n Q reads (w .in-range) (w .few) l, same, le-ltb (length room) (length reads) h)
 
 -- what reading did, where it gave a summary
@@ -129,14 +138,16 @@ read : (bytes room room′ : List ℕ) (s : Summary) → readBack bytes room ≡
 unfolding readBack
 read bytes room room′ s = go (capture bytes) refl
   where
-    go : (answer : Answer Capture) → capture bytes ≡ answer → unrolled answer room ≡ (given s, room′) → Read bytes room room′ s
+    go : (answer : Answer Capture) → capture bytes ≡ answer → unrolled answer room ≡ (given s, room′)
+        → Read bytes room room′ s
     go (given c) e f =
         let g = failed 4 0 room room′ s (ltb (length room) (length (readsOf (c .level) (c .runs)))) _ f in
         let h : given (summary c) ≡ given s = ap (λ (p : Answer Summary × List ℕ). p .0) (g .1) in
         record { is = c; accepted-is = e; summed-up = cc; laid = ap (λ (p : Answer Summary × List ℕ). p .1) (g .1) }
     go (refused number place) e f = absurd (refused-none number place room room′ s f)
     go (refusedAfter number place count) e f =
-        let g : _≡_ {A = Answer Summary} (refusedAfter number place count) (given s) = ap (λ (p : Answer Summary × List ℕ). p .0) f in
+        let g : _≡_ {A = Answer Summary} (refusedAfter number place count) (given s) =
+        ap (λ (p : Answer Summary × List ℕ). p .0) f in
         let z : _≡_ {A = ℕ} 0 1 = cc in
         absurd (omega arith)
 
@@ -148,6 +159,9 @@ read-written-back bytes room room′ out s e f h =
     let a = accepted bytes c b (r .accepted-is) in
     let reads = readsOf (c .level) (c .runs) in
     let same : captureOf (c .k) (c .n) (c .Q) reads ≡ bytes = capture-again bytes c b (r .accepted-is) in
-    let front : take (length reads) room′ ≡ reads = ap (take (length reads)) (sym (r .laid)) ∙ take-at reads (drop (length reads) room) (length reads) refl in
+    let front : take (length reads) room′ ≡ reads = ap (take (length reads)) (sym (r .laid))
+    ∙ take-at reads (drop (length reads) room) (length reads) refl in
     rw (← r .summed-up, front)
-    (write-whole (c .k) (c .n) (c .Q) reads out (a .in-range) (omega (arith, a .few, length-reads (c .level) (c .runs))) (no-higher-reads (c .level) (c .runs) (a .low)) (rw same h) ∙ rw same)
+    (write-whole (c .k) (c .n) (c .Q) reads out (a .in-range)
+    (omega (arith, a .few, length-reads (c .level) (c .runs))) (no-higher-reads (c .level) (c .runs) (a .low))
+    (rw same h) ∙ rw same)

@@ -30,7 +30,8 @@ pub record On (more v : ℕ) : Type 0 where
 
 pub on : (more v : ℕ) → 128 ≤ v → v < bound more → On more v
 on zero v h l = absurd (omega arith)
-on (suc more) v h l = record { fewer = more; one-more = refl; low = omega (arith, bound-suc more); is = grouped-on more v h }
+on (suc more) v h l =
+    record { fewer = more; one-more = refl; low = omega (arith, bound-suc more); is = grouped-on more v h }
 
 -- how many bytes a number has
 pub size-some : (more v : ℕ) → 1 ≤ length (grouped more v)
@@ -68,7 +69,8 @@ size-groups zero groups v l = omega arith
 size-groups (suc more) zero v l = rw (grouped-one (suc more) v (omega (arith, pow-succ' 128 zero))) (omega arith)
 size-groups (suc more) (suc groups) v l = go (decLe 128 v) (size-groups more groups (v / 128))
   where
-    go : Dec (128 ≤ v) → (v / 128 < 128 ^ suc groups → length (grouped more (v / 128)) ≤ suc groups) → length (grouped (suc more) v) ≤ suc (suc groups)
+    go : Dec (128 ≤ v) → (v / 128 < 128 ^ suc groups → length (grouped more (v / 128)) ≤ suc groups)
+        → length (grouped (suc more) v) ≤ suc (suc groups)
     go (yes h) rest = rw (grouped-on more v h) (omega (arith, rest (omega (arith, pow-succ' 128 (suc groups)))))
     go (no h) rest = rw (grouped-one (suc more) v (omega arith)) (omega arith)
 
@@ -86,7 +88,13 @@ module _ {v left size : ℕ} (q : Sized v left size) where
   pub sized-one : 128 ≤ left → Sized v (left / 128) (size + 1)
   sized-one h =
       let o : On (q .more) left = on (q .more) left h (q .low) in
-      record { more = o .fewer; low = o .low; few = omega (arith, q .few, o .one-more); whole = omega (arith, q .whole, ap length (o .is)) }
+      record {
+        more = o .fewer;
+        low = o .low;
+        few = omega (arith, q .few, o .one-more);
+        whole =
+            omega (arith, q .whole, ap length (o .is));
+      }
 
   pub sized-all : left < 128 → size ≡ length (spelled v)
   sized-all h = omega (arith, q .whole, ap length (grouped-one (q .more) left h))

@@ -19,7 +19,8 @@ use Rattle.capture.proofs.Runs.{sum, length-reads, runs-end, runs-one}
 
 -- a capture of so many reads and runs
 abbrev counted : Heading → ℕ → ℕ → Summary
-counted h reads runs = record { k = record { 0 = h .k }; n = h .n; q = record { 0 = h .Q }; reads = record { 0 = reads }; runs = runs }
+counted h reads runs =
+    record { k = record { 0 = h .k }; n = h .n; q = record { 0 = h .Q }; reads = record { 0 = reads }; runs = runs }
 
 -- the same, unless its first level is 0 and it has no run
 abbrev judged : Heading → ℕ → ℕ → Answer Summary
@@ -36,14 +37,17 @@ tallied-whole h (given runs) =
     go (eqb (h .level) 0 && eqb (length runs) 0) ∙ rw e (ap (judged h (0 + sum runs)) f)
   where
     go : (test : Bool)
-        → summed (choose test (refused 8 (h .level-at)) (given (record { k = h .k; n = h .n; Q = h .Q; level = h .level; runs = runs })))
+        → summed
+        (choose test (refused 8 (h .level-at))
+        (given (record { k = h .k; n = h .n; Q = h .Q; level = h .level; runs = runs })))
         ≡ choose test (refused 8 (h .level-at)) (given (counted h (length (readsOf (h .level) runs)) (length runs)))
     go true = refl
     go false = refl
 tallied-whole h (refused number place) = refl
 tallied-whole h (refusedAfter number place count) = refl
 
-tallied-one : (h : Heading) (reads runs run : ℕ) (answer : Answer (List ℕ)) → tallied h reads runs (joined run answer) ≡ tallied h (reads + run) (runs + 1) answer
+tallied-one : (h : Heading) (reads runs run : ℕ) (answer : Answer (List ℕ))
+    → tallied h reads runs (joined run answer) ≡ tallied h (reads + run) (runs + 1) answer
 tallied-one h reads runs run (given rest) =
     let e : reads + (run + sum rest) ≡ reads + run + sum rest = omega arith in
     let f : runs + suc (length rest) ≡ runs + 1 + length rest = omega arith in
@@ -53,26 +57,36 @@ tallied-one h reads runs run (refusedAfter number place count) = refl
 
 -- what has been counted on the way to a place
 pub record Tally (s : List ℕ) (h : Heading) (at reads runs : ℕ) : Type 0 where
-  pub whole : summed (then (runsFrom 0 0 (h .after) (drop (h .after) s)) (withRuns h)) ≡ tallied h reads runs (runsFrom 0 reads at (drop at s))
+  pub whole : summed (then (runsFrom 0 0 (h .after) (drop (h .after) s)) (withRuns h))
+      ≡ tallied h reads runs (runsFrom 0 reads at (drop at s))
   pub low : reads ≤ totalMost
   pub few : runs ≤ reads
 
 pub tally-none : (s : List ℕ) (h : Heading) → Tally s h (h .after) 0 0
-tally-none s h = record { whole = tallied-whole h (runsFrom 0 0 (h .after) (drop (h .after) s)); low = omega arith; few = omega arith }
+tally-none s h =
+    record {
+      whole = tallied-whole h (runsFrom 0 0 (h .after) (drop (h .after) s));
+      low = omega arith;
+      few =
+          omega arith;
+    }
 
 module _ {s : List ℕ} {h : Heading} {at reads runs : ℕ} (q : Tally s h at reads runs) where
   abbrev pub Sums : Answer Summary → Type 0
   Sums answer = summed (then (runsFrom 0 0 (h .after) (drop (h .after) s)) (withRuns h)) ≡ answer
 
-  pub tally-one : (n : Numeral) → Bytes s → at < length s → numberAt s at ≡ given n → 1 ≤ n .value → reads + n .value ≤ totalMost
+  pub tally-one : (n : Numeral) → Bytes s → at < length s → numberAt s at ≡ given n → 1 ≤ n .value
+      → reads + n .value ≤ totalMost
       → Tally s h (n .after) (reads + n .value) (runs + 1)
   tally-one n b l e z o = record {
-    whole = q .whole ∙ ap (tallied h reads runs) (runs-one s reads at l n e b z o) ∙ tallied-one h reads runs (n .value) (runsFrom 0 (reads + n .value) (n .after) (drop (n .after) s));
+    whole = q .whole ∙ ap (tallied h reads runs) (runs-one s reads at l n e b z o)
+        ∙ tallied-one h reads runs (n .value) (runsFrom 0 (reads + n .value) (n .after) (drop (n .after) s));
     low = o;
     few = omega (arith, q .few);
   }
 
-  pub tally-refused : (number place : ℕ) → runsFrom 0 reads at (drop at s) ≡ refused number place → Sums (refused number place)
+  pub tally-refused : (number place : ℕ) → runsFrom 0 reads at (drop at s) ≡ refused number place
+      → Sums (refused number place)
   tally-refused number place e = q .whole ∙ ap (tallied h reads runs) e
 
   tally-end : length s ≤ at → Sums (judged h reads runs)

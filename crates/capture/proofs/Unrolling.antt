@@ -1,4 +1,5 @@
--- Runs become reads one run at a time: the reads stored so far and those of the runs still to come are the reads of them all.
+-- Runs become reads one run at a time: the reads stored so far and those of the runs still to come are the reads of
+-- them all.
 use Prim.Native.Nat.{ℕ, _+_, _-_, _≤_, _<_}
 use mathlib.Core.Path.{_≡_, refl, sym, ap}
 use mathlib.Core.List.{List, [], _++_}
@@ -16,7 +17,8 @@ use Rattle.capture.proofs.Runs.{Next, next-refused, next-is, runs-end}
 use Rattle.measure.proofs.Stores.{Stored, stored-none, stored-part, stored-all}
 
 -- runs that are had, and whose reads have room
-roomy : (answer : Answer (List ℕ)) (level room : ℕ) → then answer (λ runs. given (leb (length (readsOf level runs)) room)) ≡ given true
+roomy : (answer : Answer (List ℕ)) (level room : ℕ)
+    → then answer (λ runs. given (leb (length (readsOf level runs)) room)) ≡ given true
     → (runs : List ℕ) × ((answer ≡ given runs) × (length (readsOf level runs) ≤ room))
 roomy (given runs) level room e = (runs, (refl, leb-true _ _ cc))
 roomy (refused number place) level room e = let z : _≡_ {A = ℕ} 0 1 = cc in absurd (omega arith)
@@ -32,12 +34,23 @@ pub record Unrolled (s : List ℕ) (from level : ℕ) (out₀ out : List ℕ) (a
   pub bit : current ≤ 1
 
 pub unrolled-none : (s : List ℕ) (from level : ℕ) (out : List ℕ) → level ≤ 1
-    → then (runsFrom 0 0 from (drop from s)) (λ runs. given (leb (length (readsOf level runs)) (length out))) ≡ given true → Unrolled s from level out out from 0 level
+    → then (runsFrom 0 0 from (drop from s)) (λ runs. given (leb (length (readsOf level runs)) (length out)))
+    ≡ given true → Unrolled s from level out out from 0 level
 unrolled-none s from level out b e =
     let r = roomy (runsFrom 0 0 from (drop from s)) level (length out) e in
-    record { runs = r .0; whole = r .1 .0; room = r .1 .1; others = r .0; spelt = r .1 .0; stored = stored-none out 0 (readsOf level (r .0)); bit = b }
+    record {
+      runs = r .0;
+      whole = r .1 .0;
+      room = r .1 .1;
+      others = r .0;
+      spelt = r .1 .0;
+      stored =
+          stored-none out 0 (readsOf level (r .0));
+      bit = b;
+    }
 
-module _ {s : List ℕ} {from level : ℕ} {out₀ out : List ℕ} {at done current : ℕ} (q : Unrolled s from level out₀ out at done current) where
+module _ {s : List ℕ} {from level : ℕ} {out₀ out : List ℕ} {at done current : ℕ}
+    (q : Unrolled s from level out₀ out at done current) where
   pub unrolled-refused : at < length s → (number place : ℕ) → numberAt s at ≡ refused number place → ⊥
   unrolled-refused h = next-refused s done at h (q .others) (q .spelt)
 
@@ -51,20 +64,31 @@ module _ {s : List ℕ} {from level : ℕ} {out₀ out : List ℕ} {at done curr
 
     pub unrolled-room : done + n .value ≤ length out₀
     unrolled-room =
-        omega (arith, q .stored .reach, q .room, ap length parts, length-append (replicate (n .value) current) (readsOf (1 - current) (next .others)), length-replicate (n .value) current)
+        omega (
+          arith,
+          q .stored .reach,
+          q .room,
+          ap length parts,
+          length-append (replicate (n .value) current) (readsOf (1 - current) (next .others)),
+          length-replicate (n .value) current,
+        )
 
-    pub unrolled-one : (out′ : List ℕ) → out′ ≡ sets out done (replicate (n .value) current) → Unrolled s from level out₀ out′ (n .after) (done + n .value) (1 - current)
+    pub unrolled-one : (out′ : List ℕ) → out′ ≡ sets out done (replicate (n .value) current)
+        → Unrolled s from level out₀ out′ (n .after) (done + n .value) (1 - current)
     unrolled-one out′ o = record {
       runs = q .runs;
       whole = q .whole;
       room = q .room;
       others = next .others;
       spelt = next .spelt;
-      stored = stored-part (replicate (n .value) current) out′ (done + n .value) (rw parts at (q .stored)) o (ap (λ (x : ℕ). done + x) (sym (length-replicate (n .value) current)));
+      stored =
+          stored-part (replicate (n .value) current) out′ (done + n .value) (rw parts at (q .stored)) o
+          (ap (λ (x : ℕ). done + x) (sym (length-replicate (n .value) current)));
       bit = omega arith;
     }
 
-  pub unrolled-all : length s ≤ at → then (runsFrom 0 0 from (drop from s)) (λ runs. given (sets out₀ 0 (readsOf level runs))) ≡ given out
+  pub unrolled-all : length s ≤ at
+      → then (runsFrom 0 0 from (drop from s)) (λ runs. given (sets out₀ 0 (readsOf level runs))) ≡ given out
   unfolding readsOf
   unrolled-all h =
       let none : q .others ≡ [] = cc (runs-end s done at h, q .spelt) in

@@ -1,4 +1,5 @@
--- Each number of an accepted capture has the bytes of its value, so the whole is spelled by its numbers; and the runs are those of the reads.
+-- Each number of an accepted capture has the bytes of its value, so the whole is spelled by its numbers; and the runs
+-- are those of the reads.
 use Prim.Native.Nat.{ℕ, zero, suc, _+_, _-_, _≤_, _<_}
 use mathlib.Core.Path.{_≡_, refl, sym, ap, _∙_}
 use mathlib.Core.List.{List, [], _∷_, _++_}
@@ -25,7 +26,8 @@ use Rattle.capture.proofs.Respelling.{number-again}
 use Rattle.capture.proofs.Writing.{InRange}
 
 -- where the runs are all to be had, the number at a place is
-had : (s : List ℕ) (total at : ℕ) → at < length s → (runs : List ℕ) → runsFrom 0 total at (drop at s) ≡ given runs → (n : Numeral) × (numberAt s at ≡ given n)
+had : (s : List ℕ) (total at : ℕ) → at < length s → (runs : List ℕ) → runsFrom 0 total at (drop at s) ≡ given runs
+    → (n : Numeral) × (numberAt s at ≡ given n)
 unfolding numberAt
 had s total at h runs g = go (group further (drop at s)) refl
   where
@@ -40,7 +42,8 @@ pub record Spelt (s : List ℕ) (total at : ℕ) (runs : List ℕ) : Type 0 wher
   pub some : Some runs
   pub low : total + sum runs ≤ totalMost
 
-pub runs-again : (s : List ℕ) → Bytes s → (runs : List ℕ) (total at : ℕ) → total ≤ totalMost → runsFrom 0 total at (drop at s) ≡ given runs → Spelt s total at runs
+pub runs-again : (s : List ℕ) → Bytes s → (runs : List ℕ) (total at : ℕ) → total ≤ totalMost
+    → runsFrom 0 total at (drop at s) ≡ given runs → Spelt s total at runs
 unfolding numbers
 runs-again s b [] total at h e = go (decLe (length s) at)
   where
@@ -53,7 +56,9 @@ runs-again s b [] total at h e = go (decLe (length s) at)
         absurd (omega arith)
 runs-again s b (run ∷ runs) total at h e = go (decLe (length s) at) (runs-again s b runs)
   where
-    go : Dec (length s ≤ at) → ((total at : ℕ) → total ≤ totalMost → runsFrom 0 total at (drop at s) ≡ given runs → Spelt s total at runs) → Spelt s total at (run ∷ runs)
+    go : Dec (length s ≤ at)
+        → ((total at : ℕ) → total ≤ totalMost → runsFrom 0 total at (drop at s) ≡ given runs → Spelt s total at runs)
+        → Spelt s total at (run ∷ runs)
     go (yes l) rest = let z : _≡_ {A = ℕ} 0 1 = cc (runs-end s total at l, e) in absurd (omega arith)
     go (no l) rest =
         let n = had s total at (omega arith) (run ∷ runs) e in
@@ -62,24 +67,28 @@ runs-again s b (run ∷ runs) total at h e = go (decLe (length s) at) (runs-agai
         let w : runs ≡ x .others = cc (x .is) in
         let r = rest (total + n .0 .value) (n .0 .after) (x .low) (x .spelt ∙ ap given (sym w)) in
         record {
-          bytes = number-again s at (n .0) b (n .1) ∙ ap (λ (l : List ℕ). spelled (n .0 .value) ++ l) (r .bytes) ∙ ap (λ (i : ℕ). spelled i ++ numbers runs) (sym v);
+          bytes = number-again s at (n .0) b (n .1) ∙ ap (λ (l : List ℕ). spelled (n .0 .value) ++ l) (r .bytes)
+              ∙ ap (λ (i : ℕ). spelled i ++ numbers runs) (sym v);
           some = (omega (arith, x .some), r .some);
           low = omega (arith, r .low);
         }
 
 -- runs, from their reads
-after-same : (level count times : ℕ) (l : List ℕ) → runsAfter level count (replicate times level ++ l) ≡ runsAfter level (count + times) l
+after-same : (level count times : ℕ) (l : List ℕ)
+    → runsAfter level count (replicate times level ++ l) ≡ runsAfter level (count + times) l
 unfolding runsAfter
 after-same level count zero l = let e : count ≡ count + 0 = omega arith in ap (λ (i : ℕ). runsAfter level i l) e
 after-same level count (suc times) l =
     let e : suc count + times ≡ count + suc times = omega arith in
     rw (eq-eqb level level refl) (after-same level (suc count) times l ∙ ap (λ (i : ℕ). runsAfter level i l) e)
 
-after-turned : (level count : ℕ) (runs : List ℕ) → level ≤ 1 → Some runs → runsAfter level count (readsOf (1 - level) runs) ≡ count ∷ runsOf (readsOf (1 - level) runs)
+after-turned : (level count : ℕ) (runs : List ℕ) → level ≤ 1 → Some runs
+    → runsAfter level count (readsOf (1 - level) runs) ≡ count ∷ runsOf (readsOf (1 - level) runs)
 unfolding readsOf runsAfter runsOf
 after-turned level count [] h p = refl
 after-turned level count (zero ∷ runs) h p = absurd (omega arith)
-after-turned level count (suc run ∷ runs) h p = after-other level count (1 - level) (replicate run (1 - level) ++ readsOf (1 - (1 - level)) runs) (λ e. omega arith)
+after-turned level count (suc run ∷ runs) h p =
+    after-other level count (1 - level) (replicate run (1 - level) ++ readsOf (1 - (1 - level)) runs) (λ e. omega arith)
 
 runs-of : (level : ℕ) (runs : List ℕ) → level ≤ 1 → Some runs → runsOf (readsOf level runs) ≡ runs
 unfolding readsOf runsOf
@@ -88,9 +97,11 @@ runs-of level (zero ∷ runs) h p = absurd (omega arith)
 runs-of level (suc run ∷ runs) h p =
     let e : 1 + run ≡ suc run = omega arith in
     after-same level 1 run (readsOf (1 - level) runs) ∙ ap (λ (i : ℕ). runsAfter level i (readsOf (1 - level) runs)) e
-    ∙ after-turned level (suc run) runs h (p .1) ∙ ap (λ (l : List ℕ). suc run ∷ l) (runs-of (1 - level) runs (omega arith) (p .1))
+    ∙ after-turned level (suc run) runs h (p .1)
+    ∙ ap (λ (l : List ℕ). suc run ∷ l) (runs-of (1 - level) runs (omega arith) (p .1))
 
-first-of : (level : ℕ) (runs : List ℕ) → Some runs → (length runs ≡ 0 → level ≡ 1) → firstLevel (readsOf level runs) ≡ level
+first-of : (level : ℕ) (runs : List ℕ) → Some runs → (length runs ≡ 0 → level ≡ 1)
+    → firstLevel (readsOf level runs) ≡ level
 unfolding readsOf
 first-of level [] p e = sym (e refl)
 first-of level (zero ∷ runs) p e = absurd (omega arith)
@@ -108,7 +119,8 @@ pub record Accepted (s : List ℕ) (c : Capture) : Type 0 where
 all-true : (a b c : Bool) → a ≡ true → b ≡ true → c ≡ true → (a && b && c) ≡ true
 all-true a b c e f g = rw (e, f, g)
 
-no-run : (level : ℕ) (runs : List ℕ) → level ≤ 1 → (eqb level 0 && eqb (length runs) 0) ≡ false → length runs ≡ 0 → level ≡ 1
+no-run : (level : ℕ) (runs : List ℕ) → level ≤ 1 → (eqb level 0 && eqb (length runs) 0) ≡ false → length runs ≡ 0
+    → level ≡ 1
 no-run level runs l e f = go (eqb level 0) refl (rw (eq-eqb (length runs) 0 f) at e)
   where
     go : (test : Bool) → eqb level 0 ≡ test → (test && true) ≡ false → level ≡ 1
@@ -122,10 +134,20 @@ accepted s c b e =
     let w = with-given (h .0) (r .0) c (r .1 .1) in
     rw (w .0) (made (h .0) (heading-given s (h .0) (h .1 .0)) (r .0) (r .1 .0) (w .1))
   where
-    made : (h : Heading) → Four s h → (runs : List ℕ) → runsFrom 0 0 (h .after) (drop (h .after) s) ≡ given runs → (eqb (h .level) 0 && eqb (length runs) 0) ≡ false
+    made : (h : Heading) → Four s h → (runs : List ℕ) → runsFrom 0 0 (h .after) (drop (h .after) s) ≡ given runs
+        → (eqb (h .level) 0 && eqb (length runs) 0) ≡ false
         → Accepted s (captured h runs)
     made h four runs g w =
-        let front : Heading = record { k = four .k .value; n = four .n .value; Q = four .Q .value; level = four .level .value; level-at = four .Q .after; after = four .level .after } in
+        let front : Heading =
+        record {
+          k = four .k .value;
+          n = four .n .value;
+          Q = four .Q .value;
+          level = four .level .value;
+          level-at =
+              four .Q .after;
+          after = four .level .after;
+        } in
         let k = fitting-given sampling s 0 (four .k) (four .k-fits) in
         let n = fitting-given rowBits s (four .k .after) (four .n) (four .n-fits) in
         let Q = fitting-given quiet s (four .n .after) (four .Q) (four .Q-fits) in
@@ -134,14 +156,18 @@ accepted s c b e =
         let w′ : (eqb (four .level .value) 0 && eqb (length runs) 0) ≡ false = rw (four .is) at w in
         let r = runs-again s b runs 0 (four .level .after) (omega arith) g′ in
         let l : four .level .value ≤ 1 = in-range 0 1 (four .level .value) (level .1) .1 in
-        let parts : s ≡ spelled (four .k .value) ++ (spelled (four .n .value) ++ (spelled (four .Q .value) ++ (spelled (four .level .value) ++ numbers runs))) =
+        let parts : s ≡ spelled (four .k .value)
+        ++ (spelled (four .n .value)
+        ++ (spelled (four .Q .value) ++ (spelled (four .level .value) ++ numbers runs))) =
         number-again s 0 (four .k) b (k .0)
         ∙ ap (λ (x : List ℕ). spelled (four .k .value) ++ x) (number-again s (four .k .after) (four .n) b (n .0)
         ∙ ap (λ (x : List ℕ). spelled (four .n .value) ++ x) (number-again s (four .n .after) (four .Q) b (Q .0)
         ∙ ap (λ (x : List ℕ). spelled (four .Q .value) ++ x) (number-again s (four .Q .after) (four .level) b (level .0)
         ∙ ap (λ (x : List ℕ). spelled (four .level .value) ++ x) (r .bytes)))) in
         let a : Accepted s (captured front runs) = record {
-          in-range = all-true (sampling (four .k .value)) (rowBits (four .n .value)) (quiet (four .Q .value)) (k .1) (n .1) (Q .1);
+          in-range =
+              all-true (sampling (four .k .value)) (rowBits (four .n .value)) (quiet (four .Q .value)) (k .1) (n .1)
+              (Q .1);
           low = l;
           some = r .some;
           few = omega (arith, r .low);
@@ -151,7 +177,8 @@ accepted s c b e =
         rw (four .is) a
 
 -- an accepted capture, written again from its reads
-pub capture-again : (s : List ℕ) (c : Capture) → Bytes s → capture s ≡ given c → captureOf (c .k) (c .n) (c .Q) (readsOf (c .level) (c .runs)) ≡ s
+pub capture-again : (s : List ℕ) (c : Capture) → Bytes s → capture s ≡ given c
+    → captureOf (c .k) (c .n) (c .Q) (readsOf (c .level) (c .runs)) ≡ s
 unfolding captureOf numbers
 capture-again s c b e =
     let a = accepted s c b e in

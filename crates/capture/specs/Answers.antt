@@ -1,4 +1,5 @@
--- 01, "Capture file" and "Refusal numbers": what the operations on captures answer and leave in the lent output, for all input, and what each case of the code says.
+-- 01, "Capture file" and "Refusal numbers": what the operations on captures answer and leave in the lent output, for
+-- all input, and what each case of the code says.
 use Prim.Native.Nat.{ℕ}
 use mathlib.Core.List.{List}
 use lib.ListN.{length}

@@ -1,4 +1,5 @@
--- 01, "Capture file": what the numbers of a capture stand for. Four come first, the settings and a level; all others are run lengths.
+-- 01, "Capture file": what the numbers of a capture stand for. Four come first, the settings and a level; all others
+-- are run lengths.
 use Prim.Native.Nat.{ℕ, zero, suc, _+_, _-_}
 use mathlib.Core.List.{List, [], _∷_, _++_}
 use mathlib.Core.Bool.{Bool, _&&_}
@@ -61,14 +62,16 @@ totalMost = entriesMost
 abbrev pub joined : ℕ → Answer (List ℕ) → Answer (List ℕ)
 joined run answer = then answer (λ runs. given (run ∷ runs))
 
--- A run at a place, after runs with a total. Refusal 8 for a run of 0 and for a total that passes the greatest; what follows is asked with the bytes still to pass over and the new total.
+-- A run at a place, after runs with a total. Refusal 8 for a run of 0 and for a total that passes the greatest; what
+-- follows is asked with the bytes still to pass over and the new total.
 abbrev pub run : ℕ → ℕ → Group → (ℕ → ℕ → Answer (List ℕ)) → Answer (List ℕ)
 run at total (value v size) go =
     choose (leb 1 v && leb (total + v) totalMost) (joined v (go (size - 1) (total + v))) (refused 8 at)
 run at total cut go = refused 6 at
 run at total long go = refused 7 at
 
--- The runs that bytes from a place on spell out, to the end. The first argument is how many bytes belong to the number before, the second the total of the runs before.
+-- The runs that bytes from a place on spell out, to the end. The first argument is how many bytes belong to the number
+-- before, the second the total of the runs before.
 unfoldable pub runsFrom : ℕ → ℕ → ℕ → List ℕ → Answer (List ℕ)
 runsFrom skip total at [] = given []
 runsFrom zero total at (byte ∷ bytes) =
@@ -83,13 +86,15 @@ pub record Capture : Type 0 where
   pub level : ℕ
   pub runs : List ℕ
 
--- no reads at all are written as first level 1 and no run; a first level of 0 with no run is refused with 8 at the level's byte
+-- no reads at all are written as first level 1 and no run; a first level of 0 with no run is refused with 8 at the
+-- level's byte
 abbrev pub withRuns : Heading → List ℕ → Answer Capture
 withRuns h runs =
     choose (eqb (h .level) 0 && eqb (length runs) 0) (refused 8 (h .level-at))
     (given (record { k = h .k; n = h .n; Q = h .Q; level = h .level; runs = runs }))
 
--- the capture that bytes spell out, or the first refusal from the left; refusal 3 for too many bytes comes before any other
+-- the capture that bytes spell out, or the first refusal from the left; refusal 3 for too many bytes comes before any
+-- other
 unfoldable pub capture : List ℕ → Answer Capture
 capture bytes =
     choose (ltb captureMost (length bytes)) (refused 3 0)

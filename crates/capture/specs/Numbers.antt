@@ -1,4 +1,5 @@
--- 01, "Capture file": how a number is spelled. Each byte has seven bits of it, the lowest first, and its top bit tells whether another follows; there is one spelling for each number, of three bytes at most.
+-- 01, "Capture file": how a number is spelled. Each byte has seven bits of it, the lowest first, and its top bit tells
+-- whether another follows; there is one spelling for each number, of three bytes at most.
 use Prim.Native.Nat.{ℕ, zero, suc, _+_, _-_, _*_, _/_, _%_, _^_}
 use mathlib.Core.List.{List, [], _∷_}
 use lib.ListN.{drop}
@@ -18,7 +19,8 @@ lastMost = 127
 abbrev pub bound : ℕ → ℕ
 bound more = (lastMost + 1) * 128 ^ more
 
--- What stands at the front of bytes: a number and how many bytes it has; a number that is cut off by the end; or no number, for a long form or too many bytes.
+-- What stands at the front of bytes: a number and how many bytes it has; a number that is cut off by the end; or no
+-- number, for a long form or too many bytes.
 pub data Group : Type 0 where
   value : ℕ → ℕ → Group
   cut : Group
@@ -30,7 +32,8 @@ before byte (value v size) = value (byte - 128 + 128 * v) (suc size)
 before byte cut = cut
 before byte long = long
 
--- A byte that follows another of its number, and at most so many after it. A last byte of 0 would not be the shortest form.
+-- A byte that follows another of its number, and at most so many after it. A last byte of 0 would not be the shortest
+-- form.
 unfoldable pub following : ℕ → List ℕ → Group
 following more [] = cut
 following zero (byte ∷ bytes) = choose (eqb byte 0) long (choose (leb byte lastMost) (value byte 1) long)
@@ -48,7 +51,8 @@ pub record Numeral : Type 0 where
   pub value : ℕ
   pub after : ℕ
 
--- What was found at a place as an answer. Refusal 6 where the bytes end inside the number or before it, 7 where it is not in shortest form or too long; the place is the number's first byte.
+-- What was found at a place as an answer. Refusal 6 where the bytes end inside the number or before it, 7 where it is
+-- not in shortest form or too long; the place is the number's first byte.
 abbrev pub placed : ℕ → Group → Answer Numeral
 placed at (value v size) = given (record { value = v; after = at + size })
 placed at cut = refused 6 at

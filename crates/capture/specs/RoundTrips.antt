@@ -1,4 +1,5 @@
--- What the format promises of writing and reading together (01, "Capture file"): reads that are written are read back, and a capture that is read is written back. Statements only; proofs/RoundTrips has their proofs.
+-- What the format promises of writing and reading together (01, "Capture file"): reads that are written are read back,
+-- and a capture that is read is written back. Statements only; proofs/RoundTrips has their proofs.
 use Prim.Native.Nat.{ℕ, _≤_}
 use mathlib.Core.Path.{_≡_}
 use mathlib.Core.Bool.{true, false}
@@ -33,15 +34,29 @@ WritesBack =
     (bytes : List ℕ) → someAbove 255 bytes ≡ false → (c : Capture) → capture bytes ≡ given c
     → captureOf (c .k) (c .n) (c .Q) (readsOf (c .level) (c .runs)) ≡ bytes
 
--- The same of the operations. What `write_capture` put at the front of an output, `read_capture` answers with the same settings and puts the same reads at the front of another that has room.
+-- The same of the operations. What `write_capture` put at the front of an output, `read_capture` answers with the same
+-- settings and puts the same reads at the front of another that has room.
 abbrev pub WrittenReadsBack : Type 0
 WrittenReadsBack =
-    (k n Q : ℕ) (reads out out′ room : List ℕ) (size : ℕ) → written k n Q reads out ≡ (given size, out′) → length reads ≤ length room
+    (k n Q : ℕ) (reads out out′ room : List ℕ) (size : ℕ) → written k n Q reads out ≡ (given size, out′)
+    → length reads ≤ length room
     → readBack (take size out′) room
-    ≡ (given (record { k = record { 0 = k }; n = n; q = record { 0 = Q }; reads = record { 0 = length reads }; runs = length (runsOf reads) }), onto reads room)
+    ≡ (
+      given
+          (record {
+            k = record { 0 = k };
+            n = n;
+            q = record { 0 = Q };
+            reads = record { 0 = length reads };
+            runs =
+                length (runsOf reads);
+          }),
+      onto reads room,
+    )
 
 -- What `read_capture` read, `write_capture` puts as the same bytes at the front of an output that has room.
 abbrev pub ReadWritesBack : Type 0
 ReadWritesBack =
-    (bytes room room′ out : List ℕ) (s : Summary) → someAbove 255 bytes ≡ false → readBack bytes room ≡ (given s, room′) → length bytes ≤ length out
+    (bytes room room′ out : List ℕ) (s : Summary) → someAbove 255 bytes ≡ false
+    → readBack bytes room ≡ (given s, room′) → length bytes ≤ length out
     → written (s .k .0) (s .n) (s .q .0) (take (s .reads .0) room′) out ≡ (given (length bytes), onto bytes out)

@@ -1,4 +1,5 @@
-// A capture is read number by number by a reader that carries the bytes it was lent and where it has got to. Each function
+// A capture is read number by number by a reader that carries the bytes it was lent and where it has got to. Each
+// function
 // takes it apart and leaves the work to one over the bytes and the place.
 use crate::Number;
 use crate::number_at;

@@ -28,7 +28,8 @@ ghost use Rattle.measure.specs.Refusals.{given};
 ghost use Rattle.capture.specs.Numbers.{before, bound, following, further, group, numberAt, spelled};
 ghost use Rattle.capture.specs.Capture.{fittingAt, header, heading, readsOf, runsFrom, then, withRuns};
 ghost use Rattle.capture.specs.Writing.{captureOf, firstLevel, numbers, runsOf};
-ghost use Rattle.capture.specs.Answers.{checked, frontSays, headSays, headed, numberSays, readBack, summed, checkedSays, written, writtenSays};
+ghost use Rattle.capture.specs.Answers.{checked, frontSays, headSays, headed, numberSays, readBack, summed};
+ghost use Rattle.capture.specs.Answers.{checkedSays, written, writtenSays};
 
 // The weight of a byte's top bit: the seven bits below it are a group.
 const TOP_BIT: usize = 128;
@@ -89,7 +90,8 @@ pub enum Written {
     Refused(Refusal),
 }
 
-// What stands at the front of bytes, whatever their place: a number and how many bytes it has; a number that is cut off by
+// What stands at the front of bytes, whatever their place: a number and how many bytes it has; a number that is cut off
+// by
 // the end; or no number, for a long form or too many bytes.
 enum Front {
     Value(usize, usize),
@@ -161,7 +163,8 @@ fn front_at(bytes: &[u8], at: usize) -> Front
     prefixed(byte, following_at(bytes, next, fewer))
 }
 
-// The number at a place, which is not past the end, and the place after it. Refuses with 6 where the bytes end inside it or
+// The number at a place, which is not past the end, and the place after it. Refuses with 6 where the bytes end inside
+// it or
 // before it, and with 7 where it is too long or not in shortest form; the refusal's place is the one asked for.
 fn number_at(bytes: &[u8], at: usize) -> Number
     ensures { λ x. ⌜ numberAt (now (bytes .entry)) at ≡ numberSays x ⌝ }
@@ -201,7 +204,8 @@ fn number_refusal(number: Number) -> Refusal
     }
 }
 
-// The first four numbers, with the level's place and the place after it. Refuses with 6 or 7 where one cannot be had and
+// The first four numbers, with the level's place and the place after it. Refuses with 6 or 7 where one cannot be had
+// and
 // with 8 where one is out of range, from the left.
 fn four_numbers(bytes: &[u8]) -> Head
     ensures { λ x. ⌜ heading (now (bytes .entry)) ≡ headSays x ⌝ }
@@ -254,11 +258,15 @@ pub fn read_header(bytes: &[u8]) -> Head
     four_numbers(bytes)
 }
 
-// Walks the runs behind a heading to the end of the file and sums the capture up. Refuses with 6 or 7 where a run cannot
-// be had, with 8 for a run of 0 and for the first with which the total is too large, and with 8 at the level's byte where
+// Walks the runs behind a heading to the end of the file and sums the capture up. Refuses with 6 or 7 where a run
+// cannot
+// be had, with 8 for a run of 0 and for the first with which the total is too large, and with 8 at the level's byte
+// where
 // the first level is 0 and there is no run.
 fn check_runs(bytes: &[u8], head: Header) -> Checked
-    ensures { λ x. ⌜ summed (then (runsFrom 0 0 (head .after) (drop (head .after) (now (bytes .entry)))) (withRuns (headed head))) ≡ checkedSays x ⌝ }
+    ensures { λ x. ⌜ summed
+        (then (runsFrom 0 0 (head .after) (drop (head .after) (now (bytes .entry)))) (withRuns (headed head)))
+        ≡ checkedSays x ⌝ }
 {
     let k = head.k;
     let q = head.q;
@@ -296,7 +304,8 @@ fn check_runs(bytes: &[u8], head: Header) -> Checked
     })
 }
 
-// Tells whether bytes are a capture, and sums it up: its settings, and how many reads and runs it has. Refuses with 3 for
+// Tells whether bytes are a capture, and sums it up: its settings, and how many reads and runs it has. Refuses with 3
+// for
 // too many bytes, and then with the first of 6, 7 and 8 from the left.
 pub fn check(bytes: &[u8]) -> Checked
     ensures { λ x. ⌜ checked (now (bytes .entry)) ≡ checkedSays x ⌝ }
@@ -324,8 +333,10 @@ fn fill(level: u8, count: usize, out: &mut [u8], from: usize)
 // Stores the reads of a checked capture, whose runs begin at a place, at the front of an output that has room for them.
 fn unroll_into(bytes: &[u8], from: usize, level: u8, out: &mut [u8])
     requires { ⌜ level ≤ 1 ⌝ }
-    requires { ⌜ then (runsFrom 0 0 from (drop from (now bytes))) (λ runs. given (leb (length (readsOf level runs)) (length (now out)))) ≡ given true ⌝ }
-    ensures { λ _. ⌜ then (runsFrom 0 0 from (drop from (now (bytes .entry)))) (λ runs. given (sets (now (out .entry)) 0 (readsOf level runs))) ≡ given (now (out .exit)) ⌝ }
+    requires { ⌜ then (runsFrom 0 0 from (drop from (now bytes)))
+        (λ runs. given (leb (length (readsOf level runs)) (length (now out)))) ≡ given true ⌝ }
+    ensures { λ _. ⌜ then (runsFrom 0 0 from (drop from (now (bytes .entry))))
+        (λ runs. given (sets (now (out .entry)) 0 (readsOf level runs))) ≡ given (now (out .exit)) ⌝ }
 {
     let mut at = from;
     let mut done = 0;
@@ -342,8 +353,10 @@ fn unroll_into(bytes: &[u8], from: usize, level: u8, out: &mut [u8])
     }
 }
 
-// Reads a capture: sums it up, and puts its reads, one byte each, at the front of the lent output. Refuses as `check` does,
-// and last with 4 where the output is shorter than the reads. After a refusal the output is untouched, and after success
+// Reads a capture: sums it up, and puts its reads, one byte each, at the front of the lent output. Refuses as `check`
+// does,
+// and last with 4 where the output is shorter than the reads. After a refusal the output is untouched, and after
+// success
 // what lies beyond the reads.
 pub fn read_capture(bytes: &[u8], out: &mut [u8]) -> Checked
     ensures { λ x. ⌜ readBack (now (bytes .entry)) (now (out .entry)) ≡ (checkedSays x, now (out .exit)) ⌝ }
@@ -402,7 +415,9 @@ fn put_number(v: usize, out: &mut [u8], at: usize) -> usize
 // The place after the run that begins at a place.
 fn run_end(reads: &[u8], at: usize) -> usize
     requires { ⌜ at < length (now reads) ⌝ }
-    ensures { λ x. ⌜ (at < x) × ((x ≤ length (now (reads .entry))) × (runsOf (drop at (now (reads .entry))) ≡ (x - at) ∷ runsOf (drop x (now (reads .entry))))) ⌝ }
+    ensures { λ x. ⌜ (at < x)
+        × ((x ≤ length (now (reads .entry)))
+        × (runsOf (drop at (now (reads .entry))) ≡ (x - at) ∷ runsOf (drop x (now (reads .entry))))) ⌝ }
 {
     let level = reads[at];
     let mut end = at + 1;
@@ -433,7 +448,8 @@ fn runs_size(reads: &[u8]) -> usize
 
 // Puts the runs of reads, one behind another, at a place of an output that has room for them.
 fn put_runs(reads: &[u8], out: &mut [u8], from: usize)
-    requires { ⌜ (length (now reads) ≤ entriesMost) × (from + length (numbers (runsOf (now reads))) ≤ length (now out)) ⌝ }
+    requires { ⌜ (length (now reads) ≤ entriesMost)
+        × (from + length (numbers (runsOf (now reads))) ≤ length (now out)) ⌝ }
     ensures { λ _. ⌜ now (out .exit) ≡ sets (now (out .entry)) from (numbers (runsOf (now (reads .entry)))) ⌝ }
 {
     let mut at = 0;
@@ -484,8 +500,10 @@ fn write_into(k: usize, n: usize, q: usize, reads: &[u8], out: &mut [u8])
     put_runs(reads, out, after);
 }
 
-// Writes k, n, Q and reads as a capture at the front of the lent output, and gives how many bytes it has. Refuses with 1
-// for k, n or Q out of range, with 3 for too many reads, with 2 at the first entry that is no level, and with 4 where the
+// Writes k, n, Q and reads as a capture at the front of the lent output, and gives how many bytes it has. Refuses with
+// 1
+// for k, n or Q out of range, with 3 for too many reads, with 2 at the first entry that is no level, and with 4 where
+// the
 // output is shorter than the capture. After a refusal the output is untouched, and after success what lies beyond the
 // capture.
 pub fn write_capture(
@@ -495,7 +513,8 @@ pub fn write_capture(
     reads: &[u8],
     out: &mut [u8],
 ) -> Written
-    ensures { λ x. ⌜ written (k .0) n (q .0) (now (reads .entry)) (now (out .entry)) ≡ (writtenSays x, now (out .exit)) ⌝ }
+    ensures { λ x. ⌜ written (k .0) n (q .0) (now (reads .entry)) (now (out .entry))
+        ≡ (writtenSays x, now (out .exit)) ⌝ }
 {
     let sampling = k.0;
     let quiet = q.0;

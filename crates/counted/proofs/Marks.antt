@@ -1,4 +1,5 @@
--- The mark seen from a place: reads at the level in force are passed one by one, and the first that differs is the mark.
+-- The mark seen from a place: reads at the level in force are passed one by one, and the first that differs is the
+-- mark.
 use mathlib.Core.Path.{_≡_, _∙_}
 use mathlib.Core.Logic.{_≢_}
 use mathlib.Core.List.{List, [], _∷_}
@@ -11,12 +12,14 @@ use borrow.Author.Tests.{eq-eqb, ne-eqb}
 use Rattle.counted.specs.Counted.{fromMark}
 
 -- a read that differs is the mark
-pub mark-here : (level : ℕ) (reads : List ℕ) (i d : ℕ) → i < length reads → getD reads i d ≢ level → fromMark level (drop i reads) ≡ drop i reads
+pub mark-here : (level : ℕ) (reads : List ℕ) (i d : ℕ) → i < length reads → getD reads i d ≢ level
+    → fromMark level (drop i reads) ≡ drop i reads
 unfolding fromMark
 mark-here level reads i d h e = rw (drop-cons reads i d h, ne-eqb (getD reads i d) level e)
 
 -- a read at the level is passed
-pub mark-past : (level : ℕ) (reads : List ℕ) (i d : ℕ) → i < length reads → getD reads i d ≡ level → fromMark level (drop i reads) ≡ fromMark level (drop (i + 1) reads)
+pub mark-past : (level : ℕ) (reads : List ℕ) (i d : ℕ) → i < length reads → getD reads i d ≡ level
+    → fromMark level (drop i reads) ≡ fromMark level (drop (i + 1) reads)
 unfolding fromMark
 mark-past level reads i d h e = rw (drop-cons reads i d h, eq-eqb (getD reads i d) level e, add-one)
 
@@ -26,22 +29,27 @@ unfolding fromMark
 mark-end level reads i h = rw (drop-of-length-le reads h)
 
 -- reads j up to m, which are at the level, are passed
-pub mark-stretch : (level : ℕ) (reads : List ℕ) (j m d : ℕ) → j ≤ m → m ≤ length reads → ((i : ℕ) → j ≤ i → i < m → getD reads i d ≡ level)
+pub mark-stretch : (level : ℕ) (reads : List ℕ) (j m d : ℕ) → j ≤ m → m ≤ length reads
+    → ((i : ℕ) → j ≤ i → i < m → getD reads i d ≡ level)
     → fromMark level (drop j reads) ≡ fromMark level (drop m reads)
 mark-stretch level reads j m d h l same = walk (m - j) j (omega arith) same
   where
-    walk : (n j : ℕ) → j + n ≡ m → ((i : ℕ) → j ≤ i → i < m → getD reads i d ≡ level) → fromMark level (drop j reads) ≡ fromMark level (drop m reads)
+    walk : (n j : ℕ) → j + n ≡ m → ((i : ℕ) → j ≤ i → i < m → getD reads i d ≡ level)
+        → fromMark level (drop j reads) ≡ fromMark level (drop m reads)
     walk zero j e same = let here : j ≡ m = omega arith in rw here
     walk (suc n) j e same =
         mark-past level reads j d (omega arith) (same j (omega arith) (omega arith))
         ∙ walk n (j + 1) (omega arith) (λ i p q. same i (omega arith) q)
 
 -- the mark is read m where m is the first, from read j on, that differs from the level
-pub mark-at : (level : ℕ) (reads : List ℕ) (j m d : ℕ) → j ≤ m → m < length reads → ((i : ℕ) → j ≤ i → i < m → getD reads i d ≡ level) → getD reads m d ≢ level
+pub mark-at : (level : ℕ) (reads : List ℕ) (j m d : ℕ) → j ≤ m → m < length reads
+    → ((i : ℕ) → j ≤ i → i < m → getD reads i d ≡ level) → getD reads m d ≢ level
     → fromMark level (drop j reads) ≡ drop m reads
-mark-at level reads j m d h l same differs = mark-stretch level reads j m d h (omega arith) same ∙ mark-here level reads m d l differs
+mark-at level reads j m d h l same differs = mark-stretch level reads j m d h (omega arith) same
+    ∙ mark-here level reads m d l differs
 
 -- there is no mark where no read from j on differs
-pub mark-none : (level : ℕ) (reads : List ℕ) (j d : ℕ) → j ≤ length reads → ((i : ℕ) → j ≤ i → i < length reads → getD reads i d ≡ level) → fromMark level (drop j reads) ≡ []
+pub mark-none : (level : ℕ) (reads : List ℕ) (j d : ℕ) → j ≤ length reads
+    → ((i : ℕ) → j ≤ i → i < length reads → getD reads i d ≡ level) → fromMark level (drop j reads) ≡ []
 mark-none level reads j d h same =
     mark-stretch level reads j (length reads) d h (omega arith) same ∙ mark-end level reads (length reads) (omega arith)

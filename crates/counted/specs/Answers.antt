@@ -1,4 +1,5 @@
--- 01, "The counted receiver" and "Refusal numbers": what it answers and leaves in the lent output, for all input, and what each case of the code says.
+-- 01, "The counted receiver" and "Refusal numbers": what it answers and leaves in the lent output, for all input, and
+-- what each case of the code says.
 use Prim.Native.Nat.{ℕ}
 use mathlib.Core.Bool.{_&&_}
 use mathlib.Core.List.{List}
@@ -12,11 +13,13 @@ use Rattle.counted.specs.Counted.{counted}
 use Rattle.counted.specs.declared.Counted.{Counted}
 use Rattle.counted.specs.declared.Counted.the-variants.{Bits, RanOut, Refused}
 
--- The bits found stand at the output's front, also where they are fewer than asked for, which is refusal 5 and says how many they are. It has no place.
+-- The bits found stand at the output's front, also where they are fewer than asked for, which is refusal 5 and says how
+-- many they are. It has no place.
 abbrev pub found : ℕ → List ℕ → List ℕ → Answer ℕ × List ℕ
 found n bits output = (choose (eqb (length bits) n) (given n) (refusedAfter 5 0 (length bits)), onto bits output)
 
--- Refusal 1 for k, n or the level in force out of range, 3 for a list of reads over its limit, 2 for an entry that is no level, 4 for an output shorter than n bits, then 5.
+-- Refusal 1 for k, n or the level in force out of range, 3 for a list of reads over its limit, 2 for an entry that is
+-- no level, 4 for an output shorter than n bits, then 5.
 unfoldable pub countedBits : ℕ → ℕ → ℕ → List ℕ → List ℕ → Answer ℕ × List ℕ
 countedBits k n level reads output =
     ranged (sampling k && leb n bitsMost && leb level 1) output

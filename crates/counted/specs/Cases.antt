@@ -18,7 +18,12 @@ abbrev P7-2 : Case
 P7-2 = record { kind = Answer ℕ × List ℕ; gives = countedBits 3 2 1 sent output; printed = (given 2, 1 ∷ 0 ∷ 9 ∷ []) }
 
 abbrev P7-3 : Case
-P7-3 = record { kind = Answer ℕ × List ℕ; gives = countedBits 3 3 1 sent output; printed = (refusedAfter 5 0 2, 1 ∷ 0 ∷ 9 ∷ []) }
+P7-3 = record {
+  kind = Answer ℕ × List ℕ;
+  gives = countedBits 3 3 1 sent output;
+  printed =
+      (refusedAfter 5 0 2, 1 ∷ 0 ∷ 9 ∷ []);
+}
 
 abbrev P7-0 : Case
 P7-0 = record { kind = Answer ℕ × List ℕ; gives = countedBits 3 0 1 sent output; printed = (given 0, 7 ∷ 8 ∷ 9 ∷ []) }

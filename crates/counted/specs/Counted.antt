@@ -11,7 +11,8 @@ unfoldable pub fromMark : ℕ → List ℕ → List ℕ
 fromMark level [] = []
 fromMark level (read ∷ reads) = choose (eqb read level) (fromMark level reads) (read ∷ reads)
 
--- A cell's bit, from the reads from its mark on and from its sample on, and then what is found from the sample on, whose level is now in force.
+-- A cell's bit, from the reads from its mark on and from its sample on, and then what is found from the sample on,
+-- whose level is now in force.
 -- Where either is missing nothing more is found.
 abbrev pub sampled : (ℕ → List ℕ → List ℕ) → List ℕ → List ℕ → List ℕ
 sampled next [] onward = []

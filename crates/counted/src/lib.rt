@@ -37,10 +37,12 @@ fn in_range(k: ReadCycles, n: usize, level: u8) -> bool
     level <= HIGH
 }
 
-// Gives the place of the next mark: where, from `current` on, a read is first unlike the level; the number of reads where none is.
+// Gives the place of the next mark: where, from `current` on, a read is first unlike the level; the number of reads
+// where none is.
 fn find_mark(reads: &[u8], current: usize, level: u8) -> usize
     requires { ⌜ current ≤ length (now reads) ⌝ }
-    ensures { λ mark. ⌜ (mark ≤ length (now (reads .entry))) × (fromMark level (drop current (now (reads .entry))) ≡ drop mark (now (reads .entry))) ⌝ }
+    ensures { λ mark. ⌜ (mark ≤ length (now (reads .entry)))
+        × (fromMark level (drop current (now (reads .entry))) ≡ drop mark (now (reads .entry))) ⌝ }
 {
     let mut i = current;
     while i < reads.len() {
@@ -70,7 +72,8 @@ fn bit(mark: u8, sample: u8) -> u8
 // Finds n bits, or as many as there are, and writes them.
 fn count_into(k: ReadCycles, n: usize, level: u8, reads: &[u8], out: &mut [u8]) -> Counted
     requires { ⌜ n ≤ length (now out) ⌝ }
-    ensures { λ x. ⌜ found n (counted (k .0) n level (now (reads .entry))) (now (out .entry)) ≡ (countedSays x, now (out .exit)) ⌝ }
+    ensures { λ x. ⌜ found n (counted (k .0) n level (now (reads .entry))) (now (out .entry))
+        ≡ (countedSays x, now (out .exit)) ⌝ }
 {
     let mut held = level;
     let mut current = 0;
@@ -89,11 +92,15 @@ fn count_into(k: ReadCycles, n: usize, level: u8, reads: &[u8], out: &mut [u8]) 
     Counted::Bits(n)
 }
 
-// The counted receiver. Gives the n bits of a message that starts with the level in force, each from its mark and the read k places later.
-// Refuses with 1 (k, n or level), 3 (more than 1,048,576 reads), 2 (the place of the first read that is no level), 4 (an output shorter than n), then 5.
-// The output holds the bits found at its front, fewer than n with refusal 5, and is otherwise untouched; refusals 1 to 4 leave all of it.
+// The counted receiver. Gives the n bits of a message that starts with the level in force, each from its mark and the
+// read k places later.
+// Refuses with 1 (k, n or level), 3 (more than 1,048,576 reads), 2 (the place of the first read that is no level), 4
+// (an output shorter than n), then 5.
+// The output holds the bits found at its front, fewer than n with refusal 5, and is otherwise untouched; refusals 1 to
+// 4 leave all of it.
 pub fn count_bits(k: ReadCycles, n: usize, level: u8, reads: &[u8], out: &mut [u8]) -> Counted
-    ensures { λ x. ⌜ countedBits (k .0) n level (now (reads .entry)) (now (out .entry)) ≡ (countedSays x, now (out .exit)) ⌝ }
+    ensures { λ x. ⌜ countedBits (k .0) n level (now (reads .entry)) (now (out .entry))
+        ≡ (countedSays x, now (out .exit)) ⌝ }
 {
     if !in_range(k, n, level) {
         return Counted::Refused(Refusal::Setting(0));

@@ -1,4 +1,5 @@
--- Levels that are reconciled in turn: in which order does not matter, since the answer is their level where all are equal and otherwise unknown.
+-- Levels that are reconciled in turn: in which order does not matter, since the answer is their level where all are
+-- equal and otherwise unknown.
 use mathlib.Core.Path.{_≡_, refl, sym, _∙_}
 use mathlib.Core.Logic.{dite}
 use Prim.Native.Nat.{ℕ}

@@ -1,4 +1,5 @@
--- The first cycle left for a read starts by the read's start and ends after it: the read before dropped just those that had ended.
+-- The first cycle left for a read starts by the read's start and ends after it: the read before dropped just those that
+-- had ended.
 use mathlib.Core.Path.{_≡_}
 use mathlib.Core.Logic.{dite}
 use mathlib.Core.List.{List}
@@ -40,5 +41,6 @@ unfolding firstLeft
 first-left clocks levels zero = record { within = omega arith; begun = clocks .begun; unended = λ h. clocks .unended }
 first-left {starts} {reads} clocks levels (suc j) =
     let before = first-left clocks levels j in
-    dropped-law starts (reads (suc j)) levels (length levels - firstLeft starts reads levels j) (firstLeft starts reads levels j)
+    dropped-law starts (reads (suc j)) levels (length levels - firstLeft starts reads levels j)
+    (firstLeft starts reads levels j)
     (omega (arith, before .within)) (omega (arith, before .begun, clocks .reads-on j))

@@ -1,4 +1,5 @@
--- The three passes together, by any two clocks: a read whose cycles all kept one level is that level, since settle keeps what is known, and every
+-- The three passes together, by any two clocks: a read whose cycles all kept one level is that level, since settle
+-- keeps what is known, and every
 -- read is a level, since it is known or a choice.
 use mathlib.Core.Path.{_≡_, _∙_}
 use mathlib.Core.List.{List}
@@ -18,11 +19,13 @@ use Rattle.line.proofs.SettleLaws.{length-settle, settle-keeps, settle-
 
 module _ {starts reads : ℕ → ℕ} (clocks : Clocks starts reads) (levels choices : List ℕ) where
   -- a read that ends by the end of the last cycle is there
-  pub line-there : (j : ℕ) → reads (suc j) ≤ starts (length levels) → j < length (settle (warpBy starts reads (smooth levels)) choices)
+  pub line-there : (j : ℕ) → reads (suc j) ≤ starts (length levels)
+      → j < length (settle (warpBy starts reads (smooth levels)) choices)
   line-there j ends = rw length-settle (read-there clocks (smooth levels) j (rw length-smooth ends))
 
   -- every read that is there ends by it
-  pub line-ends : (j : ℕ) → j < length (settle (warpBy starts reads (smooth levels)) choices) → reads (suc j) ≤ starts (length levels)
+  pub line-ends : (j : ℕ) → j < length (settle (warpBy starts reads (smooth levels)) choices)
+      → reads (suc j) ≤ starts (length levels)
   line-ends j h = rw length-smooth at (read-ends clocks (smooth levels) j (rw length-settle at h))
 
   -- a read all of whose cycles have level v after smoothing is v
@@ -37,4 +40,5 @@ module _ {starts reads : ℕ → ℕ} (clocks : Clocks starts reads) (levels cho
   -- every read is a level
   pub line-most : AtMost 1 levels → AtMost 1 choices → AtMost 1 (settle (warpBy starts reads (smooth levels)) choices)
   line-most sent chosen =
-      settle-most (warpBy starts reads (smooth levels)) choices (reads-most clocks (smooth levels) (smooth-most 1 levels sent)) chosen
+      settle-most (warpBy starts reads (smooth levels)) choices
+      (reads-most clocks (smooth levels) (smooth-most 1 levels sent)) chosen

@@ -42,7 +42,8 @@ module _ (starts : ℕ → ℕ) (t : ℕ) (levels : List ℕ) where
   look-known on zero i left v is known k from within begun = absurd (omega arith)
   look-known on (suc n) i left v is known k from within begun =
       dite (decLt (starts (suc i)) t)
-      (λ more. reconciled (rw (look-more starts t levels i 2 (omega arith) more) at is) (look-known on n (suc i) (omega arith) v))
+      (λ more. reconciled (rw (look-more starts t levels i 2 (omega arith) more) at is)
+      (look-known on n (suc i) (omega arith) v))
       (λ last.
       ⊎-elim (λ e. rw (← e) (rw (look-last starts t levels i 2 (omega arith) (omega arith)) at is))
       (λ after. absurd (omega (arith, in-order on (suc i) k after))) (eq-or-lt-of-le from))
@@ -57,7 +58,8 @@ module _ (starts : ℕ → ℕ) (t : ℕ) (levels : List ℕ) where
           dite (ℕ-discrete (getD levels i 2) rest)
           (λ e.
           let this : getD levels i 2 ≡ v = rw (eq-eqb (getD levels i 2) rest e) at both in
-          ⊎-elim (λ here. rw (← here) this) (λ after. later (sym e ∙ this) known k after within begun) (eq-or-lt-of-le from))
+          ⊎-elim (λ here. rw (← here) this) (λ after. later (sym e ∙ this) known k after within begun)
+          (eq-or-lt-of-le from))
           (λ n. absurd (known (sym (rw (ne-eqb (getD levels i 2) rest n) at both))))
 
 -- no read is more than unknown

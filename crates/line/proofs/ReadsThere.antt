@@ -1,4 +1,5 @@
--- Which reads there are, and what each one is: the list of reads goes on just as long as the next one ends by the end of the last cycle.
+-- Which reads there are, and what each one is: the list of reads goes on just as long as the next one ends by the end
+-- of the last cycle.
 use mathlib.Core.Path.{_≡_, refl}
 use mathlib.Core.Logic.{dite}
 use mathlib.Core.List.{List, [], _∷_}
@@ -28,12 +29,15 @@ readAt starts reads levels j =
 module _ (starts reads : ℕ → ℕ) (levels : List ℕ) (end : ℕ) where
   -- a read that ends in time is there, and the others follow it
   pub reads-more : (most j : ℕ) → reads (suc j) ≤ end
-      → readsFrom starts reads levels end (suc most) j ≡ readAt starts reads levels j ∷ readsFrom starts reads levels end most (suc j)
+      → readsFrom starts reads levels end (suc most) j
+      ≡ readAt starts reads levels j ∷ readsFrom starts reads levels end most (suc j)
   unfolding warpFrom firstLeft
   reads-more most j ends =
       rw (
         le-leb (reads (suc j)) end ends,
-        drop-drop (dropped starts (reads (suc j)) (firstLeft starts reads levels j) (drop (firstLeft starts reads levels j) levels))
+        drop-drop
+            (dropped starts (reads (suc j)) (firstLeft starts reads levels j)
+            (drop (firstLeft starts reads levels j) levels))
             (firstLeft starts reads levels j) levels,
       )
 
@@ -50,7 +54,8 @@ module _ (starts reads : ℕ → ℕ) (levels : List ℕ) (end : ℕ) where
   -- where there is any read, the first of them ends in time
   first-ends : (most j q : ℕ) → q < length (readsFrom starts reads levels end most j) → reads (suc j) ≤ end
   first-ends most j q h =
-      dite (decLe (reads (suc j)) end) (λ ends. ends) (λ late. absurd (omega (arith, rw (reads-over most j (omega arith)) at h)))
+      dite (decLe (reads (suc j)) end) (λ ends. ends)
+      (λ late. absurd (omega (arith, rw (reads-over most j (omega arith)) at h)))
 
   -- each read that is there ends in time
   pub from-ends : (most j q : ℕ) → q < length (readsFrom starts reads levels end most j) → reads (suc (j + q)) ≤ end
@@ -67,7 +72,8 @@ module _ (starts reads : ℕ → ℕ) (levels : List ℕ) (end : ℕ) where
   from-is (suc most) j zero h = rw (reads-more most j (first-ends (suc most) j zero h), add-zero)
   from-is (suc most) j (suc q) h =
       let ends = first-ends (suc most) j (suc q) h in
-      rw (reads-more most j ends, add-suc, ← suc-add) (from-is most (suc j) q (omega (arith, rw (reads-more most j ends) at h)))
+      rw (reads-more most j ends, add-suc, ← suc-add)
+      (from-is most (suc j) q (omega (arith, rw (reads-more most j ends) at h)))
 
   -- each read that ends in time is there, unless there may be no more
   pub from-there : ((j k : ℕ) → j ≤ k → reads j ≤ reads k) → (most j q : ℕ) → q < most → reads (suc (j + q)) ≤ end
@@ -92,7 +98,8 @@ module _ {starts reads : ℕ → ℕ} (clocks : Clocks starts reads) (levels : L
   read-ends j h = rw zero-add at (from-ends starts reads levels (starts (length levels)) (starts (length levels)) 0 j h)
 
   -- a read that is there is what its look says
-  pub read-looks : (j : ℕ) → j < length (warpBy starts reads levels) → getD (warpBy starts reads levels) j 2 ≡ readAt starts reads levels j
+  pub read-looks : (j : ℕ) → j < length (warpBy starts reads levels)
+      → getD (warpBy starts reads levels) j 2 ≡ readAt starts reads levels j
   unfolding firstLeft
   read-looks j h = rw zero-add at (from-is starts reads levels (starts (length levels)) (starts (length levels)) 0 j h)
 
@@ -100,5 +107,6 @@ module _ {starts reads : ℕ → ℕ} (clocks : Clocks starts reads) (levels : L
   pub reads-most : AtMost 2 levels → AtMost 2 (warpBy starts reads levels)
   reads-most all j h =
       rw (getD-any (warpBy starts reads levels) j 0 2 h, read-looks j h)
-      (look-most starts (reads (suc j)) (firstLeft starts reads levels j) (drop (firstLeft starts reads levels j) levels)
+      (look-most starts (reads (suc j)) (firstLeft starts reads levels j)
+      (drop (firstLeft starts reads levels j) levels)
       (most-drop 2 (firstLeft starts reads levels j) levels all))

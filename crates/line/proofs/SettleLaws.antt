@@ -1,4 +1,5 @@
--- Settle read by read: a known read stays and an unknown one is the next choice, so every read is a level where the choices are.
+-- Settle read by read: a known read stays and an unknown one is the next choice, so every read is a level where the
+-- choices are.
 use mathlib.Core.Path.{_≡_, refl, ap}
 use mathlib.Core.Logic.{dite}
 use mathlib.Core.List.{List, [], _∷_}
@@ -21,7 +22,8 @@ length-settle (read ∷ reads) choices =
     (λ known. rw (ne-eqb read 2 known) (ap suc (length-settle reads choices)))
 
 -- a known read keeps its level
-pub settle-keeps : (reads choices : List ℕ) (j : ℕ) → (getD reads j 2 ≡ 2 → ⊥) → getD (settle reads choices) j 2 ≡ getD reads j 2
+pub settle-keeps : (reads choices : List ℕ) (j : ℕ) → (getD reads j 2 ≡ 2 → ⊥)
+    → getD (settle reads choices) j 2 ≡ getD reads j 2
 unfolding settle
 settle-keeps [] choices j known = refl
 settle-keeps (read ∷ reads) choices zero known = rw (ne-eqb read 2 known)
@@ -55,7 +57,8 @@ settle-most (read ∷ reads) choices all levels =
 
 -- from a place on, for a loop that counts by one
 pub settle-unknown : (reads choices : List ℕ) (i used : ℕ) → i < length reads → getD reads i 0 ≡ 2
-    → settle (drop i reads) (drop used choices) ≡ next (drop used choices) ∷ settle (drop (i + 1) reads) (drop (used + 1) choices)
+    → settle (drop i reads) (drop used choices)
+    ≡ next (drop used choices) ∷ settle (drop (i + 1) reads) (drop (used + 1) choices)
 unfolding settle
 settle-unknown reads choices i used h unknown =
     rw (drop-cons reads i 0 h, eq-eqb (getD reads i 0) 2 unknown, drop-drop 1 used choices, add-one i)

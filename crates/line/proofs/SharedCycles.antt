@@ -1,4 +1,5 @@
--- What a read looks at are the cycles that overlap it in time, these and no others, and so it is the level that they all have: the first one
+-- What a read looks at are the cycles that overlap it in time, these and no others, and so it is the level that they
+-- all have: the first one
 -- left is the first that ends after the read's start, and the look goes on just as long as cycles start before its end.
 use mathlib.Core.Path.{_≡_, refl, sym}
 use mathlib.Core.Logic.{⊎-elim, dite}
@@ -23,13 +24,17 @@ module _ {starts reads : ℕ → ℕ} (clocks : Clocks starts reads) (levels : L
   still-left : (i : ℕ) → reads j < starts (suc i) → firstLeft starts reads levels j ≤ i
   still-left i late =
       dite (decLe (firstLeft starts reads levels j) i) (λ h. h)
-      (λ h. absurd (omega (arith, first .begun, cycles-in-order clocks (suc i) (firstLeft starts reads levels j) (omega arith))))
+      (λ h. absurd
+      (omega (arith, first .begun, cycles-in-order clocks (suc i) (firstLeft starts reads levels j) (omega arith))))
 
   -- a cycle that is left ends after the read's start
   left-late : (i : ℕ) → i < length levels → firstLeft starts reads levels j ≤ i → reads j < starts (suc i)
   left-late i within left =
-      omega
-      (arith, first .unended (omega arith), cycles-in-order clocks (suc (firstLeft starts reads levels j)) (suc i) (omega arith))
+      omega (
+        arith,
+        first .unended (omega arith),
+        cycles-in-order clocks (suc (firstLeft starts reads levels j)) (suc i) (omega arith),
+      )
 
   pub shared-looked-at : (i : ℕ) → Shares starts reads j i → LooksAt starts reads levels j i
   shared-looked-at i shares = record {
@@ -50,7 +55,8 @@ module _ {starts reads : ℕ → ℕ} (clocks : Clocks starts reads) (levels : L
       later after = before-this i after (looks .onward)
         where
           before-this : (i : ℕ) → firstLeft starts reads levels j < i
-              → ((m : ℕ) → firstLeft starts reads levels j ≤ m → m < i → starts (suc m) < reads (suc j)) → starts i < reads (suc j)
+              → ((m : ℕ) → firstLeft starts reads levels j ≤ m → m < i → starts (suc m) < reads (suc j))
+              → starts i < reads (suc j)
           before-this zero after onward = absurd (omega arith)
           before-this (suc m) after onward = onward m (omega arith) (omega arith)
 
@@ -58,9 +64,11 @@ module _ {starts reads : ℕ → ℕ} (clocks : Clocks starts reads) (levels : L
   look-is : reads (suc j) ≤ starts (length levels) → ReadIs starts reads levels j (readAt starts reads levels j)
   look-is ends = record {
     same = λ x all.
-        look-same starts (reads (suc j)) levels (length levels - firstLeft starts reads levels j) (firstLeft starts reads levels j)
+        look-same starts (reads (suc j)) levels (length levels - firstLeft starts reads levels j)
+        (firstLeft starts reads levels j)
         (omega (arith, first .within)) (omega (arith, first .begun, clocks .reads-on j)) ends x
-        (λ i left within begun. all i within (record { before-the-end = begun; after-the-start = left-late i within left }));
+        (λ i left within begun. all i within
+        (record { before-the-end = begun; after-the-start = left-late i within left }));
     known = λ known i within shares.
         look-known starts (reads (suc j)) levels (clocks .cycles-on) (length levels - firstLeft starts reads levels j)
         (firstLeft starts reads levels j) (omega (arith, first .within)) (readAt starts reads levels j) refl known i
@@ -68,16 +76,19 @@ module _ {starts reads : ℕ → ℕ} (clocks : Clocks starts reads) (levels : L
   }
 
   -- a read that is there is the level that the cycles sharing time with it all have, else unknown
-  pub read-is : j < length (warpBy starts reads levels) → ReadIs starts reads levels j (getD (warpBy starts reads levels) j 2)
+  pub read-is : j < length (warpBy starts reads levels)
+      → ReadIs starts reads levels j (getD (warpBy starts reads levels) j 2)
   read-is h = rw (read-looks clocks levels j h) (look-is (read-ends clocks levels j h))
 
   -- a read that ends by the end of the last cycle, and all of whose cycles have level v, is v
   pub read-same : (v : ℕ) → reads (suc j) ≤ starts (length levels)
-      → ((i : ℕ) → i < length levels → Shares starts reads j i → getD levels i 2 ≡ v) → getD (warpBy starts reads levels) j 2 ≡ v
+      → ((i : ℕ) → i < length levels → Shares starts reads j i → getD levels i 2 ≡ v)
+      → getD (warpBy starts reads levels) j 2 ≡ v
   read-same v ends all = read-is (read-there clocks levels j ends) .same v all
 
 -- only one level is read j
-pub read-is-one : (starts reads : ℕ → ℕ) (levels : List ℕ) (j v u : ℕ) → ReadIs starts reads levels j v → ReadIs starts reads levels j u
+pub read-is-one : (starts reads : ℕ → ℕ) (levels : List ℕ) (j v u : ℕ) → ReadIs starts reads levels j v
+    → ReadIs starts reads levels j u
     → v ≡ u
 read-is-one starts reads levels j v u one other =
     dite (ℕ-discrete v 2)

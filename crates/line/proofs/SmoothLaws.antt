@@ -57,7 +57,8 @@ pub smooth-most : (before : ℕ) (levels : List ℕ) → AtMost 1 levels → AtM
 unfolding smoothFrom
 smooth-most before [] all = most-none 2
 smooth-most before (level ∷ levels) all =
-    most-more 2 (smoothOne before level) (smoothFrom level levels) this (smooth-most level levels (most-rest 1 level levels all))
+    most-more 2 (smoothOne before level) (smoothFrom level levels) this
+    (smooth-most level levels (most-rest 1 level levels all))
   where
     this : smoothOne before level ≤ 2
     this =
@@ -73,7 +74,8 @@ smooth-agreed before level =
 
 -- from a place on, for a loop that counts by one
 pub smooth-step : (before : ℕ) (levels : List ℕ) (i : ℕ) → i < length levels
-    → smoothFrom before (drop i levels) ≡ reconcile (getD levels i 0) before ∷ smoothFrom (getD levels i 0) (drop (i + 1) levels)
+    → smoothFrom before (drop i levels)
+    ≡ reconcile (getD levels i 0) before ∷ smoothFrom (getD levels i 0) (drop (i + 1) levels)
 unfolding smoothFrom
 smooth-step before levels i h = rw (drop-cons levels i 0 h, add-one, ← smooth-agreed before (getD levels i 0))
 

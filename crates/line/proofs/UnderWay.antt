@@ -1,4 +1,5 @@
--- A read under way: with each cycle looked at, what it has found and the cycles to come still make the same read and leave the same cycle.
+-- A read under way: with each cycle looked at, what it has found and the cycles to come still make the same read and
+-- leave the same cycle.
 use mathlib.Core.Path.{_≡_, refl, _∙_}
 use mathlib.Core.Logic.{dite}
 use mathlib.Core.List.{List}
@@ -61,14 +62,19 @@ module _ (starts : ℕ → ℕ) (t : ℕ) (levels : List ℕ) where
       })
 
   -- the rest is reconciled with what is found
-  pub way-again : (read left level next end v u : ℕ) → UnderWay starts t levels read left level next → starts next ≡ end → end < t
-      → reconcile level (look starts t next (drop next levels)) ≡ v → next + dropped starts t next (drop next levels) ≡ u
+  pub way-again : (read left level next end v u : ℕ) → UnderWay starts t levels read left level next
+      → starts next ≡ end → end < t
+      → reconcile level (look starts t next (drop next levels)) ≡ v
+      → next + dropped starts t next (drop next levels) ≡ u
       → (read ≡ v) × (left ≡ u)
-  way-again read left level next end v u way at-end begun is leaves = (way .more (omega arith) ∙ is, way .gone (omega arith) ∙ leaves)
+  way-again read left level next end v u way at-end begun is leaves =
+      (way .more (omega arith) ∙ is, way .gone (omega arith) ∙ leaves)
 
-  -- The last cycle looked at does not end before the read, and the next takes time: the read is what is found, and that cycle is left unless
+  -- The last cycle looked at does not end before the read, and the next takes time: the read is what is found, and that
+  -- cycle is left unless
   -- it ends with the read.
-  pub way-ends : (read left level next end v u : ℕ) → UnderWay starts t levels read left level next → starts next ≡ end → t ≤ end
+  pub way-ends : (read left level next end v u : ℕ) → UnderWay starts t levels read left level next → starts next ≡ end
+      → t ≤ end
       → starts next < starts (suc next) → level ≡ v → choose (ltb t end) (next - 1) next ≡ u → (read ≡ v) × (left ≡ u)
   way-ends read left level next end v u way at-end over takes is leaves = (
     way .done (omega arith) ∙ is,

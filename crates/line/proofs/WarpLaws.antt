@@ -1,4 +1,5 @@
--- The laws of warp that 01 asks for: those of any two clocks, at cycles of w units and reads of r units from p on. The number of reads is
+-- The laws of warp that 01 asks for: those of any two clocks, at cycles of w units and reads of r units from p on. The
+-- number of reads is
 -- the quotient, since read j is there exactly if its end, p + (j + 1)·r, is at most L·w.
 use mathlib.Core.Path.{_≡_, refl}
 use mathlib.Core.Logic.{dite}
@@ -20,15 +21,18 @@ unfolding warp
 warp-by w r p levels = refl
 
 -- one read more fits into the cycles exactly if it ends by the last one's end
-pub counted-ends : (w r p cycles j : ℕ) → 0 < r → j < readCount w r p cycles → readStart p r (suc j) ≤ cycleStart w cycles
+pub counted-ends : (w r p cycles j : ℕ) → 0 < r → j < readCount w r p cycles
+    → readStart p r (suc j) ≤ cycleStart w cycles
 counted-ends w r p zero j some-r h = absurd (omega arith)
 counted-ends w r p (suc cycles) j some-r h = omega (arith, le-div-iff-mul-le some-r .0 h)
 
-pub ends-counted : (w r p cycles j : ℕ) → 0 < r → readStart p r (suc j) ≤ cycleStart w cycles → j < readCount w r p cycles
+pub ends-counted : (w r p cycles j : ℕ) → 0 < r → readStart p r (suc j) ≤ cycleStart w cycles
+    → j < readCount w r p cycles
 ends-counted w r p zero j some-r h = absurd (omega arith)
 ends-counted w r p (suc cycles) j some-r h = le-div-iff-mul-le some-r .1 (omega arith)
 
-pub uncounted-late : (w r p cycles j : ℕ) → 0 < r → readCount w r p cycles ≤ j → cycleStart w cycles < readStart p r (suc j)
+pub uncounted-late : (w r p cycles j : ℕ) → 0 < r → readCount w r p cycles ≤ j
+    → cycleStart w cycles < readStart p r (suc j)
 uncounted-late w r p cycles j some-r h =
     dite (decLt (cycleStart w cycles) (readStart p r (suc j))) (λ late. late)
     (λ ends. absurd (omega (arith, ends-counted w r p cycles j some-r (omega arith))))

@@ -1,4 +1,5 @@
--- A loop that warps a wave read by read: so many reads are written, the rest are to come, and the next one begins with the first cycle left.
+-- A loop that warps a wave read by read: so many reads are written, the rest are to come, and the next one begins with
+-- the first cycle left.
 use mathlib.Core.Path.{_≡_, refl, sym}
 use mathlib.Core.List.{List}
 use Prim.Native.Nat.{ℕ, suc, _+_, _-_, _<_, _≤_}
@@ -26,7 +27,8 @@ module _ {starts reads : ℕ → ℕ} (clocks : Clocks starts reads) (levels : L
   run-none out₀ = record { at = refl; wrote = rw (sub-zero (starts (length levels))) (wrote-none _ _) }
 
   -- the next read ends after the first cycle left starts
-  pub run-begun : (out₀ out : List ℕ) (first j : ℕ) → Run starts reads levels out₀ out first j → starts first < reads (suc j)
+  pub run-begun : (out₀ out : List ℕ) (first j : ℕ) → Run starts reads levels out₀ out first j
+      → starts first < reads (suc j)
   run-begun out₀ out first j run = rw (← run .at) (omega (arith, first-left clocks levels j .begun, clocks .reads-on j))
 
   left-next : (first j t left : ℕ) → firstLeft starts reads levels j ≡ first → reads (suc j) ≡ t
@@ -43,17 +45,21 @@ module _ {starts reads : ℕ → ℕ} (clocks : Clocks starts reads) (levels : L
       let end = starts (length levels) in
       let more : starts (length levels) - j ≡ suc (starts (length levels) - suc j) =
       omega (arith, rw zero-add at (reads-take (clocks .reads-on) 0 (suc j))) in
-      let next = rw (more, reads-more starts reads levels end (end - suc j) j (omega arith), run .at, e, is) at (run .wrote) in
+      let next =
+      rw (more, reads-more starts reads levels end (end - suc j) j (omega arith), run .at, e, is) at (run .wrote) in
       record {
         at = rw (add-one j) (left-next first j t left (run .at) e leaves);
-        wrote = wrote-more (warpBy starts reads levels) out₀ out (readsFrom starts reads levels end (end - (j + 1)) (j + 1)) j v
+        wrote = wrote-more (warpBy starts reads levels) out₀ out
+            (readsFrom starts reads levels end (end - (j + 1)) (j + 1)) j v
             (rw (add-one j) next) room;
       }
 
   -- with the first read that would end later, all are written
-  pub run-all : (out₀ out : List ℕ) (first j : ℕ) → Run starts reads levels out₀ out first j → starts (length levels) < reads (suc j)
+  pub run-all : (out₀ out : List ℕ) (first j : ℕ) → Run starts reads levels out₀ out first j
+      → starts (length levels) < reads (suc j)
       → j ≤ length out₀ → onto (warpBy starts reads levels) out₀ ≡ out
   run-all out₀ out first j run late room =
       sym
       (wrote-all _ _ _ _
-      (rw (reads-over starts reads levels (starts (length levels)) (starts (length levels) - j) j late) at (run .wrote)) room)
+      (rw (reads-over starts reads levels (starts (length levels)) (starts (length levels) - j) j late) at
+      (run .wrote)) room)

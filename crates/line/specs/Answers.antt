@@ -1,4 +1,5 @@
--- 01, "The line, three passes" and "Refusal numbers": what each pass answers and leaves in the lent output, for all input, and what each case of the code says.
+-- 01, "The line, three passes" and "Refusal numbers": what each pass answers and leaves in the lent output, for all
+-- input, and what each case of the code says.
 use Prim.Native.Nat.{ℕ}
 use mathlib.Core.Bool.{Bool, _&&_}
 use mathlib.Core.List.{List}

@@ -49,7 +49,8 @@ pub record WarpLaws (w r p : ℕ) (levels : List ℕ) : Type 0 where
   pub shared-looked-at : (j i : ℕ) → j < length (warp w r p levels) → i < length levels
       → Shares (cycleStart w) (readStart p r) j i → LooksAt (cycleStart w) (readStart p r) levels j i
   -- and it is the level that they all have, else unknown
-  pub is : (j : ℕ) → j < length (warp w r p levels) → ReadIs (cycleStart w) (readStart p r) levels j (getD (warp w r p levels) j 2)
+  pub is : (j : ℕ) → j < length (warp w r p levels)
+      → ReadIs (cycleStart w) (readStart p r) levels j (getD (warp w r p levels) j 2)
 
 -- they hold of every wave, wherever a read takes time and the phase is below one writer cycle
 abbrev pub WarpLawsHold : Type 0

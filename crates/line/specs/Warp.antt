@@ -17,7 +17,8 @@ readStart p r j = p + j * r
 abbrev pub reconcile : ℕ → ℕ → ℕ
 reconcile one other = choose (eqb one other) one 2
 
--- What a read that ends at time t is. It starts with cycle i, the first one left, and goes on to the next while the cycle just looked at is over before t.
+-- What a read that ends at time t is. It starts with cycle i, the first one left, and goes on to the next while the
+-- cycle just looked at is over before t.
 unfoldable pub look : (ℕ → ℕ) → ℕ → ℕ → List ℕ → ℕ
 look starts t i [] = 2
 look starts t i (level ∷ levels) =
@@ -28,7 +29,8 @@ unfoldable pub dropped : (ℕ → ℕ) → ℕ → ℕ → List ℕ → ℕ
 dropped starts t i [] = 0
 dropped starts t i (level ∷ levels) = choose (leb (starts (suc i)) t) (suc (dropped starts t (suc i) levels)) 0
 
--- The reads from read j on, with cycle i the first one left. There is a read only if it ends by `end`, when the last writer cycle is over.
+-- The reads from read j on, with cycle i the first one left. There is a read only if it ends by `end`, when the last
+-- writer cycle is over.
 -- The first argument bounds how many are made, so that the recursion ends.
 unfoldable pub warpFrom : ℕ → (ℕ → ℕ) → (ℕ → ℕ) → ℕ → ℕ → ℕ → List ℕ → List ℕ
 warpFrom zero starts reads end j i levels = []
@@ -39,7 +41,8 @@ warpFrom (suc most) starts reads end j i levels =
     (drop (dropped starts (reads (suc j)) i levels) levels))
     []
 
--- a wave warped by two clocks: no read is shorter than one time unit, so there are at most as many as the wave has units
+-- a wave warped by two clocks: no read is shorter than one time unit, so there are at most as many as the wave has
+-- units
 abbrev pub warpBy : (ℕ → ℕ) → (ℕ → ℕ) → List ℕ → List ℕ
 warpBy starts reads levels = warpFrom (starts (length levels)) starts reads (starts (length levels)) 0 0 levels
 

@@ -1,4 +1,5 @@
-// The line model: the three passes that a wave goes through before it is read, each over bytes: 0 low, 1 high, 2 unknown.
+// The line model: the three passes that a wave goes through before it is read, each over bytes: 0 low, 1 high, 2
+// unknown.
 ghost use mathlib.Core.Path.{_≡_};
 ghost use mathlib.Core.Bool.{true};
 ghost use Prim.Native.Nat.{_+_, _-_, _*_, _<_, _≤_};
@@ -57,7 +58,8 @@ fn smooth_into(wave: &[u8], out: &mut [u8])
     }
 }
 
-// Pass 1, smooth. Gives the wave with each cycle unknown at which the level changed; the line was high before the first.
+// Pass 1, smooth. Gives the wave with each cycle unknown at which the level changed; the line was high before the
+// first.
 // Refuses a wave over its limit (3), an entry that is no level (2, its place), and an output shorter than the wave (4).
 // The output's front holds the smoothed wave, and its rest is untouched; a refusal leaves it whole as it was.
 pub fn smooth(wave: &[u8], out: &mut [u8]) -> Smoothed
@@ -142,7 +144,8 @@ fn up_to(last: WriterCycles, level: u8, w: TimeUnits) -> Looking
 
 // Looks at one cycle more.
 fn look_on(wave: &[u8], looking: Looking, w: TimeUnits) -> Looking
-    requires { ⌜ (cycleLength (w .0) ≡ true) × (length (now wave) ≤ entriesMost) × (looking .next .0 < length (now wave)) ⌝ }
+    requires { ⌜ (cycleLength (w .0) ≡ true) × (length (now wave) ≤ entriesMost)
+        × (looking .next .0 < length (now wave)) ⌝ }
     ensures { λ x. ⌜ (agree (looking .level) (getD (now (wave .entry)) (looking .next .0) 0) ≡ x .level)
         × (looking .next .0 + 1 ≡ x .next .0) × (x .next .0 * w .0 ≡ x .end .0) ⌝ }
 {
@@ -175,13 +178,16 @@ fn leave(looking: Looking, t: TimeUnits) -> Looked
     }
 }
 
-// The most cycles that one call of reconcile looks at. A read looks at 65,535 at most, so at most 1,024 calls are open at a time.
+// The most cycles that one call of reconcile looks at. A read looks at 65,535 at most, so at most 1,024 calls are open
+// at a time.
 const BLOCK: usize = 64;
 
-// Reconciles the level found so far with the cycles that the read, which ends at `t`, has yet to look at: with a block of them here, and
+// Reconciles the level found so far with the cycles that the read, which ends at `t`, has yet to look at: with a block
+// of them here, and
 // with the rest by a call of itself. The number of cycles left falls at each call.
 fn reconcile(wave: &[u8], looking: Looking, w: TimeUnits, t: TimeUnits) -> Looked
-    requires { ⌜ (cycleLength (w .0) ≡ true) × (length (now wave) ≤ entriesMost) × (looking .next .0 * w .0 ≡ looking .end .0)
+    requires { ⌜ (cycleLength (w .0) ≡ true) × (length (now wave) ≤ entriesMost)
+        × (looking .next .0 * w .0 ≡ looking .end .0)
         × (looking .end .0 < t .0) × (t .0 ≤ length (now wave) * w .0) ⌝ }
     ensures { λ x. ⌜ (agree (looking .level) (look (cycleStart (w .0)) (t .0) (looking .next .0)
         (drop (looking .next .0) (now (wave .entry)))) ≡ x .level)
@@ -206,13 +212,15 @@ fn reconcile(wave: &[u8], looking: Looking, w: TimeUnits, t: TimeUnits) -> Looke
     leave(at, t)
 }
 
-// One read, which ends at `t`: it looks at the cycles left over, one after another. A read of up to twice a cycle's length looks at
+// One read, which ends at `t`: it looks at the cycles left over, one after another. A read of up to twice a cycle's
+// length looks at
 // three at most, and those are taken here, without a call.
 fn one_read(wave: &[u8], first: WriterCycles, w: TimeUnits, t: TimeUnits) -> Looked
     requires { ⌜ (cycleLength (w .0) ≡ true) × (length (now wave) ≤ entriesMost)
         × (first .0 * w .0 < t .0) × (t .0 ≤ length (now wave) * w .0) ⌝ }
     ensures { λ x. ⌜ (look (cycleStart (w .0)) (t .0) (first .0) (drop (first .0) (now (wave .entry))) ≡ x .level)
-        × (first .0 + dropped (cycleStart (w .0)) (t .0) (first .0) (drop (first .0) (now (wave .entry))) ≡ x .left .0) ⌝ }
+        × (first .0 + dropped (cycleStart (w .0)) (t .0) (first .0) (drop (first .0) (now (wave .entry)))
+        ≡ x .left .0) ⌝ }
 {
     let until = t.0;
     let i = first.0;
@@ -252,11 +260,13 @@ fn warp_into(wave: &[u8], w: TimeUnits, r: TimeUnits, p: TimeUnits, n: ReadCycle
 }
 
 // Pass 2, warp. Gives the reads of a wave whose cycles are w long, by a reader whose reads are r long and start at p.
-// Refuses times out of range and a p that is not below w (1), a wave over its limit and one whose reads would be (3), an entry that is no
+// Refuses times out of range and a p that is not below w (1), a wave over its limit and one whose reads would be (3),
+// an entry that is no
 // level and not unknown (2, its place), and an output shorter than the reads (4).
 // The output's front holds the reads, and its rest is untouched; a refusal leaves it whole as it was.
 pub fn warp(wave: &[u8], w: TimeUnits, r: TimeUnits, p: TimeUnits, out: &mut [u8]) -> Read
-    ensures { λ x. ⌜ warped (w .0) (r .0) (p .0) (now (wave .entry)) (now (out .entry)) ≡ (readSays x, now (out .exit)) ⌝ }
+    ensures { λ x. ⌜ warped (w .0) (r .0) (p .0) (now (wave .entry)) (now (out .entry))
+        ≡ (readSays x, now (out .exit)) ⌝ }
 {
     if !timed(w, r, p) {
         return Read::Refused(Refusal::Setting(0));
@@ -293,7 +303,8 @@ fn choice(choices: &[u8], used: usize) -> u8
 // One store for both kinds of read, so that the loop has one way round.
 fn settle_into(reads: &[u8], choices: &[u8], out: &mut [u8])
     requires { ⌜ length (now reads) ≤ length (now out) ⌝ }
-    ensures { λ _. ⌜ onto (settling (now (reads .entry)) (now (choices .entry))) (now (out .entry)) ≡ now (out .exit) ⌝ }
+    ensures { λ _. ⌜ onto (settling (now (reads .entry)) (now (choices .entry))) (now (out .entry))
+        ≡ now (out .exit) ⌝ }
 {
     let mut used = 0;
     let mut i = 0;
@@ -309,11 +320,13 @@ fn settle_into(reads: &[u8], choices: &[u8], out: &mut [u8])
 }
 
 // Pass 3, settle. Gives the reads with each unknown one made the next choice, or low where none is left.
-// Refuses reads or choices over their limit (3), a read that is no level and not unknown and then a choice that is no level (2, its place
+// Refuses reads or choices over their limit (3), a read that is no level and not unknown and then a choice that is no
+// level (2, its place
 // in its own list), and an output shorter than the reads (4).
 // The output's front holds the settled reads, and its rest is untouched; a refusal leaves it whole as it was.
 pub fn settle(reads: &[u8], choices: &[u8], out: &mut [u8]) -> Read
-    ensures { λ x. ⌜ settled (now (reads .entry)) (now (choices .entry)) (now (out .entry)) ≡ (readSays x, now (out .exit)) ⌝ }
+    ensures { λ x. ⌜ settled (now (reads .entry)) (now (choices .entry)) (now (out .entry))
+        ≡ (readSays x, now (out .exit)) ⌝ }
 {
     if ENTRIES_MOST < reads.len() {
         return Read::Refused(Refusal::Limit);

@@ -1,4 +1,5 @@
-// Runs the worked cases P1 to P10 and refusals of each kind through the operations, and prints what each gives; the file `stdout` has what it is to be.
+// Runs the worked cases P1 to P10 and refusals of each kind through the operations, and prints what each gives; the
+// file `stdout` has what it is to be.
 mod counting;
 mod judging;
 mod passing;

@@ -1,4 +1,5 @@
--- What a capture that is accepted has: settings in their ranges, reads that are levels, and no more of them than a stream may have, since each run was judged with the total before it.
+-- What a capture that is accepted has: settings in their ranges, reads that are levels, and no more of them than a
+-- stream may have, since each run was judged with the total before it.
 use Prim.Native.Nat.{ℕ, zero, suc, _+_, _-_, _≤_}
 use mathlib.Core.Path.{_≡_, refl, ap}
 use mathlib.Core.Bool.{Bool, true, false, _&&_}
@@ -11,7 +12,8 @@ use Rattle.measure.specs.Choose.{choose}
 use Rattle.measure.specs.Ranges.{sampling, rowBits, quiet, entriesMost, captureMost}
 use Rattle.measure.specs.Refusals.{Answer, given, refused}
 use Rattle.capture.specs.Numbers.{Group, value, cut, long, group, further}
-use Rattle.capture.specs.Capture.{Heading, Capture, then, joined, run, runsFrom, totalMost, withRuns, heading, capture, readsOf}
+use Rattle.capture.specs.Capture.{Heading, Capture, then, joined, run, runsFrom, totalMost, withRuns, heading, capture}
+use Rattle.capture.specs.Capture.{readsOf}
 use Rattle.capture.proofs.Headings.{then-given, in-range, fitting-given, heading-given, heading-level}
 use Rattle.capture.proofs.Reading.{captured, with-given}
 use Rattle.capture.proofs.Runs.{sum, length-reads}
@@ -41,35 +43,43 @@ reads-binary : (level : ℕ) (runs : List ℕ) → level ≤ 1 → Binary (reads
 unfolding readsOf
 reads-binary level [] h i = omega arith
 reads-binary level (count ∷ runs) h i =
-    append-binary (replicate count level) (readsOf (1 - level) runs) (run-binary count level h) (reads-binary (1 - level) runs (omega arith)) i
+    append-binary (replicate count level) (readsOf (1 - level) runs) (run-binary count level h)
+    (reads-binary (1 - level) runs (omega arith)) i
 
 -- the runs' total
 
-runs-total : (skip total at : ℕ) (l runs : List ℕ) → total ≤ totalMost → runsFrom skip total at l ≡ given runs → total + sum runs ≤ totalMost
+runs-total : (skip total at : ℕ) (l runs : List ℕ) → total ≤ totalMost → runsFrom skip total at l ≡ given runs
+    → total + sum runs ≤ totalMost
 unfolding runsFrom
 runs-total skip total at [] runs h e = let r : [] ≡ runs = cc in rw (← r) (omega arith)
 runs-total (suc skip) total at (byte ∷ l) runs h e = runs-total skip total (suc at) l runs h e
-runs-total zero total at (byte ∷ l) runs h e = go (group further (byte ∷ l)) (λ skip total runs. runs-total skip total (suc at) l runs) e
+runs-total zero total at (byte ∷ l) runs h e =
+    go (group further (byte ∷ l)) (λ skip total runs. runs-total skip total (suc at) l runs) e
   where
     Rest : Type 0
-    Rest = (skip total : ℕ) (runs : List ℕ) → total ≤ totalMost → runsFrom skip total (suc at) l ≡ given runs → total + sum runs ≤ totalMost
+    Rest = (skip total : ℕ) (runs : List ℕ) → total ≤ totalMost → runsFrom skip total (suc at) l ≡ given runs
+        → total + sum runs ≤ totalMost
 
     some : (v size : ℕ) (test : Bool) → (leb 1 v && leb (total + v) totalMost) ≡ test → Rest
-        → choose test (joined v (runsFrom (size - 1) (total + v) (suc at) l)) (refused 8 at) ≡ given runs → total + sum runs ≤ totalMost
+        → choose test (joined v (runsFrom (size - 1) (total + v) (suc at) l)) (refused 8 at) ≡ given runs
+        → total + sum runs ≤ totalMost
     some v size true t rest e =
-        let low : total + v ≤ totalMost = leb-true (total + v) totalMost (and-right (leb 1 v) (leb (total + v) totalMost) t) in
+        let low : total + v ≤ totalMost =
+        leb-true (total + v) totalMost (and-right (leb 1 v) (leb (total + v) totalMost) t) in
         let others = then-given (runsFrom (size - 1) (total + v) (suc at) l) (λ runs. given (v ∷ runs)) runs e in
         let r : v ∷ others .0 ≡ runs = cc (others .1 .1) in
         rw (← r) (omega (arith, rest (size - 1) (total + v) (others .0) low (others .1 .0)))
     some v size false t rest e = let z : _≡_ {A = ℕ} 0 1 = cc in absurd (omega arith)
 
-    go : (g : Group) → Rest → run at total g (λ skip sum. runsFrom skip sum (suc at) l) ≡ given runs → total + sum runs ≤ totalMost
+    go : (g : Group) → Rest → run at total g (λ skip sum. runsFrom skip sum (suc at) l) ≡ given runs
+        → total + sum runs ≤ totalMost
     go (value v size) rest e = some v size (leb 1 v && leb (total + v) totalMost) refl rest e
     go cut rest e = let z : _≡_ {A = ℕ} 0 1 = cc in absurd (omega arith)
     go long rest e = let z : _≡_ {A = ℕ} 0 1 = cc in absurd (omega arith)
 
 -- a capture by its heading and its runs
-accepted-runs : (s : List ℕ) (h : Heading) (runs : List ℕ) → heading s ≡ given h → runsFrom 0 0 (h .after) (drop (h .after) s) ≡ given runs → Accepted (captured h runs)
+accepted-runs : (s : List ℕ) (h : Heading) (runs : List ℕ) → heading s ≡ given h
+    → runsFrom 0 0 (h .after) (drop (h .after) s) ≡ given runs → Accepted (captured h runs)
 accepted-runs s h runs e r =
     let four = heading-given s h e in
     let k = in-range 1 511 (four .k .value) (fitting-given sampling s 0 (four .k) (four .k-fits) .1) in
@@ -89,7 +99,8 @@ accepted-runs s h runs e r =
             Q-most = omega arith;
           };
       levels = reads-binary (h .level) runs (heading-level s h e);
-      few = omega (arith, length-reads (h .level) runs, runs-total 0 0 (h .after) (drop (h .after) s) runs (omega arith) r);
+      few = omega
+          (arith, length-reads (h .level) runs, runs-total 0 0 (h .after) (drop (h .after) s) runs (omega arith) r);
     }
 
 pub accepted : (s : List ℕ) (c : Capture) → capture s ≡ given c → Accepted c

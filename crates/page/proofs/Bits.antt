@@ -1,4 +1,5 @@
--- A row's bits in its bytes and on its line: bit i is the binary digit of weight 2 to the power i % 8 of byte i / 8, and each bit is one byte of text.
+-- A row's bits in its bytes and on its line: bit i is the binary digit of weight 2 to the power i % 8 of byte i / 8,
+-- and each bit is one byte of text.
 use mathlib.Core.Path.{_≡_, refl, sym, ap, _∙_}
 use mathlib.Core.List.{List, [], _∷_}
 use Prim.Native.Nat.{ℕ, zero, suc, _+_, _*_, _/_, _%_, _^_, _≤_, _<_}
@@ -16,7 +17,8 @@ digits-at zero x r h = absurd (omega arith)
 digits-at (suc w) x zero h = rw (div-one x)
 digits-at (suc w) x (suc r) h = digits-at w (x / 2) r (omega arith) ∙ rw (div-div-eq-div-mul x 2 (2 ^ r), pow-succ' 2 r)
 
-unpacked-at : (w : ℕ) (words : List ℕ) (q r : ℕ) → r < w → getD (unpacked w words) (q * w + r) 0 ≡ getD words q 0 / 2 ^ r % 2
+unpacked-at : (w : ℕ) (words : List ℕ) (q r : ℕ) → r < w
+    → getD (unpacked w words) (q * w + r) 0 ≡ getD words q 0 / 2 ^ r % 2
 unfolding unpacked
 unpacked-at w [] q r h = rw (zero-div (2 ^ r))
 unpacked-at w (x ∷ words) zero r h =
@@ -56,7 +58,8 @@ pub held-some : (bytes : List ℕ) (n : ℕ) → n / 8 < length bytes → n ≡ 
 held-some bytes n h = sym (length-take-le n (unpacked 8 bytes) (omega (arith, length-unpacked 8 bytes)))
 
 pub held-all : (bytes : List ℕ) (n : ℕ) → length bytes ≤ n / 8 → length bytes * 8 ≡ length (take n (unpacked 8 bytes))
-held-all bytes n h = sym (rw (take-all n (unpacked 8 bytes) (omega (arith, length-unpacked 8 bytes))) (length-unpacked 8 bytes))
+held-all bytes n h =
+    sym (rw (take-all n (unpacked 8 bytes) (omega (arith, length-unpacked 8 bytes))) (length-unpacked 8 bytes))
 
 pub taken-within : (n : ℕ) (l : List ℕ) → length (take n l) ≤ length l
 taken-within n l = omega (arith, length-take n l)

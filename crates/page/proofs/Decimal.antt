@@ -1,4 +1,5 @@
--- A number in decimal: nothing where there is no digit left, its one digit below ten, and otherwise the digits of its tenth before its last.
+-- A number in decimal: nothing where there is no digit left, its one digit below ten, and otherwise the digits of its
+-- tenth before its last.
 use mathlib.Core.Path.{_≡_, refl}
 use mathlib.Core.List.{List, [], _∷_, _++_}
 use Prim.Native.Nat.{ℕ, zero, suc, _+_, _-_, _/_, _%_, _<_, _≤_}
@@ -18,7 +19,8 @@ unfolding decimalIn
 decimal-one zero n h l = absurd (h refl)
 decimal-one (suc digits) n h l = rw (lt-ltb n 10 l)
 
-pub decimal-more : (digits n : ℕ) → (digits ≡ 0 → ⊥) → 10 ≤ n → decimalIn digits n ≡ decimalIn (digits - 1) (n / 10) ++ digit (n % 10) ∷ []
+pub decimal-more : (digits n : ℕ) → (digits ≡ 0 → ⊥) → 10 ≤ n
+    → decimalIn digits n ≡ decimalIn (digits - 1) (n / 10) ++ digit (n % 10) ∷ []
 unfolding decimalIn
 decimal-more zero n h l = absurd (h refl)
 decimal-more (suc digits) n h l = let e : suc digits - 1 ≡ digits = omega arith in rw (le-ltb n 10 l, e)
@@ -31,8 +33,10 @@ size-none digits n e = rw (decimal-none digits n e)
 pub size-one : (digits n : ℕ) → (digits ≡ 0 → ⊥) → n < 10 → length (decimalIn digits n) ≡ 1
 size-one digits n h l = rw (decimal-one digits n h l)
 
-pub size-more : (digits n : ℕ) → (digits ≡ 0 → ⊥) → 10 ≤ n → length (decimalIn digits n) ≡ length (decimalIn (digits - 1) (n / 10)) + 1
-size-more digits n h l = rw (decimal-more digits n h l) (length-append (decimalIn (digits - 1) (n / 10)) (digit (n % 10) ∷ []))
+pub size-more : (digits n : ℕ) → (digits ≡ 0 → ⊥) → 10 ≤ n
+    → length (decimalIn digits n) ≡ length (decimalIn (digits - 1) (n / 10)) + 1
+size-more digits n h l =
+    rw (decimal-more digits n h l) (length-append (decimalIn (digits - 1) (n / 10)) (digit (n % 10) ∷ []))
 
 -- a last digit stored behind those of the tenth
 pub more-stored : (output stored : List ℕ) (at last digits n : ℕ) → (digits ≡ 0 → ⊥) → 10 ≤ n

@@ -1,4 +1,5 @@
--- The first report parts the reads: those up to and with its read bring it alone, and the others are fed from the state and the place after them.
+-- The first report parts the reads: those up to and with its read bring it alone, and the others are fed from the state
+-- and the place after them.
 use Prim.Native.Nat.{ℕ, suc, _+_, _≤_}
 use mathlib.Core.Path.{_≡_, sym, _∙_, ap, subst}
 use mathlib.Core.List.{List, [], _∷_}
@@ -13,7 +14,8 @@ Some nothing = ⊥
 Some (row bits) = Unit {0}
 Some (broken found) = Unit {0}
 
-pub record First (step : Step) (s : State) (place : ℕ) (reads : List ℕ) (report : Report) (more : List Report) : Type 0 where
+pub record First (step : Step) (s : State) (place : ℕ) (reads : List ℕ) (report : Report)
+    (more : List Report) : Type 0 where
   pub used : ℕ
   pub least : 1 ≤ used
   pub most : used ≤ length reads
@@ -28,7 +30,8 @@ first-report step s place [] report more e = let z : _≡_ {A = ℕ} 0 1 = cc in
 first-report step s place (read ∷ reads) report more e =
     go (step s read .event) e (first-report step (step s read .state) (suc place) reads report more)
   where
-    later : First step (step s read .state) (suc place) reads report more → First step s place (read ∷ reads) report more
+    later : First step (step s read .state) (suc place) reads report more
+        → First step s place (read ∷ reads) report more
     later f =
         let p : suc place + f .used ≡ place + suc (f .used) = omega arith in
         record {
@@ -41,7 +44,9 @@ first-report step s place (read ∷ reads) report more e =
         }
 
     here : (event : Event) → Some event
-        → _≡_ {A = List Report} (record { place = place; event = event } ∷ reportsBy step (step s read .state) (suc place) reads) (report ∷ more)
+        → _≡_ {A = List Report}
+        (record { place = place; event = event } ∷ reportsBy step (step s read .state) (suc place) reads)
+        (report ∷ more)
         → First step s place (read ∷ reads) report more
     here event some e =
         let r : record { place = place; event = event } ≡ report = cc in
@@ -57,7 +62,8 @@ first-report step s place (read ∷ reads) report more e =
         }
 
     go : (event : Event) → noted place event (reportsBy step (step s read .state) (suc place) reads) ≡ report ∷ more
-        → (reportsBy step (step s read .state) (suc place) reads ≡ report ∷ more → First step (step s read .state) (suc place) reads report more)
+        → (reportsBy step (step s read .state) (suc place) reads ≡ report ∷ more
+        → First step (step s read .state) (suc place) reads report more)
         → First step s place (read ∷ reads) report more
     go nothing e rest = later (rest e)
     go (row bits) e rest = here (row bits) tt e

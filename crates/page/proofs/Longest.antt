@@ -1,4 +1,5 @@
--- No line is longer than twenty digits, a row's word, 1,024 bits and a line feed: numbers have at most twenty digits, and a row comes in 128 bytes.
+-- No line is longer than twenty digits, a row's word, 1,024 bits and a line feed: numbers have at most twenty digits,
+-- and a row comes in 128 bytes.
 use Prim.Native.Nat.{ℕ, zero, suc, _-_, _/_, _≤_}
 use mathlib.Core.Path.{_≡_, refl}
 use mathlib.Core.List.{List}
@@ -12,7 +13,8 @@ use Rattle.board.specs.Answers.{eventSays}
 use Rattle.board.specs.declared.Event.{Event as CodeEvent}
 use Rattle.board.specs.declared.Event.the-variants.{Nothing, Row, Broken, Refused}
 use Rattle.board.proofs.PackedBits.{length-unpacked}
-use Rattle.page.specs.Text.{feed, rowText, brokenText, endText, rowsText, refusedText, atText, decimalIn, decimal, bitsText}
+use Rattle.page.specs.Text.{feed, rowText, brokenText, endText, rowsText, refusedText, atText, decimalIn, decimal}
+use Rattle.page.specs.Text.{bitsText}
 use Rattle.page.specs.Lines.{refusedLine}
 use Rattle.page.specs.Walk.{Walk, lineAt}
 use Rattle.page.proofs.Bits.{text-length, taken-within}
@@ -38,9 +40,15 @@ refused-most refusal =
       digits-most 20 (placeOf refusal),
     )
 
-pub longest : (w : Walk) (n : ℕ) (bytes : List ℕ) (event : CodeEvent) → length bytes ≤ 128 → length (lineAt w (eventSays n bytes event)) ≤ 1050
+pub longest : (w : Walk) (n : ℕ) (bytes : List ℕ) (event : CodeEvent) → length bytes ≤ 128
+    → length (lineAt w (eventSays n bytes event)) ≤ 1050
 longest w n bytes Nothing h =
-    omega (arith, length-five endText (decimal (w .place)) rowsText (decimal (w .rows)) feed, digits-most 20 (w .place), digits-most 20 (w .rows))
+    omega (
+      arith,
+      length-five endText (decimal (w .place)) rowsText (decimal (w .rows)) feed,
+      digits-most 20 (w .place),
+      digits-most 20 (w .rows),
+    )
 longest w n bytes Row h =
     let bits = take n (unpacked 8 bytes) in
     omega (
@@ -52,5 +60,10 @@ longest w n bytes Row h =
       length-unpacked 8 bytes,
     )
 longest w n bytes (Broken found) h =
-    omega (arith, length-four (decimal (w .place - 1)) brokenText (decimal found) feed, digits-most 20 (w .place - 1), digits-most 20 found)
+    omega (
+      arith,
+      length-four (decimal (w .place - 1)) brokenText (decimal found) feed,
+      digits-most 20 (w .place - 1),
+      digits-most 20 found,
+    )
 longest w n bytes (Refused refusal) h = refused-most refusal

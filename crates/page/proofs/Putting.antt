@@ -1,4 +1,5 @@
--- A line is put piece by piece: each piece is stored where the one before ends, so the line stands at the front of the output.
+-- A line is put piece by piece: each piece is stored where the one before ends, so the line stands at the front of the
+-- output.
 use mathlib.Core.Path.{_≡_, _∙_}
 use mathlib.Core.List.{List, _++_}
 use Prim.Native.Nat.{ℕ, _+_, _≤_, _<_}
@@ -15,7 +16,8 @@ pub record Stands (line output stored : List ℕ) (end : ℕ) : Type 0 where
   pub ends : end ≡ length line
   pub stores : stored ≡ sets output 0 line
 
-pub stands-first : (piece output stored : List ℕ) (end : ℕ) → (end ≡ 0 + length piece) × (stored ≡ sets output 0 piece) → Stands piece output stored end
+pub stands-first : (piece output stored : List ℕ) (end : ℕ) → (end ≡ 0 + length piece) × (stored ≡ sets output 0 piece)
+    → Stands piece output stored end
 stands-first piece output stored end put = record { ends = omega (arith, put .0); stores = put .1 }
 
 pub stands-more : (line piece output stored more : List ℕ) (at end : ℕ) → Stands line output stored at
@@ -29,7 +31,8 @@ stands-more line piece output stored more at end before put =
     }
 
 -- a line that stands there is lent, where there is room for it
-pub lent-whole : (line output stored : List ℕ) (end : ℕ) → length line ≤ length output → Stands line output stored end → lent line output ≡ (given end, stored)
+pub lent-whole : (line output stored : List ℕ) (end : ℕ) → length line ≤ length output → Stands line output stored end
+    → lent line output ≡ (given end, stored)
 lent-whole line output stored end h s =
     rw (le-ltb (length output) (length line) h, s .ends, s .stores, laid-first line output h)
 
@@ -41,7 +44,8 @@ lent-short line output h = rw (lt-ltb (length output) (length line) h)
 pub length-four : (a b c d : List ℕ) → length (a ++ b ++ c ++ d) ≡ length a + length b + length c + length d
 length-four a b c d = simp length-append
 
-pub length-five : (a b c d e : List ℕ) → length (a ++ b ++ c ++ d ++ e) ≡ length a + length b + length c + length d + length e
+pub length-five : (a b c d e : List ℕ)
+    → length (a ++ b ++ c ++ d ++ e) ≡ length a + length b + length c + length d + length e
 length-five a b c d e = simp length-append
 
 -- the line of a refusal by the numbers that its number and place were found to be

@@ -1,4 +1,5 @@
--- Turn by turn the lines are those of all reports and the last: a turn takes the reads up to the first report, puts its line, and leaves the others to the turns after it.
+-- Turn by turn the lines are those of all reports and the last: a turn takes the reads up to the first report, puts its
+-- line, and leaves the others to the turns after it.
 use Prim.Native.Nat.{ℕ, zero, suc, _+_, _-_, _≤_, _<_}
 use mathlib.Core.Path.{_≡_, refl, sym, _∙_, ap}
 use mathlib.Core.Bool.{true}
@@ -32,10 +33,12 @@ levels-all (read ∷ reads) b = rw (le-leb read 1 (b 0)) (ap suc (levels-all rea
 valid-after : (g : Settings) (s : State) (reads : List ℕ) → Valid g s → Binary reads → Valid g (after g s reads)
 unfolding afterBy
 valid-after g s [] v b = v
-valid-after g s (read ∷ reads) v b = valid-after g (next g s read .state) reads (valid-next g s read v (b 0)) (λ i. b (suc i))
+valid-after g s (read ∷ reads) v b =
+    valid-after g (next g s read .state) reads (valid-next g s read v (b 0)) (λ i. b (suc i))
 
 -- listening to levels, from a well formed state and within the limit, is not refused
-pub listened-levels : (g : Settings) (s : State) (reads : List ℕ) → Valid g s → Binary reads → length reads ≤ entriesMost
+pub listened-levels : (g : Settings) (s : State) (reads : List ℕ) → Valid g s → Binary reads
+    → length reads ≤ entriesMost
     → listened (receiverOf g s) reads ≡ toEvent g s reads (reports g s 0 reads)
 unfolding listened
 listened-levels g s reads v b h =
@@ -75,29 +78,36 @@ page-none end rows = append-nil (endLine end rows) ∙ rw (zero-add rows)
 
 -- a report's line, and then the page without it
 page-more : (end : ℕ) (report : Report) (more : List Report) (rows : ℕ)
-    → eventLine (report .place) (report .event) ++ pageFrom end more (oneMore (report .event) rows) ≡ pageFrom end (report ∷ more) rows
+    → eventLine (report .place) (report .event) ++ pageFrom end more (oneMore (report .event) rows)
+    ≡ pageFrom end (report ∷ more) rows
 unfolding eventLines rowsIn
 page-more end report more rows =
     rw (counts-on (report .event) (rowsIn more) rows)
-    (sym (append-assoc (eventLine (report .place) (report .event)) (eventLines more) (endLine end (rowsIn more + oneMore (report .event) rows))))
+    (sym (append-assoc (eventLine (report .place) (report .event)) (eventLines more)
+    (endLine end (rowsIn more + oneMore (report .event) rows))))
 
 pub lines-from : (g : Settings) (turns : ℕ) (s : State) (place rows : ℕ) (reads : List ℕ) → Valid g s → Binary reads
     → length reads ≤ entriesMost → length reads < turns
-    → linesFrom turns (record { receiver = receiverOf g s; place = place; rows = rows }) reads ≡ pageFrom (place + length reads) (reports g s place reads) rows
+    → linesFrom turns (record { receiver = receiverOf g s; place = place; rows = rows }) reads
+    ≡ pageFrom (place + length reads) (reports g s place reads) rows
 unfolding linesFrom
 lines-from g zero s place rows reads v b h t = absurd (omega arith)
 lines-from g (suc turns) s place rows reads v b h t =
-    let e : reports g s place reads ≡ map (later place) (reports g s 0 reads) = rw zero-add at (reports-later (next g) s 0 place reads) in
+    let e : reports g s place reads ≡ map (later place) (reports g s 0 reads) =
+    rw zero-add at (reports-later (next g) s 0 place reads) in
     rw (listened-levels g s reads v b h, e) (go (reports g s 0 reads) refl (lines-from g turns))
   where
     w : Walk
     w = record { receiver = receiverOf g s; place = place; rows = rows }
 
     go : (told : List Report) → reports g s 0 reads ≡ told
-        → ((s : State) (place rows : ℕ) (reads : List ℕ) → Valid g s → Binary reads → length reads ≤ entriesMost → length reads < turns
-        → linesFrom turns (record { receiver = receiverOf g s; place = place; rows = rows }) reads ≡ pageFrom (place + length reads) (reports g s place reads) rows)
+        → ((s : State) (place rows : ℕ) (reads : List ℕ) → Valid g s → Binary reads → length reads ≤ entriesMost
+        → length reads < turns
+        → linesFrom turns (record { receiver = receiverOf g s; place = place; rows = rows }) reads
+        ≡ pageFrom (place + length reads) (reports g s place reads) rows)
         → lineAt (onward w (toEvent g s reads told)) (toEvent g s reads told .0 .answer)
-        ++ choose (goesOn (toEvent g s reads told .0 .answer)) (linesFrom turns (onward w (toEvent g s reads told)) (drop (toEvent g s reads told .1) reads)) []
+        ++ choose (goesOn (toEvent g s reads told .0 .answer))
+        (linesFrom turns (onward w (toEvent g s reads told)) (drop (toEvent g s reads told .1) reads)) []
         ≡ pageFrom (place + length reads) (map (later place) told) rows
     go [] e rest = page-none (place + length reads) rows
     go (report ∷ more) e rest =
@@ -112,7 +122,8 @@ lines-from g (suc turns) s place rows reads v b h t =
         let others : more ≡ reports g end n left = rw (u, z) at (f .others) in
         let turned : n + place ≡ place + n = omega arith in
         let all : map (later place) more ≡ reports g end (place + n) left =
-        ap (map (later place)) others ∙ sym (reports-later (next g) end n place left) ∙ ap (λ (p : ℕ). reports g end p left) turned
+        ap (map (later place)) others ∙ sym (reports-later (next g) end n place left)
+        ∙ ap (λ (p : ℕ). reports g end p left) turned
         in
         let more-lines = rest end (place + n) (oneMore (report .event) rows) left
         (valid-after g s (take n reads) v (binary-take n reads b))
@@ -122,5 +133,12 @@ lines-from g (suc turns) s place rows reads v b h t =
         in
         let here : place + n - 1 ≡ report .place + place = omega arith in
         let whole : place + n + length left ≡ place + length reads = omega arith in
-        rw (line-event (onward w (toEvent g s reads (report ∷ more))) (report .event) (f .some), goes-event (report .event) (f .some), more-lines, all, here, whole)
+        rw (
+          line-event (onward w (toEvent g s reads (report ∷ more))) (report .event) (f .some),
+          goes-event (report .event) (f .some),
+          more-lines,
+          all,
+          here,
+          whole,
+        )
         (page-more (place + length reads) (later place report) (reports g end (place + n) left) rows)

@@ -1,4 +1,5 @@
--- What the program writes on its way is the whole output: its reads are the accepted capture's, and the lines from fresh on are those of all their reports.
+-- What the program writes on its way is the whole output: its reads are the accepted capture's, and the lines from
+-- fresh on are those of all their reports.
 use Prim.Native.Nat.{ℕ, _+_, _≤_}
 use mathlib.Core.Path.{_≡_, refl, ap, _∙_}
 use mathlib.Core.List.{List, _++_}
@@ -31,21 +32,30 @@ module _ (c : Capture) (good : Accepted c) where
   begin-fresh = rw (of-ranged (settingsOf c) (good .range))
 
   page-lines : linesOf (begin (summary c)) (readsIn c)
-      ≡ eventLines (reports (settingsOf c) fresh 0 (readsIn c)) ++ endLine (length (readsIn c)) (rowsIn (reports (settingsOf c) fresh 0 (readsIn c)))
+      ≡ eventLines (reports (settingsOf c) fresh 0 (readsIn c))
+      ++ endLine (length (readsIn c)) (rowsIn (reports (settingsOf c) fresh 0 (readsIn c)))
   page-lines =
       rw begin-fresh
-      (lines-from (settingsOf c) (length (readsIn c) + 1) fresh 0 0 (readsIn c) (valid-fresh (settingsOf c) (good .range)) (good .levels) (good .few) (omega arith)
+      (lines-from (settingsOf c) (length (readsIn c) + 1) fresh 0 0 (readsIn c)
+      (valid-fresh (settingsOf c) (good .range)) (good .levels) (good .few) (omega arith)
       ∙ rw (zero-add (length (readsIn c)), add-zero (rowsIn (reports (settingsOf c) fresh 0 (readsIn c)))))
 
-wrote-printed : (reads : List ℕ) (answer : Answer Capture) → ((c : Capture) → answer ≡ given c → Accepted c) → length reads ≡ entriesMost
+wrote-printed : (reads : List ℕ) (answer : Answer Capture) → ((c : Capture) → answer ≡ given c → Accepted c)
+    → length reads ≡ entriesMost
     → wroteBy (unrolled answer reads .0) (unrolled answer reads .1) ≡ printed answer
 wrote-printed reads (refused number place) good h = refl
 wrote-printed reads (refusedAfter number place count) good h = refl
 wrote-printed reads (given c) good h =
     let a : Accepted c = good c refl in
     let room : length (readsIn c) ≤ length reads = omega (arith, a .few) in
-    rw (le-ltb (length reads) (length (readsIn c)) room, take-append-seam (readsIn c) (drop (length (readsIn c)) reads), page-lines c a)
+    rw (
+      le-ltb (length reads) (length (readsIn c)) room,
+      take-append-seam (readsIn c) (drop (length (readsIn c)) reads),
+      page-lines c a,
+    )
 
 pub whole : Whole
 unfolding wrote output readBack
-whole input reads h = ap (choose (ltb inputMost (length input)) (refusedLine 3 0)) (wrote-printed reads (capture input) (accepted input) h)
+whole input reads h =
+    ap (choose (ltb inputMost (length input)) (refusedLine 3 0))
+    (wrote-printed reads (capture input) (accepted input) h)

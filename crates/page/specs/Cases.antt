@@ -23,7 +23,12 @@ example =
 
 -- no byte at all: a capture that ends before its fourth number
 abbrev empty : Case
-empty = record { kind = List ℕ; gives = output []; printed = 114 ∷ 101 ∷ 102 ∷ 117 ∷ 115 ∷ 101 ∷ 100 ∷ 32 ∷ 54 ∷ 32 ∷ 97 ∷ 116 ∷ 32 ∷ 48 ∷ 10 ∷ [] }
+empty = record {
+  kind = List ℕ;
+  gives = output [];
+  printed =
+      114 ∷ 101 ∷ 102 ∷ 117 ∷ 115 ∷ 101 ∷ 100 ∷ 32 ∷ 54 ∷ 32 ∷ 97 ∷ 116 ∷ 32 ∷ 48 ∷ 10 ∷ [];
+}
 
 abbrev pub cases : List Case
 cases = example ∷ empty ∷ []

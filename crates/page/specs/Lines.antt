@@ -9,7 +9,8 @@ use Rattle.measure.specs.Refusals.{Answer, given, refused, refusedAfter}
 use Rattle.capture.specs.Capture.{Capture, capture, readsOf}
 use Rattle.board.specs.Rows.{Settings, Event, nothing, row, broken, fresh}
 use Rattle.board.specs.Feeding.{Report, reports}
-use Rattle.page.specs.Text.{feed, headingText, rowText, brokenText, endText, rowsText, refusedText, atText, decimal, bitsText}
+use Rattle.page.specs.Text.{feed, headingText, rowText, brokenText, endText, rowsText, refusedText, atText}
+use Rattle.page.specs.Text.{decimal, bitsText}
 
 -- the same first line, whatever the capture
 abbrev pub headingLine : List ℕ

@@ -1,4 +1,5 @@
--- 01, "Rows program": the program's way through a capture, turn by turn, as its operations answer, and the claim that what it writes on this way is the whole output.
+-- 01, "Rows program": the program's way through a capture, turn by turn, as its operations answer, and the claim that
+-- what it writes on this way is the whole output.
 use Prim.Native.Nat.{ℕ, zero, suc, _+_, _-_}
 use mathlib.Core.Path.{_≡_}
 use mathlib.Core.Bool.{Bool, true, false}
@@ -36,7 +37,8 @@ onward w heard =
       rows = rowsAfter (heard .0 .answer) (w .rows);
     }
 
--- the line that it puts there: an event's, with the place of the read just taken, or the last where nothing was reported
+-- the line that it puts there: an event's, with the place of the read just taken, or the last where nothing was
+-- reported
 abbrev pub lineAt : Walk → Answer Event → List ℕ
 lineAt w (given nothing) = endLine (w .place) (w .rows)
 lineAt w (given (row bits)) = eventLine (w .place - 1) (row bits)
@@ -52,7 +54,8 @@ goesOn (given (broken found)) = true
 goesOn (refused number place) = false
 goesOn (refusedAfter number place count) = false
 
--- The lines from there on over the reads that are left, so many turns at most: in a turn the receiver takes the reads up to and with the next that brings an event.
+-- The lines from there on over the reads that are left, so many turns at most: in a turn the receiver takes the reads
+-- up to and with the next that brings an event.
 unfoldable pub linesFrom : ℕ → Walk → List ℕ → List ℕ
 linesFrom zero w left = []
 linesFrom (suc turns) w left =
@@ -74,11 +77,14 @@ wroteBy (given s) reads = headingLine ++ linesOf (begin s) (take (s .reads .0) r
 wroteBy (refused number place) reads = refusedLine number place
 wroteBy (refusedAfter number place count) reads = refusedLine number place
 
--- what the program writes for its input, with a lent list for the reads; too long an input is refused before it is looked at
+-- what the program writes for its input, with a lent list for the reads; too long an input is refused before it is
+-- looked at
 unfoldable pub wrote : List ℕ → List ℕ → List ℕ
 wrote input reads =
-    choose (ltb inputMost (length input)) (refusedLine 3 0) (wroteBy (readBack input reads .0) (readBack input reads .1))
+    choose (ltb inputMost (length input)) (refusedLine 3 0)
+    (wroteBy (readBack input reads .0) (readBack input reads .1))
 
--- what it writes on this way is the whole output, for every input, where the lent list has room for the longest stream of reads
+-- what it writes on this way is the whole output, for every input, where the lent list has room for the longest stream
+-- of reads
 abbrev pub Whole : Type 0
 Whole = (input reads : List ℕ) → length reads ≡ entriesMost → wrote input reads ≡ output input

@@ -46,7 +46,8 @@ pub enum Put {
 // Stores a text from a place on, and gives the place after it.
 fn put_text(out: &mut [u8], at: usize, text: &[u8]) -> usize
     requires { ⌜ at + length (now text) ≤ length (now out) ⌝ }
-    ensures { λ r. ⌜ (r ≡ at + length (now (text .entry))) × (now (out .exit) ≡ sets (now (out .entry)) at (now (text .entry))) ⌝ }
+    ensures { λ r. ⌜ (r ≡ at + length (now (text .entry)))
+        × (now (out .exit) ≡ sets (now (out .entry)) at (now (text .entry))) ⌝ }
 {
     let mut i = 0;
     while i < text.len() {
@@ -73,7 +74,8 @@ fn size_of(digits: usize, n: usize) -> usize
 // Stores a number in decimal from a place on, and gives the place after it.
 fn put_number(out: &mut [u8], at: usize, digits: usize, n: usize) -> usize
     requires { ⌜ at + length (decimalIn digits n) ≤ length (now out) ⌝ }
-    ensures { λ r. ⌜ (r ≡ at + length (decimalIn digits n)) × (now (out .exit) ≡ sets (now (out .entry)) at (decimalIn digits n)) ⌝ }
+    ensures { λ r. ⌜ (r ≡ at + length (decimalIn digits n))
+        × (now (out .exit) ≡ sets (now (out .entry)) at (decimalIn digits n)) ⌝ }
 {
     if digits == 0 {
         return at;
@@ -107,7 +109,8 @@ fn held(bits: &[u8], n: usize) -> usize
 // Stores the first bits of a row from a place on, so many, and gives the place after them.
 fn put_bits(out: &mut [u8], at: usize, bits: &[u8], count: usize) -> usize
     requires { ⌜ (count ≤ length (unpacked 8 (now bits))) × (at + count ≤ length (now out)) ⌝ }
-    ensures { λ r. ⌜ (r ≡ at + count) × (now (out .exit) ≡ sets (now (out .entry)) at (bitsText (take count (unpacked 8 (now (bits .entry)))))) ⌝ }
+    ensures { λ r. ⌜ (r ≡ at + count)
+        × (now (out .exit) ≡ sets (now (out .entry)) at (bitsText (take count (unpacked 8 (now (bits .entry)))))) ⌝ }
 {
     let mut i = 0;
     while i < count {
@@ -118,7 +121,8 @@ fn put_bits(out: &mut [u8], at: usize, bits: &[u8], count: usize) -> usize
     at + i
 }
 
-// Puts line one, which is fixed, at the front of the lent buffer and gives its length. Refuses with 4 where the buffer is
+// Puts line one, which is fixed, at the front of the lent buffer and gives its length. Refuses with 4 where the buffer
+// is
 // shorter than the line, and then leaves it; what lies beyond the line is untouched.
 pub fn put_heading(out: &mut [u8]) -> Put
     ensures { λ x. ⌜ lent headingLine (now (out .entry)) ≡ (putSays x, now (out .exit)) ⌝ }
@@ -129,11 +133,14 @@ pub fn put_heading(out: &mut [u8]) -> Put
     Put::Line(put_text(out, 0, &HEADING))
 }
 
-// Puts the line of a delivered row at the front of the lent buffer and gives its length: the place of the read that brought
-// it, and the first n of its bits (all of them where they are fewer), packed as the receiver hands them over. Refuses with 4 and
+// Puts the line of a delivered row at the front of the lent buffer and gives its length: the place of the read that
+// brought
+// it, and the first n of its bits (all of them where they are fewer), packed as the receiver hands them over. Refuses
+// with 4 and
 // leaves the buffer as `put_heading` does.
 pub fn put_row(place: ReadCycles, n: usize, bits: &[u8], out: &mut [u8]) -> Put
-    ensures { λ x. ⌜ lent (eventLine (place .0) (row (take n (unpacked 8 (now (bits .entry)))))) (now (out .entry)) ≡ (putSays x, now (out .exit)) ⌝ }
+    ensures { λ x. ⌜ lent (eventLine (place .0) (row (take n (unpacked 8 (now (bits .entry)))))) (now (out .entry))
+        ≡ (putSays x, now (out .exit)) ⌝ }
 {
     let read = place.0;
     let count = held(bits, n);
@@ -150,7 +157,8 @@ pub fn put_row(place: ReadCycles, n: usize, bits: &[u8], out: &mut [u8]) -> Put
     Put::Line(put_text(out, c, &FEED))
 }
 
-// Puts the line of a broken row and gives its length: the place of the read that broke it, and the number of bits dropped.
+// Puts the line of a broken row and gives its length: the place of the read that broke it, and the number of bits
+// dropped.
 // Refuses with 4 and leaves the buffer as `put_heading` does.
 pub fn put_broken(place: ReadCycles, found: usize, out: &mut [u8]) -> Put
     ensures { λ x. ⌜ lent (eventLine (place .0) (broken found)) (now (out .entry)) ≡ (putSays x, now (out .exit)) ⌝ }
@@ -165,7 +173,8 @@ pub fn put_broken(place: ReadCycles, found: usize, out: &mut [u8]) -> Put
     Put::Line(put_text(out, c, &FEED))
 }
 
-// Puts the last line and gives its length: how many reads there were and how many rows came out of them. Refuses with 4 and leaves the buffer as
+// Puts the last line and gives its length: how many reads there were and how many rows came out of them. Refuses with 4
+// and leaves the buffer as
 // `put_heading` does.
 pub fn put_end(reads: ReadCycles, rows: usize, out: &mut [u8]) -> Put
     ensures { λ x. ⌜ lent (endLine (reads .0) rows) (now (out .entry)) ≡ (putSays x, now (out .exit)) ⌝ }
@@ -183,10 +192,12 @@ pub fn put_end(reads: ReadCycles, rows: usize, out: &mut [u8]) -> Put
     Put::Line(put_text(out, d, &FEED))
 }
 
-// Puts the only line of a bad capture and gives its length: the refusal's number and place. Refuses with 4 and leaves the
+// Puts the only line of a bad capture and gives its length: the refusal's number and place. Refuses with 4 and leaves
+// the
 // buffer as `put_heading` does.
 pub fn put_refused(refusal: Refusal, out: &mut [u8]) -> Put
-    ensures { λ x. ⌜ lent (refusedLine (numberOf refusal) (placeOf refusal)) (now (out .entry)) ≡ (putSays x, now (out .exit)) ⌝ }
+    ensures { λ x. ⌜ lent (refusedLine (numberOf refusal) (placeOf refusal)) (now (out .entry))
+        ≡ (putSays x, now (out .exit)) ⌝ }
 {
     let number = measure::number(refusal);
     let place = measure::place(refusal);

@@ -1,4 +1,5 @@
--- What a cell is to a receiver: its two levels, the bit they say, and a smoothed wave that holds the cells of a message.
+-- What a cell is to a receiver: its two levels, the bit they say, and a smoothed wave that holds the cells of a
+-- message.
 use mathlib.Core.Path.{_≡_, refl}
 use mathlib.Core.List.{List, [], _∷_}
 use Prim.Native.Nat.{ℕ, zero, suc, _+_, _-_, _<_}

@@ -39,7 +39,8 @@ module _ {t : ℕ → ℕ} {lo hi : ℕ} (clk : Clock t lo hi) where
       eq i j h = omega arith
 
 -- the cycle in which a time lies, among d cycles from lo on
-pub cycle-of : (t : ℕ → ℕ) (x d lo : ℕ) → t lo ≤ x → x < t (lo + d) → (c : ℕ) × (lo ≤ c) × (c < lo + d) × (t c ≤ x) × (x < t (suc c))
+pub cycle-of : (t : ℕ → ℕ) (x d lo : ℕ) → t lo ≤ x → x < t (lo + d)
+    → (c : ℕ) × (lo ≤ c) × (c < lo + d) × (t c ≤ x) × (x < t (suc c))
 cycle-of t x zero lo p q = absurd (omega (arith, rw add-zero at q))
 cycle-of t x (suc d) lo p q = go (decLe (t (lo + d)) x) (cycle-of t x d lo p)
   where

@@ -1,4 +1,5 @@
--- Accepted settings meet the margins of the inner theorem, which ask one time unit less; source 002's settings are accepted by three orders.
+-- Accepted settings meet the margins of the inner theorem, which ask one time unit less; source 002's settings are
+-- accepted by three orders.
 use mathlib.Core.Path.{_≡_, refl}
 use mathlib.Core.Logic.{dite}
 use mathlib.Core.Bool.{Bool, true, false}
@@ -18,7 +19,9 @@ use Rattle.counted.specs.Answers.{countedBits}
 use Rattle.line.proofs.Entries.{AtMost}
 use Rattle.settings.proofs.Inequalities.{accepted-keeps, keeps-accepted}
 use Rattle.settings.specs.Margins.{accepted}
-use Rattle.promises.specs.CountedReturns.{overTheLine, found, EveryMessageReturned, AcceptedReturn, OperationReturns, WithinOnePartIn, Source002, shortestRead, longestRead, Conjecture002}
+use Rattle.promises.specs.CountedReturns.{overTheLine, found, EveryMessageReturned, AcceptedReturn}
+use Rattle.promises.specs.CountedReturns.{OperationReturns, WithinOnePartIn, Source002, shortestRead, longestRead}
+use Rattle.promises.specs.CountedReturns.{Conjecture002}
 use Rattle.promises.proofs.Timing.{Margins}
 use Rattle.promises.proofs.LevelLists.{most-levels, none-above}
 use Rattle.promises.proofs.Stretches.{wave-most}
@@ -84,7 +87,8 @@ source-002 = record {
 }
 
 accepted-between : (r : ℕ) → shortestRead ≤ r → r ≤ longestRead → accepted 5 13 10 100 r ≡ true
-accepted-between r least most = keeps-accepted 5 13 10 100 r (record { M1 = omega arith; M2 = omega arith; M3 = omega arith })
+accepted-between r least most =
+    keeps-accepted 5 13 10 100 r (record { M1 = omega arith; M2 = omega arith; M3 = omega arith })
 
 not-faster : (r : ℕ) → r < shortestRead → accepted 5 13 10 100 r ≡ false
 not-faster r short = unless (accepted 5 13 10 100 r) (λ h. omega (arith, accepted-keeps 5 13 10 100 r h))

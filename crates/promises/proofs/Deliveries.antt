@@ -1,4 +1,5 @@
--- Where 01's words place a row: the Q reads of a lead are the first that pass the test of lying within it, so the Q-th is the last of them, and the last sample is counted from the read after it.
+-- Where 01's words place a row: the Q reads of a lead are the first that pass the test of lying within it, so the Q-th
+-- is the last of them, and the last sample is counted from the read after it.
 use mathlib.Core.Path.{_≡_, refl, subst, ap, _∙_}
 use mathlib.Core.Bool.{Bool, true, false}
 use mathlib.Core.List.{List, [], _∷_, append-nil}
@@ -10,7 +11,8 @@ use borrow.Author.Tests.{le-leb, lt-leb}
 use Rattle.sender.specs.Sending.{Row, planWave}
 use Rattle.line.specs.Warp.{cycleStart, readStart}
 use Rattle.board.specs.Feeding.{Report}
-use Rattle.promises.specs.Places.{Link, readsOf, cyclesOf, passing, numbered, wholly, withinLead, heard, lastSample, samplePlace, deliveries}
+use Rattle.promises.specs.Places.{Link, readsOf, cyclesOf, passing, numbered, wholly, withinLead, heard}
+use Rattle.promises.specs.Places.{lastSample, samplePlace, deliveries}
 use Rattle.promises.proofs.Clock.{mono}
 use Rattle.promises.proofs.Stretches.{length-wave}
 use Rattle.promises.proofs.Reading.{read-clock}
@@ -21,32 +23,40 @@ use Rattle.promises.proofs.ManyRows.{Fit, Placed, no-row, a-row}
 
 module _ (test : ℕ → Bool) where
   -- d places that do not pass
-  passing-none : (d many place : ℕ) → ((i : ℕ) → place ≤ i → i < place + d → test i ≡ false) → passing test place (d + many) ≡ passing test (place + d) many
+  passing-none : (d many place : ℕ) → ((i : ℕ) → place ≤ i → i < place + d → test i ≡ false)
+      → passing test place (d + many) ≡ passing test (place + d) many
   unfolding passing
   passing-none zero many place f = rw (zero-add, add-zero)
   passing-none (suc d) many place f =
-      rw (suc-add, f place (omega arith) (omega arith), add-suc, ← suc-add) (passing-none d many (suc place) (λ i p q. f i (omega arith) (omega arith)))
+      rw (suc-add, f place (omega arith) (omega arith), add-suc, ← suc-add)
+      (passing-none d many (suc place) (λ i p q. f i (omega arith) (omega arith)))
 
   -- q places and one more that pass
-  numbered-all : (q many place : ℕ) → q < many → ((i : ℕ) → place ≤ i → i ≤ place + q → test i ≡ true) → numbered (suc q) (passing test place many) ≡ place + q
+  numbered-all : (q many place : ℕ) → q < many → ((i : ℕ) → place ≤ i → i ≤ place + q → test i ≡ true)
+      → numbered (suc q) (passing test place many) ≡ place + q
   unfolding passing numbered
   numbered-all q zero place h f = absurd (omega arith)
   numbered-all zero (suc many) place h f = rw (f place (omega arith) (omega arith), add-zero)
   numbered-all (suc q) (suc many) place h f =
-      rw (f place (omega arith) (omega arith), add-suc, ← suc-add) (numbered-all q many (suc place) (omega arith) (λ i p r. f i (omega arith) (omega arith)))
+      rw (f place (omega arith) (omega arith), add-suc, ← suc-add)
+      (numbered-all q many (suc place) (omega arith) (λ i p r. f i (omega arith) (omega arith)))
 
-  many-pass : (q many place : ℕ) → q ≤ many → ((i : ℕ) → place ≤ i → i < place + q → test i ≡ true) → q ≤ length (passing test place many)
+  many-pass : (q many place : ℕ) → q ≤ many → ((i : ℕ) → place ≤ i → i < place + q → test i ≡ true)
+      → q ≤ length (passing test place many)
   unfolding passing
   many-pass zero many place h f = omega arith
   many-pass (suc q) zero place h f = absurd (omega arith)
   many-pass (suc q) (suc many) place h f =
-      rw (f place (omega arith) (omega arith)) (suc-le-suc (many-pass q many (suc place) (omega arith) (λ i p r. f i (omega arith) (omega arith))))
+      rw (f place (omega arith) (omega arith))
+      (suc-le-suc (many-pass q many (suc place) (omega arith) (λ i p r. f i (omega arith) (omega arith))))
 
   -- the first i0 places do not pass, and the next Q do
-  module _ (i0 Q many : ℕ) (fits : i0 + Q ≤ many) (fail : (i : ℕ) → i < i0 → test i ≡ false) (pass : (i : ℕ) → i0 ≤ i → i < i0 + Q → test i ≡ true) where
+  module _ (i0 Q many : ℕ) (fits : i0 + Q ≤ many) (fail : (i : ℕ) → i < i0 → test i ≡ false)
+      (pass : (i : ℕ) → i0 ≤ i → i < i0 + Q → test i ≡ true) where
     skipped : passing test 0 many ≡ passing test i0 (many - i0)
     skipped =
-        ap (λ (m : ℕ). passing test 0 m) all ∙ passing-none i0 (many - i0) 0 (λ i p q. fail i (omega arith)) ∙ rw zero-add
+        ap (λ (m : ℕ). passing test 0 m) all ∙ passing-none i0 (many - i0) 0 (λ i p q. fail i (omega arith))
+        ∙ rw zero-add
       where
         all : many ≡ i0 + (many - i0)
         all = omega arith
@@ -57,7 +67,8 @@ module _ (test : ℕ → Bool) where
     pub the-Qth : 0 < Q → suc (numbered Q (passing test 0 many)) ≡ i0 + Q
     the-Qth some = rw skipped (go Q some (omega arith) pass)
       where
-        go : (Q : ℕ) → 0 < Q → Q ≤ many - i0 → ((i : ℕ) → i0 ≤ i → i < i0 + Q → test i ≡ true) → suc (numbered Q (passing test i0 (many - i0))) ≡ i0 + Q
+        go : (Q : ℕ) → 0 < Q → Q ≤ many - i0 → ((i : ℕ) → i0 ≤ i → i < i0 + Q → test i ≡ true)
+            → suc (numbered Q (passing test i0 (many - i0))) ≡ i0 + Q
         go zero p h f = absurd (omega arith)
         go (suc q) p h f = omega (arith, numbered-all q (many - i0) i0 (omega arith) (λ i y z. f i y (omega arith)))
 
@@ -72,7 +83,8 @@ module _ (x : Link) where
   tr = readStart (x .p) (x .r)
 
   -- the Q reads of a lead are the first that lie wholly within it
-  module _ (c : ℕ) (row : Row) (i0 : ℕ) (lead : Lead tw tr 1 (x .Q) c (row .lead) i0) (there : i0 + x .Q ≤ length R) where
+  module _ (c : ℕ) (row : Row) (i0 : ℕ) (lead : Lead tw tr 1 (x .Q) c (row .lead) i0)
+      (there : i0 + x .Q ≤ length R) where
     outside : (i : ℕ) → i < i0 → wholly x (suc c) (c + row .lead) i ≡ false
     outside i h = rw (lt-leb (tw (suc c)) (tr i) (omega (arith, lead .first i h)))
 
@@ -80,7 +92,8 @@ module _ (x : Link) where
     inside i h l =
         rw (
           le-leb (tw (suc c)) (tr i) (omega (arith, lead .starts, mono (read-clock (x .p) (x .r)) i0 i h)),
-          le-leb (tr (suc i)) (tw (c + row .lead)) (omega (arith, lead .ends, mono (read-clock (x .p) (x .r)) (suc i) (i0 + x .Q) l)),
+          le-leb (tr (suc i)) (tw (c + row .lead))
+              (omega (arith, lead .ends, mono (read-clock (x .p) (x .r)) (suc i) (i0 + x .Q) l)),
         )
 
     pub lead-enough : x .Q ≤ length (withinLead x c row)
@@ -105,4 +118,6 @@ module _ (x : Link) where
       (ap (λ (l : List Report). deliveredAt s (row .bits) ∷ l) (placed-is some (fit .3) more))
     where
       sampled : samplePlace (x .k) (x .n) 1 (i0 + x .Q) (drop (i0 + x .Q) R) ≡ s
-      sampled = subst (λ (n : ℕ). samplePlace (x .k) n 1 (i0 + x .Q) (drop (i0 + x .Q) R) ≡ s) (fit .1) (sampled-at R samples within)
+      sampled =
+          subst (λ (n : ℕ). samplePlace (x .k) n 1 (i0 + x .Q) (drop (i0 + x .Q) R) ≡ s) (fit .1)
+          (sampled-at R samples within)

@@ -1,4 +1,5 @@
--- Demand 3 holds: the case of the inner theorem at clocks of equal lengths and a settling count of 1, whose margins ask one time unit less than 01's.
+-- Demand 3 holds: the case of the inner theorem at clocks of equal lengths and a settling count of 1, whose margins ask
+-- one time unit less than 01's.
 use mathlib.Core.Path.{_≡_, subst, sym, ap, _∙_}
 use mathlib.Core.List.{List, [], _∷_, _++_}
 use Prim.Native.Nat.{ℕ, suc, _+_, _*_, _-_, _≤_, _<_}
@@ -51,21 +52,25 @@ module _ (x : Link) (fits : Fitting x) where
   some-Q : 0 < x .Q
   some-Q = lt-of-mul-lt-mul-right (x .r) (omega (arith, quiet, fits .phase, timed))
 
-  reads : Reads (cycleStart (x .w)) (readStart (x .p) (x .r)) (smoothBy 1 0 1 (planWave (x .a) (x .b) (x .rows))) (readsOf x)
+  reads : Reads (cycleStart (x .w)) (readStart (x .p) (x .r)) (smoothBy 1 0 1 (planWave (x .a) (x .b) (x .rows)))
+      (readsOf x)
   unfolding readsOf
   reads =
-      reads-of-01 (x .w) (x .r) (x .p) (planWave (x .a) (x .b) (x .rows)) (x .choices) timed (omega (arith, fits .phase))
+      reads-of-01 (x .w) (x .r) (x .p) (planWave (x .a) (x .b) (x .rows)) (x .choices) timed
+      (omega (arith, fits .phase))
       (plan-most (x .a) (x .b) (x .rows)) (most-levels (x .choices) (fits .choices))
 
   -- with nothing replaced
   pub whole : reportsBy (next (settings x)) fresh 0 (readsOf x) ≡ deliveries x 0 (x .rows)
   whole =
       placed-is x some-Q fit
-      (undamaged (cycle-clock (x .w)) (read-clock (x .p) (x .r)) timed (omega arith) (omega (arith, fits .phase)) (omega arith) ok (x .n) (x .Q) quiet (fits .some-bits)
+      (undamaged (cycle-clock (x .w)) (read-clock (x .p) (x .r)) timed (omega arith) (omega (arith, fits .phase))
+      (omega arith) ok (x .n) (x .Q) quiet (fits .some-bits)
       (x .rows) fit (readsOf x) reads)
 
   -- a row whose lead is read wholly from read j on
-  module _ (j : ℕ) (earlier : List Row) (row : Row) (later : List Row) (same : x .rows ≡ earlier ++ row ∷ later) (wholly : WhollyAfter x (cyclesOf x earlier) row j) where
+  module _ (j : ℕ) (earlier : List Row) (row : Row) (later : List Row) (same : x .rows ≡ earlier ++ row ∷ later)
+      (wholly : WhollyAfter x (cyclesOf x earlier) row j) where
     abbrev c : ℕ
     c = cyclesOf x earlier
 
@@ -77,23 +82,32 @@ module _ (x : Link) (fits : Fitting x) where
       pub there : h < length (readsOf x)
       pub enough : x .Q ≤ length (withinLead x c row)
       pub readies : (s : State) → afterBy (next (settings x)) s (take (suc h - j) (drop j (readsOf x))) ≡ ready (x .Q)
-      pub told : reportsBy (next (settings x)) (ready (x .Q)) (suc h) (drop (suc h) (readsOf x)) ≡ deliveries x c (row ∷ later)
+      pub told : reportsBy (next (settings x)) (ready (x .Q)) (suc h) (drop (suc h) (readsOf x))
+          ≡ deliveries x c (row ∷ later)
 
     pub heard-row : Heard
     heard-row = record {
       from = omega (arith, rec .from, eq, some-Q);
       there = omega (arith, rec .there, eq);
       enough = lead-enough x c row (rec .i0) (rec .lead) (rec .there);
-      readies = λ s. subst (λ (e : ℕ). afterBy (next (settings x)) s (take (e - j) (drop j (readsOf x))) ≡ ready (x .Q)) (sym eq) (rec .readies s);
+      readies =
+          λ s. subst (λ (e : ℕ). afterBy (next (settings x)) s (take (e - j) (drop j (readsOf x))) ≡ ready (x .Q))
+          (sym eq) (rec .readies s);
       told =
-          subst (λ (e : ℕ). reportsBy (next (settings x)) (ready (x .Q)) e (drop e (readsOf x)) ≡ deliveries x c (row ∷ later)) (sym eq)
-          (placed-is x some-Q (later-fit (x .n) (x .Q) 1 (x .w) (x .r) earlier (row ∷ later) (subst (λ (l : List Row). Fit (x .n) (x .Q) 1 (x .w) (x .r) l) same fit)) (rec .told));
+          subst (λ (e : ℕ). reportsBy (next (settings x)) (ready (x .Q)) e (drop e (readsOf x))
+          ≡ deliveries x c (row ∷ later)) (sym eq)
+          (placed-is x some-Q
+          (later-fit (x .n) (x .Q) 1 (x .w) (x .r) earlier (row ∷ later)
+          (subst (λ (l : List Row). Fit (x .n) (x .Q) 1 (x .w) (x .r) l) same fit)) (rec .told));
     }
       where
-        rec : Recovered (cycle-clock (x .w)) (read-clock (x .p) (x .r)) timed (omega arith) (omega (arith, fits .phase)) (omega arith) ok (x .n) (x .Q) quiet
+        rec : Recovered (cycle-clock (x .w)) (read-clock (x .p) (x .r)) timed (omega arith)
+            (omega (arith, fits .phase)) (omega arith) ok (x .n) (x .Q) quiet
             (fits .some-bits) (x .rows) fit (readsOf x) reads j c row later
-        rec = recovered (cycle-clock (x .w)) (read-clock (x .p) (x .r)) timed (omega arith) (omega (arith, fits .phase)) (omega arith) ok (x .n) (x .Q) quiet
-            (fits .some-bits) (x .rows) fit (readsOf x) reads j earlier row later same λ i q lo hi here shares. omega (arith, wholly i q lo hi here shares)
+        rec = recovered (cycle-clock (x .w)) (read-clock (x .p) (x .r)) timed (omega arith)
+            (omega (arith, fits .phase)) (omega arith) ok (x .n) (x .Q) quiet
+            (fits .some-bits) (x .rows) fit (readsOf x) reads j earlier row later same λ i q lo hi here shares. omega
+            (arith, wholly i q lo hi here shares)
 
         eq : suc h ≡ rec .i0 + x .Q
         eq = heard-is x c row (rec .i0) (rec .lead) (rec .there) some-Q
@@ -101,10 +115,12 @@ module _ (x : Link) (fits : Fitting x) where
 pub demand-3 : Demand3Holds
 demand-3 x fits = record {
   before = λ i j junk ij le.
-      before-stretch (next (settings x)) (readsOf x) i j junk (omega arith) ∙ ap (λ (l : List Report). below i l) (whole x fits);
+      before-stretch (next (settings x)) (readsOf x) i j junk (omega arith)
+      ∙ ap (λ (l : List Report). below i l) (whole x fits);
   after = λ i j junk ij le earlier row later same wholly.
       let at = heard-row x fits j earlier row later same wholly in
-      after-stretch (next (settings x)) (readsOf x) i j junk (heard x (cyclesOf x earlier) row) (ready (x .Q)) (omega arith) (at .from) (at .there) (at .readies)
+      after-stretch (next (settings x)) (readsOf x) i j junk (heard x (cyclesOf x earlier) row) (ready (x .Q))
+      (omega arith) (at .from) (at .there) (at .readies)
       ∙ ap (λ (l : List Report). moved i j junk l) (at .told);
 }
 
@@ -112,12 +128,17 @@ pub grounds : GroundsHold
 grounds x fits = record {
   leads = λ earlier row later same. any earlier row later same .enough;
   samples =
-      rw (← whole x fits) (all-pass (next (settings x)) (λ at. ltb at (length (readsOf x))) (readsOf x) 0 fresh λ at p q. lt-ltb at (length (readsOf x)) (omega arith));
+      rw (← whole x fits)
+      (all-pass (next (settings x)) (λ at. ltb at (length (readsOf x))) (readsOf x) 0 fresh λ at p q. lt-ltb at
+      (length (readsOf x)) (omega arith));
   heard-after = λ j earlier row later same wholly. heard-row x fits j earlier row later same wholly .from;
   sampled-after = λ earlier row later same.
       let h : ℕ = heard x (cyclesOf x earlier) row in
-      rw (← any earlier row later same .told) (all-pass (next (settings x)) (λ at. ltb h at) (drop (suc h) (readsOf x)) (suc h) (ready (x .Q)) λ at p q. lt-ltb h at p);
+      rw (← any earlier row later same .told)
+      (all-pass (next (settings x)) (λ at. ltb h at) (drop (suc h) (readsOf x)) (suc h)
+      (ready (x .Q)) λ at p q. lt-ltb h at p);
 }
   where
-    any : (earlier : List Row) (row : Row) (later : List Row) (same : x .rows ≡ earlier ++ row ∷ later) → Heard x fits 0 earlier row later same (λ i q lo hi here shares. omega arith)
+    any : (earlier : List Row) (row : Row) (later : List Row) (same : x .rows ≡ earlier ++ row ∷ later)
+        → Heard x fits 0 earlier row later same (λ i q lo hi here shares. omega arith)
     any earlier row later same = heard-row x fits 0 earlier row later same (λ i q lo hi here shares. omega arith)

@@ -1,4 +1,5 @@
--- The exact rule for every settling count and for clocks that wander within bounds: every message is returned exactly if the margins are minus
+-- The exact rule for every settling count and for clocks that wander within bounds: every message is returned exactly
+-- if the margins are minus
 -- one or more. Where one is less, clocks of constant length at the worse end of their bounds lose a message of one bit.
 use mathlib.Core.Path.{_≡_}
 use mathlib.Core.List.{List, [], _∷_}
@@ -29,7 +30,8 @@ Returned a b g k w1 w2 r1 r2 = (tw tr : ℕ → ℕ) → Clock tw w1 w2 → Cloc
 pub enough : (a b g k w1 w2 r1 r2 : ℕ) → 0 < g → 0 < r1 → Margins a b g k w1 w2 r1 r2 → Returned a b g k w1 w2 r1 r2
 enough a b g k w1 w2 r1 r2 hg hr ok tw tr wclk rclk phase below p1 p2 bits choices hb hc =
     returns wclk rclk hr phase below hg ok p1 p2 bits (settle (warpBy tw tr (smoothBy g 0 1 l)) choices) hb
-    (line-reads (within-bounds wclk rclk hr phase below) (smoothBy g 0 1 l) choices (smooth-by-most g 0 1 l (wave-most a b p1 p2 bits))
+    (line-reads (within-bounds wclk rclk hr phase below) (smoothBy g 0 1 l) choices
+    (smooth-by-most g 0 1 l (wave-most a b p1 p2 bits))
     (most-levels choices hc))
   where
     l : List ℕ
@@ -59,8 +61,10 @@ module _ (a b g k w r : ℕ) (ha : 0 < a) (hg : 0 < g) (hk : 0 < k) (hw : 0 < w)
   pub lost-2 : k * r + 2 ≤ (a + g) * w + r → (m : OneBit w) × Loses a b g k w r m
   lost-2 h =
       let (n, x, y) = least w (r - 1) hw in
-      let below : n * w + 1 - r < w = omega arith in
-      (lowBit w n (n * w + 1 - r) below, loses-2 a b g k w r ha hg hk hw hr n (n * w + 1 - r) below (omega arith) (omega arith))
+      let below : n * w + 1 - r < w = omega arith in (
+        lowBit w n (n * w + 1 - r) below,
+        loses-2 a b g k w r ha hg hk hw hr n (n * w + 1 - r) below (omega arith) (omega arith),
+      )
 
   pub lost-3 : (a + b) * w + 2 ≤ (k + 2) * r + g * w → (m : OneBit w) × Loses a b g k w r m
   lost-3 h = (
@@ -72,16 +76,22 @@ module _ (a b g k w r : ℕ) (ha : 0 < a) (hg : 0 < g) (hk : 0 < k) (hw : 0 < w)
 wider : {t : ℕ → ℕ} (lo hi x : ℕ) → lo ≤ x → x ≤ hi → Clock t x x → Clock t lo hi
 wider lo hi x p q c = record { low = λ i. omega (arith, c .low i); high = λ i. omega (arith, c .high i) }
 
-module _ (a b g k w1 w2 r1 r2 : ℕ) (ha : 0 < a) (hg : 0 < g) (hk : 0 < k) (hw : 0 < w1) (hr : 0 < r1) (ww : w1 ≤ w2) (rr : r1 ≤ r2) where
-  refuted : (w r : ℕ) → w1 ≤ w → w ≤ w2 → r1 ≤ r → r ≤ r2 → (m : OneBit w) × Loses a b g k w r m → Returned a b g k w1 w2 r1 r2 → ⊥
+module _ (a b g k w1 w2 r1 r2 : ℕ) (ha : 0 < a) (hg : 0 < g) (hk : 0 < k) (hw : 0 < w1) (hr : 0 < r1) (ww : w1 ≤ w2)
+    (rr : r1 ≤ r2) where
+  refuted : (w r : ℕ) → w1 ≤ w → w ≤ w2 → r1 ≤ r → r ≤ r2 → (m : OneBit w) × Loses a b g k w r m
+      → Returned a b g k w1 w2 r1 r2 → ⊥
   refuted w r p q u v (m, loses) f =
       loses
-      (f (cycleStart w) (readStart (m .p) r) (wider w1 w2 w p q (cycle-clock w)) (wider r1 r2 r u v (read-clock (m .p) r)) (omega arith)
+      (f (cycleStart w) (readStart (m .p) r) (wider w1 w2 w p q (cycle-clock w))
+      (wider r1 r2 r u v (read-clock (m .p) r)) (omega arith)
       (omega (arith, m .phase)) (m .p1) (m .p2) (m .bit ∷ []) (m .choices) (m .is-bit, tt) (m .are-choices))
 
   pub needed : Returned a b g k w1 w2 r1 r2 → Margins a b g k w1 w2 r1 r2
   needed f =
       margins-or a b g k w1 w2 r1 r2 (λ ok. ok)
-      (λ h. absurd (refuted w1 r2 (omega arith) ww rr (omega arith) (lost-1 a b g k w1 r2 ha hg hk hw (omega arith) h) f))
-      (λ h. absurd (refuted w2 r1 ww (omega arith) (omega arith) rr (lost-2 a b g k w2 r1 ha hg hk (omega arith) hr h) f))
-      (λ h. absurd (refuted w1 r2 (omega arith) ww rr (omega arith) (lost-3 a b g k w1 r2 ha hg hk hw (omega arith) h) f))
+      (λ h. absurd
+      (refuted w1 r2 (omega arith) ww rr (omega arith) (lost-1 a b g k w1 r2 ha hg hk hw (omega arith) h) f))
+      (λ h. absurd
+      (refuted w2 r1 ww (omega arith) (omega arith) rr (lost-2 a b g k w2 r1 ha hg hk (omega arith) hr h) f))
+      (λ h. absurd
+      (refuted w1 r2 (omega arith) ww rr (omega arith) (lost-3 a b g k w1 r2 ha hg hk hw (omega arith) h) f))

@@ -1,4 +1,5 @@
--- Feeding a list in two parts: a report depends on earlier reads only, so the first part's reports stand below the seam and the second's do not depend on it.
+-- Feeding a list in two parts: a report depends on earlier reads only, so the first part's reports stand below the seam
+-- and the second's do not depend on it.
 use mathlib.Core.Path.{_≡_, refl, ap, _∙_}
 use mathlib.Core.Bool.{Bool, true, false}
 use mathlib.Core.List.{List, [], _∷_, _++_, append-nil}
@@ -20,7 +21,8 @@ use Rattle.promises.proofs.Goes.{Goes, here, then, forward}
 abbrev pub movedTo : ℕ → ℕ → List ℕ → ℕ → ℕ
 movedTo i j junk place = i + length junk + (place - j)
 
-pub reports-at-append : (test : ℕ → Bool) (one other : List Report) → reportsAt test (one ++ other) ≡ reportsAt test one ++ reportsAt test other
+pub reports-at-append : (test : ℕ → Bool) (one other : List Report)
+    → reportsAt test (one ++ other) ≡ reportsAt test one ++ reportsAt test other
 unfolding reportsAt
 reports-at-append test [] other = refl
 reports-at-append test (x ∷ one) other = go (test (x .place)) (reports-at-append test one other)
@@ -32,7 +34,8 @@ reports-at-append test (x ∷ one) other = go (test (x .place)) (reports-at-appe
 
 module _ (step : Step) where
   -- all the reports of a list pass a test, or none does, where all its places do or none does
-  pub all-pass : (test : ℕ → Bool) (xs : List ℕ) (place : ℕ) (s : State) → ((at : ℕ) → place ≤ at → at < place + length xs → test at ≡ true)
+  pub all-pass : (test : ℕ → Bool) (xs : List ℕ) (place : ℕ) (s : State)
+      → ((at : ℕ) → place ≤ at → at < place + length xs → test at ≡ true)
       → reportsAt test (reportsBy step s place xs) ≡ reportsBy step s place xs
   unfolding reportsAt reportsBy
   all-pass test [] place s f = refl
@@ -44,15 +47,21 @@ module _ (step : Step) where
 
       go : (e : Event) → reportsAt test rest ≡ rest → reportsAt test (noted place e rest) ≡ noted place e rest
       go nothing p = p
-      go (row bits) p = rw (f place (omega arith) (omega arith)) (ap (λ (l : List Report). record { place = place; event = row bits } ∷ l) p)
-      go (broken found) p = rw (f place (omega arith) (omega arith)) (ap (λ (l : List Report). record { place = place; event = broken found } ∷ l) p)
+      go (row bits) p =
+          rw (f place (omega arith) (omega arith))
+          (ap (λ (l : List Report). record { place = place; event = row bits } ∷ l) p)
+      go (broken found) p =
+          rw (f place (omega arith) (omega arith))
+          (ap (λ (l : List Report). record { place = place; event = broken found } ∷ l) p)
 
-  none-passes : (test : ℕ → Bool) (xs : List ℕ) (place : ℕ) (s : State) → ((at : ℕ) → place ≤ at → at < place + length xs → test at ≡ false)
+  none-passes : (test : ℕ → Bool) (xs : List ℕ) (place : ℕ) (s : State)
+      → ((at : ℕ) → place ≤ at → at < place + length xs → test at ≡ false)
       → reportsAt test (reportsBy step s place xs) ≡ []
   unfolding reportsAt reportsBy
   none-passes test [] place s f = refl
   none-passes test (x ∷ xs) place s f =
-      go (step s x .event) (none-passes test xs (suc place) (step s x .state) (λ at p q. f at (omega arith) (omega arith)))
+      go (step s x .event)
+      (none-passes test xs (suc place) (step s x .state) (λ at p q. f at (omega arith) (omega arith)))
     where
       rest : List Report
       rest = reportsBy step (step s x .state) (suc place) xs
@@ -63,21 +72,27 @@ module _ (step : Step) where
       go (broken found) p = rw (f place (omega arith) (omega arith)) p
 
   -- below the seam: the reports of the first part
-  pub first-part : (xs ys : List ℕ) (s : State) (i : ℕ) → length xs ≡ i → below i (reportsBy step s 0 (xs ++ ys)) ≡ reportsBy step s 0 xs
+  pub first-part : (xs ys : List ℕ) (s : State) (i : ℕ) → length xs ≡ i
+      → below i (reportsBy step s 0 (xs ++ ys)) ≡ reportsBy step s 0 xs
   first-part xs ys s i e =
       ap (λ (l : List Report). below i l) (reports-append step s 0 xs ys)
       ∙ reports-at-append (λ at. ltb at i) (reportsBy step s 0 xs) rest
-      ∙ rw (none-passes (λ at. ltb at i) ys (0 + length xs) (afterBy step s xs) (λ at p q. le-ltb at i (omega arith)), append-nil)
+      ∙ rw (
+        none-passes (λ at. ltb at i) ys (0 + length xs) (afterBy step s xs) (λ at p q. le-ltb at i (omega arith)),
+        append-nil,
+      )
       (all-pass (λ at. ltb at i) xs 0 s (λ at p q. lt-ltb at i (omega arith)))
     where
       rest : List Report
       rest = reportsBy step (afterBy step s xs) (0 + length xs) ys
 
   -- from the seam on: those of the second part, from the state that the first part leads to
-  pub last-part : (xs ys : List ℕ) (s : State) (i : ℕ) → length xs ≡ suc i → above i (reportsBy step s 0 (xs ++ ys)) ≡ reportsBy step (afterBy step s xs) (suc i) ys
+  pub last-part : (xs ys : List ℕ) (s : State) (i : ℕ) → length xs ≡ suc i
+      → above i (reportsBy step s 0 (xs ++ ys)) ≡ reportsBy step (afterBy step s xs) (suc i) ys
   last-part xs ys s i e =
       ap (λ (l : List Report). above i l) (reports-append step s 0 xs ys)
-      ∙ reports-at-append (λ at. ltb i at) (reportsBy step s 0 xs) (reportsBy step (afterBy step s xs) (0 + length xs) ys)
+      ∙ reports-at-append (λ at. ltb i at) (reportsBy step s 0 xs)
+      (reportsBy step (afterBy step s xs) (0 + length xs) ys)
       ∙ rw (none-passes (λ at. ltb i at) xs 0 s (λ at p q. le-ltb i at (omega arith)), at-seam)
       (all-pass (λ at. ltb i at) ys (suc i) (afterBy step s xs) (λ at p q. lt-ltb i at p))
     where
@@ -90,7 +105,9 @@ module _ (step : Step) where
   unfolding moved reportsBy
   moves i j junk [] place s h = refl
   moves i j junk (x ∷ xs) place s h =
-      go (step s x .event) (moves i j junk xs (suc place) (step s x .state) (omega arith) ∙ ap (λ (p : ℕ). reportsBy step (step s x .state) p xs) on)
+      go (step s x .event)
+      (moves i j junk xs (suc place) (step s x .state) (omega arith)
+      ∙ ap (λ (p : ℕ). reportsBy step (step s x .state) p xs) on)
     where
       on : movedTo i j junk (suc place) ≡ suc (movedTo i j junk place)
       on = omega arith
@@ -101,14 +118,18 @@ module _ (step : Step) where
       then-rest : List Report
       then-rest = reportsBy step (step s x .state) (suc (movedTo i j junk place)) xs
 
-      go : (e : Event) → moved i j junk rest ≡ then-rest → moved i j junk (noted place e rest) ≡ noted (movedTo i j junk place) e then-rest
+      go : (e : Event) → moved i j junk rest ≡ then-rest
+          → moved i j junk (noted place e rest) ≡ noted (movedTo i j junk place) e then-rest
       go nothing p = p
       go (row bits) p = ap (λ (l : List Report). record { place = movedTo i j junk place; event = row bits } ∷ l) p
-      go (broken found) p = ap (λ (l : List Report). record { place = movedTo i j junk place; event = broken found } ∷ l) p
+      go (broken found) p =
+          ap (λ (l : List Report). record { place = movedTo i j junk place; event = broken found } ∷ l) p
 
 -- what the receiver goes through over reads is what feeding their list gives
-pub feeds : (k n Q : ℕ) (D : ℕ → ℕ) {j i : ℕ} {s t : State} {es : List Report} → Goes k n Q D j s es i t → (l : List ℕ) → j + length l ≡ i
-    → ((h : ℕ) → h < length l → getD l h 2 ≡ D (j + h)) → (reportsBy (next (rules k n Q)) s j l ≡ es) × (afterBy (next (rules k n Q)) s l ≡ t)
+pub feeds : (k n Q : ℕ) (D : ℕ → ℕ) {j i : ℕ} {s t : State} {es : List Report} → Goes k n Q D j s es i t → (l : List ℕ)
+    → j + length l ≡ i
+    → ((h : ℕ) → h < length l → getD l h 2 ≡ D (j + h))
+    → (reportsBy (next (rules k n Q)) s j l ≡ es) × (afterBy (next (rules k n Q)) s l ≡ t)
 unfolding reportsBy afterBy
 feeds k n Q D here [] e f = (refl, refl)
 feeds k n Q D here (x ∷ xs) e f = absurd (omega arith)

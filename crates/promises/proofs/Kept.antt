@@ -1,4 +1,5 @@
--- What a read that settles against its choices tells of the wave: each cycle that shares time with it was known, so the wave had its level there
+-- What a read that settles against its choices tells of the wave: each cycle that shares time with it was known, so the
+-- wave had its level there
 -- and at the g cycles before.
 use mathlib.Core.Path.{_≡_, refl, _∙_}
 use mathlib.Core.Logic.{_≢_, dite}
@@ -68,7 +69,13 @@ shared {tw} {tr} clocks levels q v known is c shares =
     within : c < length levels
     within =
         dite (decLe (suc c) (length levels)) (λ h. h)
-        (λ h. absurd (omega (arith, shares .before-the-end, read-ends clocks levels q there, cycles-in-order clocks (length levels) c (omega arith))))
+        (λ h. absurd
+        (omega (
+          arith,
+          shares .before-the-end,
+          read-ends clocks levels q there,
+          cycles-in-order clocks (length levels) c (omega arith),
+        )))
 
 -- with no choices, a read that settles high was high
 settle-high : (rs : List ℕ) (q : ℕ) → getD (settle rs []) q 2 ≡ 1 → getD rs q 2 ≡ 1
@@ -77,7 +84,8 @@ settle-high [] q e = e
 settle-high (x ∷ xs) zero e =
     dite (ℕ-discrete x 2) (λ y. absurd (omega (arith, rw (eq-eqb x 2 y) at e))) (λ y. rw (ne-eqb x 2 y) at e)
 settle-high (x ∷ xs) (suc q) e =
-    dite (ℕ-discrete x 2) (λ y. settle-high xs q (rw (eq-eqb x 2 y) at e)) (λ y. settle-high xs q (rw (ne-eqb x 2 y) at e))
+    dite (ℕ-discrete x 2) (λ y. settle-high xs q (rw (eq-eqb x 2 y) at e))
+    (λ y. settle-high xs q (rw (ne-eqb x 2 y) at e))
 
 -- with enough high choices, a read that settles low was low
 settle-low : (rs : List ℕ) (m q : ℕ) → length rs ≤ m → getD (settle rs (replicate m 1)) q 2 ≡ 0 → getD rs q 2 ≡ 0

@@ -1,4 +1,5 @@
--- 01's limits leave room for a lost message wherever one bit fits at all: at the last phase with no pads it has the fewest reads, and where a
+-- 01's limits leave room for a lost message wherever one bit fits at all: at the last phase with no pads it has the
+-- fewest reads, and where a
 -- lead is needed, the cell is short enough for it.
 use mathlib.Core.Path.{_≡_, refl, sym, _∙_}
 use mathlib.Core.Logic.{dite}
@@ -29,21 +30,29 @@ use Rattle.promises.proofs.WhatNoMeans.{loses-lost}
 -- the reads are within their limit exactly if one more would end after the wave
 module _ (w r p : ℕ) (l : List ℕ) (pos : 0 < r) (below : p < w) where
   few-reads : length l * w < p + suc entriesMost * r → length (warp w r p (smooth l)) ≤ entriesMost
-  few-reads h = dite (decLe (length (warp w r p (smooth l))) entriesMost) (λ y. y) (λ y. absurd (omega (arith, ends (omega arith))))
+  few-reads h =
+      dite (decLe (length (warp w r p (smooth l))) entriesMost) (λ y. y)
+      (λ y. absurd (omega (arith, ends (omega arith))))
     where
       ends : entriesMost < length (warp w r p (smooth l)) → p + suc entriesMost * r ≤ length l * w
-      ends more = rw (length-smooth l) at (read-ends (even-clocks w r p pos below) (smooth l) entriesMost (rw (warp-by w r p (smooth l)) at more))
+      ends more =
+          rw (length-smooth l) at
+          (read-ends (even-clocks w r p pos below) (smooth l) entriesMost (rw (warp-by w r p (smooth l)) at more))
 
   reads-few : length (warp w r p (smooth l)) ≤ entriesMost → length l * w < p + suc entriesMost * r
-  reads-few h = dite (decLe (p + suc entriesMost * r) (length l * w)) (λ y. absurd (omega (arith, there y))) (λ y. omega arith)
+  reads-few h =
+      dite (decLe (p + suc entriesMost * r) (length l * w)) (λ y. absurd (omega (arith, there y))) (λ y. omega arith)
     where
       there : p + suc entriesMost * r ≤ length l * w → entriesMost < length (warp w r p (smooth l))
-      there ends = rw (warp-by w r p (smooth l)) (read-there (even-clocks w r p pos below) (smooth l) entriesMost (rw (length-smooth l) ends))
+      there ends =
+          rw (warp-by w r p (smooth l))
+          (read-there (even-clocks w r p pos below) (smooth l) entriesMost (rw (length-smooth l) ends))
 
 module _ (a b k w r : ℕ) (range : InRange a b k w r) (fits : (a + b) * w < w - 1 + suc entriesMost * r) where
   -- one bit with no trail, a lead and a phase that leave its reads within the limit
   within : (m : OneBit w) → m .p2 ≡ 0 → m .p1 ≤ padMost → (m .p1 + (a + b)) * w < m .p + suc entriesMost * r
-      → length (m .choices) ≤ length (warp w r (m .p) (smooth (wave a b (m .p1) (m .p2) (m .bit ∷ [])))) → WithinLimits a b w r m
+      → length (m .choices) ≤ length (warp w r (m .p) (smooth (wave a b (m .p1) (m .p2) (m .bit ∷ []))))
+      → WithinLimits a b w r m
   within m none lead short chosen = record {
     lead = lead;
     trail = omega arith;
@@ -72,7 +81,8 @@ module _ (a b k w r : ℕ) (range : InRange a b k w r) (fits : (a + b) * w < w -
   high : (x : ℕ) (is : x < 2) → Loses a b 1 k w r (highBit w 0 x (many a b 1 w r 0 x) (range .cycle .0) is) → Within
   high x is loses = (
     m,
-    within m refl (omega arith) (omega (arith, fits)) (rw length-replicate (omega (arith, same-reads (w - 1) (wave a b 0 0 (x ∷ []))))),
+    within m refl (omega arith) (omega (arith, fits))
+        (rw length-replicate (omega (arith, same-reads (w - 1) (wave a b 0 0 (x ∷ []))))),
     loses-lost a b k w r m loses,
   )
     where
@@ -86,7 +96,8 @@ module _ (a b k w r : ℕ) (range : InRange a b k w r) (fits : (a + b) * w < w -
     lowBit w lead p below,
     within (lowBit w lead p below) refl pad short (omega arith),
     loses-lost a b k w r (lowBit w lead p below)
-        (loses-2 a b 1 k w r (range .mark .0) (omega arith) (range .sample .0) (range .cycle .0) (range .read .0) lead p below touches early),
+        (loses-2 a b 1 k w r (range .mark .0) (omega arith) (range .sample .0) (range .cycle .0)
+        (range .read .0) lead p below touches early),
   )
 
   starts : w - 1 + 0 * r + 1 ≡ (0 + 1) * w
@@ -98,10 +109,12 @@ module _ (a b k w r : ℕ) (range : InRange a b k w r) (fits : (a + b) * w < w -
       dite (decLe ((a + b) * w) (entriesMost * r))
       (λ y.
       let (n, u, v) = least w (r - 1) (range .cycle .0) in
-      low n (n * w + 1 - r) (omega (arith, range .read)) (few-cycles n w r (range .cycle .0) v (range .read .1)) (omega (arith, range .read))
+      low n (n * w + 1 - r) (omega (arith, range .read)) (few-cycles n w r (range .cycle .0) v (range .read .1))
+      (omega (arith, range .read))
       (omega (arith, range .read)) (omega (arith, range .read)))
       (λ y.
-      low 0 (w - 1) (omega (arith, range .cycle)) (omega arith) (omega (arith, fits)) (omega (arith, range .cycle, range .read))
+      low 0 (w - 1) (omega (arith, range .cycle)) (omega arith) (omega (arith, fits))
+      (omega (arith, range .cycle, range .read))
       (omega (
         arith,
         range .cycle,
@@ -125,11 +138,13 @@ module _ (a b k w r : ℕ) (range : InRange a b k w r) (fits : (a + b) * w < w -
       margins-or a b 1 k w w r r (λ ok. absurd (false≢true (sym refused ∙ margins-almost a b k w r ok)))
       (λ h.
       high 1 (omega arith)
-      (loses-1 a b 1 k w r (range .mark .0) (omega arith) (range .sample .0) (range .cycle .0) (range .read .0) 0 0 starts h))
+      (loses-1 a b 1 k w r (range .mark .0) (omega arith) (range .sample .0) (range .cycle .0)
+      (range .read .0) 0 0 starts h))
       early
       (λ h.
       high 0 (omega arith)
-      (loses-3 a b 1 k w r (range .mark .0) (omega arith) (range .sample .0) (range .cycle .0) (range .read .0) 0 0 starts h))
+      (loses-3 a b 1 k w r (range .mark .0) (omega arith) (range .sample .0) (range .cycle .0)
+      (range .read .0) 0 0 starts h))
 
 -- the message that fits says that a cell at the last phase does
 pub lost-within-limits : LostWithinLimits
@@ -140,7 +155,8 @@ lost-within-limits a b k w r ranges m limits =
       m .phase,
       size,
       mul-le-mul-right w (longer (m .p1) (a + b) (m .p2)),
-      rw size at (reads-few w r (m .p) (wave a b (m .p1) (m .p2) (m .bit ∷ [])) (range .read .0) (m .phase) (limits .reads)),
+      rw size at
+          (reads-few w r (m .p) (wave a b (m .p1) (m .p2) (m .bit ∷ [])) (range .read .0) (m .phase) (limits .reads)),
     ))
   where
     range : InRange a b k w r

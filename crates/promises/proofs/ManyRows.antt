@@ -1,4 +1,5 @@
--- Rows one behind another: from ready with the first lead heard, each row is delivered and the next lead heard, so the reports are the rows at their last samples.
+-- Rows one behind another: from ready with the first lead heard, each row is delivered and the next lead heard, so the
+-- reports are the rows at their last samples.
 use mathlib.Core.Path.{_≡_, refl, subst}
 use mathlib.Core.List.{List, [], _∷_}
 use Prim.Native.Nat.{ℕ, zero, suc, _+_, _*_, _≤_, _<_}
@@ -23,7 +24,8 @@ Fit n Q g w1 r2 [] = Unit {0}
 Fit n Q g w1 r2 (row ∷ rows) =
     Bits (row .bits) × (length (row .bits) ≡ n) × ((Q + 1) * r2 + g * w1 ≤ suc (row .lead * w1)) × Fit n Q g w1 r2 rows
 
--- Rows from cycle c on, each reported at its last sample: the n-th that the counted rule finds from the read on after its lead has been heard. N reads are there.
+-- Rows from cycle c on, each reported at its last sample: the n-th that the counted rule finds from the read on after
+-- its lead has been heard. N reads are there.
 pub data Placed (tw tr D : ℕ → ℕ) (g k Q d N : ℕ) : ℕ → List Row → List Report → Type 0 where
   no-row : {c : ℕ} → Placed tw tr D g k Q d N c [] []
   a-row : {c i0 s : ℕ} {row : Row} {rows : List Row} {fs : List Report} → Lead tw tr g Q c (row .lead) i0
@@ -38,21 +40,26 @@ module _ {tw tr S D : ℕ → ℕ} {w1 w2 r1 r2 : ℕ} (L : ℕ) (wclk : Clock t
     (ends : (j : ℕ) → j < N → tr (suc j) ≤ tw L) (there : (j : ℕ) → tr (suc j) ≤ tw L → j < N) where
   -- from the state s before read j on, up to the last read, the rows from cycle c on are reported, and nothing else
   abbrev pub Reports : ℕ → State → ℕ → List Row → Type 0
-  Reports j s c rows = (fs : List Report) × (t : State) × Goes k n Q D j s fs N t × Placed tw tr D g k Q (a + b) N c rows fs
+  Reports j s c rows =
+      (fs : List Report) × (t : State) × Goes k n Q D j s fs N t × Placed tw tr D g k Q (a + b) N c rows fs
 
   -- a row's lead, which starts at cycle c, has Q such reads
-  pub heard-lead : (row : Row) (rows : List Row) (c : ℕ) → Fit n Q g w1 r2 (row ∷ rows) → (i0 : ℕ) × Lead tw tr g Q c (row .lead) i0
+  pub heard-lead : (row : Row) (rows : List Row) (c : ℕ) → Fit n Q g w1 r2 (row ∷ rows)
+      → (i0 : ℕ) × Lead tw tr g Q c (row .lead) i0
   heard-lead row rows c fit =
       lead-reads wclk rclk pos see ok n Q m4 c (row .lead) (omega (arith, mono wclk g (c + g) (omega arith))) (fit .2)
 
   -- a row, t cycles of trail after cycle c, whose lead has been heard; what follows it is given
-  after-row : (row : Row) (rows : List Row) (c u t i0 : ℕ) → Line a b g S c u t (row ∷ rows) → Fit n Q g w1 r2 (row ∷ rows) → c + size (a + b) t (row ∷ rows) ≡ L
+  after-row : (row : Row) (rows : List Row) (c u t i0 : ℕ) → Line a b g S c u t (row ∷ rows)
+      → Fit n Q g w1 r2 (row ∷ rows) → c + size (a + b) t (row ∷ rows) ≡ L
       → Lead tw tr g Q (c + t) (row .lead) i0
-      → ((s σ : ℕ) → s < N → Ended tw tr S g Q (c + (t + row .lead) + length (row .bits) * (a + b)) (final 1 (row .bits)) (suc s) σ
+      → ((s σ : ℕ) → s < N
+      → Ended tw tr S g Q (c + (t + row .lead) + length (row .bits) * (a + b)) (final 1 (row .bits)) (suc s) σ
       → Reports (suc s) (hunting σ) (c + (t + row .lead) + length (row .bits) * (a + b) + row .trail) rows)
       → Reports (i0 + Q) (ready Q) (c + t) (row ∷ rows)
   after-row row rows c u t i0 line fit e reads more =
-      go (one-row wclk rclk pos see ok n Q m4 (row .bits) cells (i0 + Q) some (fit .0) (line .2) wait (fit .1) (mono wclk _ L (omega arith)))
+      go (one-row wclk rclk pos see ok n Q m4 (row .bits) cells (i0 + Q) some (fit .0) (line .2) wait (fit .1)
+      (mono wclk _ L (omega arith)))
     where
       cells : ℕ
       cells = c + (t + row .lead)
@@ -65,21 +72,29 @@ module _ {tw tr S D : ℕ → ℕ} {w1 w2 r1 r2 : ℕ} (L : ℕ) (wclk : Clock t
           rw same at (waits wclk rclk pos see ok n Q m4 (c + t) (row .lead) i0 (mono wclk _ L (omega arith))
           (λ i x y. line .0 i (omega arith) (omega arith)) reads)
 
-      next-lead : cells + length (row .bits) * (a + b) + row .trail ≡ c + t + (row .lead + (length (row .bits) * (a + b) + row .trail))
+      next-lead : cells + length (row .bits) * (a + b) + row .trail
+          ≡ c + t + (row .lead + (length (row .bits) * (a + b) + row .trail))
       next-lead = omega arith
 
-      go : RowFrom wclk rclk pos see ok n Q m4 (row .bits) cells (i0 + Q) → Reports (i0 + Q) (ready Q) (c + t) (row ∷ rows)
+      go : RowFrom wclk rclk pos see ok n Q m4 (row .bits) cells (i0 + Q)
+          → Reports (i0 + Q) (ready Q) (c + t) (row ∷ rows)
       go (s, σ, f, ended, samples) = on (more s σ within ended)
         where
           within : s < N
-          within = there s (omega (arith, ended .inside (omega arith), mono wclk (cells + length (row .bits) * (a + b)) L (omega arith)))
+          within =
+              there s (omega
+              (arith, ended .inside (omega arith), mono wclk (cells + length (row .bits) * (a + b)) L (omega arith)))
 
-          on : Reports (suc s) (hunting σ) (cells + length (row .bits) * (a + b) + row .trail) rows → Reports (i0 + Q) (ready Q) (c + t) (row ∷ rows)
-          on (fs, z, w, p) = (deliveredAt s (row .bits) ∷ fs, z, join k n Q D f w, a-row reads samples within (rw next-lead at p))
+          on : Reports (suc s) (hunting σ) (cells + length (row .bits) * (a + b) + row .trail) rows
+              → Reports (i0 + Q) (ready Q) (c + t) (row ∷ rows)
+          on (fs, z, w, p) =
+              (deliveredAt s (row .bits) ∷ fs, z, join k n Q D f w, a-row reads samples within (rw next-lead at p))
 
   -- from ready with a row's lead heard: exactly that row and those after it are reported
-  pub heard-rows : (rows : List Row) (row : Row) (c u t i0 : ℕ) → Line a b g S c u t (row ∷ rows) → Fit n Q g w1 r2 (row ∷ rows)
-      → c + size (a + b) t (row ∷ rows) ≡ L → Lead tw tr g Q (c + t) (row .lead) i0 → Reports (i0 + Q) (ready Q) (c + t) (row ∷ rows)
+  pub heard-rows : (rows : List Row) (row : Row) (c u t i0 : ℕ) → Line a b g S c u t (row ∷ rows)
+      → Fit n Q g w1 r2 (row ∷ rows)
+      → c + size (a + b) t (row ∷ rows) ≡ L → Lead tw tr g Q (c + t) (row .lead) i0
+      → Reports (i0 + Q) (ready Q) (c + t) (row ∷ rows)
   heard-rows [] row c u t i0 line fit e reads = after-row row [] c u t i0 line fit e reads silence
     where
       last : (s M : ℕ) → s < M → ((j : ℕ) → j < M → tr (suc j) ≤ tw L) → tr M ≤ tw L
@@ -89,21 +104,28 @@ module _ {tw tr S D : ℕ → ℕ} {w1 w2 r1 r2 : ℕ} (L : ℕ) (wclk : Clock t
       cells : ℕ
       cells = c + (t + row .lead) + length (row .bits) * (a + b)
 
-      silence : (s σ : ℕ) → s < N → Ended tw tr S g Q cells (final 1 (row .bits)) (suc s) σ → Reports (suc s) (hunting σ) (cells + row .trail) []
+      silence : (s σ : ℕ) → s < N → Ended tw tr S g Q cells (final 1 (row .bits)) (suc s) σ
+          → Reports (suc s) (hunting σ) (cells + row .trail) []
       silence s σ le ended =
-          let (z, w) = silent wclk rclk pos see ok n Q m4 cells (final 1 (row .bits)) L (suc s) σ N (omega arith) (omega arith) ended
-          (λ i x y. line .3 .0 i x (omega arith)) (λ one i x y. line .3 .1 one i x (omega arith)) le (last s N le ends) in
+          let (z, w) =
+          silent wclk rclk pos see ok n Q m4 cells (final 1 (row .bits)) L (suc s) σ N (omega arith)
+          (omega arith) ended
+          (λ i x y. line .3 .0 i x (omega arith)) (λ one i x y. line .3 .1 one i x (omega arith)) le
+          (last s N le ends) in
           ([], z, w, no-row)
   heard-rows (row′ ∷ rows) row c u t i0 line fit e reads = after-row row (row′ ∷ rows) c u t i0 line fit e reads
       (onward (heard-lead row′ rows (cells + row .trail) (fit .3))
-      λ i1 reads′. heard-rows rows row′ cells (final 1 (row .bits)) (row .trail) i1 (line .3) (fit .3) (omega arith) reads′)
+      λ i1 reads′. heard-rows rows row′ cells (final 1 (row .bits)) (row .trail) i1 (line .3) (fit .3)
+      (omega arith) reads′)
     where
       cells : ℕ
       cells = c + (t + row .lead) + length (row .bits) * (a + b)
 
       onward : (i1 : ℕ) × Lead tw tr g Q (cells + row .trail) (row′ .lead) i1
-          → ((i1 : ℕ) → Lead tw tr g Q (cells + row .trail) (row′ .lead) i1 → Reports (i1 + Q) (ready Q) (cells + row .trail) (row′ ∷ rows))
-          → (s σ : ℕ) → s < N → Ended tw tr S g Q cells (final 1 (row .bits)) (suc s) σ → Reports (suc s) (hunting σ) (cells + row .trail) (row′ ∷ rows)
+          → ((i1 : ℕ) → Lead tw tr g Q (cells + row .trail) (row′ .lead) i1
+          → Reports (i1 + Q) (ready Q) (cells + row .trail) (row′ ∷ rows))
+          → (s σ : ℕ) → s < N → Ended tw tr S g Q cells (final 1 (row .bits)) (suc s) σ
+          → Reports (suc s) (hunting σ) (cells + row .trail) (row′ ∷ rows)
       onward (i1, reads′) more s σ le ended = on (more i1 reads′)
         where
           quietly : Goes k n Q D (suc s) (hunting σ) [] (i1 + Q) (ready Q)
@@ -111,12 +133,15 @@ module _ {tw tr S D : ℕ → ℕ} {w1 w2 r1 r2 : ℕ} (L : ℕ) (wclk : Clock t
               readied wclk rclk pos see ok n Q m4 cells (final 1 (row .bits)) (row .trail) (row′ .lead) (suc s) σ i1
               (mono wclk (cells + (row .trail + row′ .lead)) L (omega arith)) ended (line .3 .0) (line .3 .1) reads′
 
-          on : Reports (i1 + Q) (ready Q) (cells + row .trail) (row′ ∷ rows) → Reports (suc s) (hunting σ) (cells + row .trail) (row′ ∷ rows)
+          on : Reports (i1 + Q) (ready Q) (cells + row .trail) (row′ ∷ rows)
+              → Reports (suc s) (hunting σ) (cells + row .trail) (row′ ∷ rows)
           on (fs, z, w, p) = (fs, z, join k n Q D quietly w, p)
 
   -- with nothing replaced, from fresh: exactly the rows
-  pub delivered : (rows : List Row) → Line a b g S 0 1 0 rows → Fit n Q g w1 r2 rows → 0 + size (a + b) 0 rows ≡ L → tw 0 ≤ tr 0 → Reports 0 (hunting 0) 0 rows
-  delivered [] line fit e phase = ([], hunting 0, subst (λ (x : ℕ). Goes k n Q D 0 (hunting 0) [] x (hunting 0)) (none N ends) here, no-row)
+  pub delivered : (rows : List Row) → Line a b g S 0 1 0 rows → Fit n Q g w1 r2 rows → 0 + size (a + b) 0 rows ≡ L
+      → tw 0 ≤ tr 0 → Reports 0 (hunting 0) 0 rows
+  delivered [] line fit e phase =
+      ([], hunting 0, subst (λ (x : ℕ). Goes k n Q D 0 (hunting 0) [] x (hunting 0)) (none N ends) here, no-row)
     where
       none : (M : ℕ) → ((j : ℕ) → j < M → tr (suc j) ≤ tw L) → 0 ≡ M
       none zero f = refl
@@ -144,7 +169,8 @@ module _ {tw tr S D : ℕ → ℕ} {w1 w2 r1 r2 : ℕ} (L : ℕ) (wclk : Clock t
         where
           quietly : Goes k n Q D 0 (hunting 0) [] (i0 + Q) (ready Q)
           quietly =
-              readied wclk rclk pos see ok n Q m4 0 1 0 (row .lead) 0 0 i0 (mono wclk (0 + (0 + row .lead)) L (omega arith)) start (line .0) (line .1) reads
+              readied wclk rclk pos see ok n Q m4 0 1 0 (row .lead) 0 0 i0
+              (mono wclk (0 + (0 + row .lead)) L (omega arith)) start (line .0) (line .1) reads
 
           on : Reports (i0 + Q) (ready Q) 0 (row ∷ rows) → Reports 0 (hunting 0) 0 (row ∷ rows)
           on (fs, z, w, p) = (fs, z, join k n Q D quietly w, p)

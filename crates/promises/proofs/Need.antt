@@ -1,4 +1,5 @@
--- The margins are needed: where one is minus two or less, a read of a message of one bit settles wrongly, since it shares time with a cycle that
+-- The margins are needed: where one is minus two or less, a read of a message of one bit settles wrongly, since it
+-- shares time with a cycle that
 -- is not known.
 use mathlib.Core.Path.{_≡_, sym, ap, _∙_}
 use mathlib.Core.Logic.{_≢_, dite}
@@ -27,9 +28,15 @@ use Rattle.promises.proofs.Kept.{Known, stays-high, stays-low}
 low-in-mark : (a b p1 p2 c : ℕ) → getD (wave a b p1 p2 (1 ∷ [])) c 2 ≡ 0 → c < p1 + a
 low-in-mark a b p1 p2 c e =
     dite (decLe (suc c) (p1 + a)) (λ h. h) λ h. absurd (
-    dite (decLe (suc c) (p1 + (a + b))) (λ u. omega (arith, wave-carries a b p1 p2 (1 ∷ []) .1 c (omega arith) (omega arith)))
-    λ u. dite (decLe (suc c) (p1 + 1 * (a + b) + p2)) (λ t. omega (arith, wave-trails a b p1 p2 (1 ∷ []) c (omega arith) t))
-    λ t. omega (arith, List·getD-eq-default (wave a b p1 p2 (1 ∷ [])) 2 {n = c} (omega (arith, length-wave a b p1 p2 (1 ∷ []))))
+    dite (decLe (suc c) (p1 + (a + b)))
+    (λ u. omega (arith, wave-carries a b p1 p2 (1 ∷ []) .1 c (omega arith) (omega arith)))
+    λ u. dite (decLe (suc c) (p1 + 1 * (a + b) + p2))
+    (λ t. omega (arith, wave-trails a b p1 p2 (1 ∷ []) c (omega arith) t))
+    λ t. omega (
+      arith,
+      List·getD-eq-default (wave a b p1 p2 (1 ∷ [])) 2 {n = c}
+          (omega (arith, length-wave a b p1 p2 (1 ∷ []))),
+    )
     )
 
 -- the reads of constant clocks over a wave with the settling count g, before they are settled
@@ -43,14 +50,16 @@ settledHigh w r p g m l = settle (unsettled w r p g l) (replicate m 1)
 abbrev pub settledLow : ℕ → ℕ → ℕ → ℕ → List ℕ → List ℕ
 settledLow w r p g l = settle (unsettled w r p g l) []
 
-module _ (w r p g : ℕ) (l choices : List ℕ) (pos : 0 < r) (below : p < w) (levels : AtMost 1 l) (chosen : AtMost 1 choices) where
+module _ (w r p g : ℕ) (l choices : List ℕ) (pos : 0 < r) (below : p < w) (levels : AtMost 1 l)
+    (chosen : AtMost 1 choices) where
   reads : Reads (cycleStart w) (readStart p r) (smoothBy g 0 1 l) (settle (unsettled w r p g l) choices)
   reads = line-reads (even-clocks w r p pos below) (smoothBy g 0 1 l) choices (smooth-by-most g 0 1 l levels) chosen
 
   ends-by : (q : ℕ) → q < length (settle (unsettled w r p g l) choices) → p + suc q * r ≤ length l * w
   ends-by q h = rw length-smooth-by at (reads .ends q h)
 
-  is-level : (q : ℕ) → q < length (settle (unsettled w r p g l) choices) → getD (settle (unsettled w r p g l) choices) q 2 < 2
+  is-level : (q : ℕ) → q < length (settle (unsettled w r p g l) choices)
+      → getD (settle (unsettled w r p g l) choices) q 2 < 2
   is-level q h = reads .settled .level q (reads .ends q h)
 
 -- All choices are high, and read j starts one time unit before the mark has settled.
@@ -65,22 +74,29 @@ module _ (a b g k w r p p1 p2 j x m : ℕ) (pos : 0 < r) (below : p < w) (lies :
   ends : (q : ℕ) → q < length R → p + suc q * r ≤ (p1 + (1 * (a + b) + p2)) * w
   ends q h =
       rw (length-wave a b p1 p2 (x ∷ []))
-      at (ends-by w r p g l (replicate m 1) pos below (wave-most a b p1 p2 (x ∷ [])) (most-replicate 1 m 1 (omega arith)) q h)
+      at (ends-by w r p g l (replicate m 1) pos below (wave-most a b p1 p2 (x ∷ []))
+      (most-replicate 1 m 1 (omega arith)) q h)
 
   -- a read that is not high: each cycle that it shares time with was low
-  low : (q : ℕ) → q < length R → getD R q 2 ≢ 1 → (c : ℕ) → c * w < p + suc q * r → p + q * r < suc c * w → Known g l c 0
+  low : (q : ℕ) → q < length R → getD R q 2 ≢ 1 → (c : ℕ) → c * w < p + suc q * r → p + q * r < suc c * w
+      → Known g l c 0
   low q h d c begins ends =
-      stays-low (even-clocks w r p pos below) g l q c (record { before-the-end = begins; after-the-start = ends }) m enough
+      stays-low (even-clocks w r p pos below) g l q c
+      (record { before-the-end = begins; after-the-start = ends }) m enough
       (omega (
         arith,
         d,
-        is-level w r p g l (replicate m 1) pos below (wave-most a b p1 p2 (x ∷ [])) (most-replicate 1 m 1 (omega arith)) q h,
+        is-level w r p g l (replicate m 1) pos below (wave-most a b p1 p2 (x ∷ []))
+            (most-replicate 1 m 1 (omega arith)) q h,
       ))
 
   -- the cycle in which a read starts that is not high
-  start-low : (q : ℕ) → q < length R → getD R q 2 ≢ 1 → (c : ℕ) × (c * w ≤ p + q * r) × (p + q * r < suc c * w) × Known g l c 0
+  start-low : (q : ℕ) → q < length R → getD R q 2 ≢ 1
+      → (c : ℕ) × (c * w ≤ p + q * r) × (p + q * r < suc c * w) × Known g l c 0
   start-low q h d =
-      let (c, y, z, u, v) = cycle-of (cycleStart w) (p + q * r) (p1 + (1 * (a + b) + p2)) 0 (omega arith) (rw zero-add (omega (arith, ends q h))) in
+      let (c, y, z, u, v) =
+      cycle-of (cycleStart w) (p + q * r) (p1 + (1 * (a + b) + p2)) 0 (omega arith)
+      (rw zero-add (omega (arith, ends q h))) in
       (c, u, v, low q h d c (omega arith) v)
 
   -- the reads up to j are high
@@ -90,7 +106,11 @@ module _ (a b g k w r p p1 p2 j x m : ℕ) (pos : 0 < r) (below : p < w) (lies :
       on : (c : ℕ) × (c * w ≤ p + q * r) × (p + q * r < suc c * w) × Known g l c 0 → ⊥
       on (c, u, v, n) =
           dite (decLe g c)
-          (λ y. omega (arith, n .level (c - g) (omega arith) (omega arith), wave-leads a b p1 p2 (x ∷ []) (c - g) (omega (arith, soon))))
+          (λ y. omega (
+            arith,
+            n .level (c - g) (omega arith) (omega arith),
+            wave-leads a b p1 p2 (x ∷ []) (c - g) (omega (arith, soon)),
+          ))
           (λ y. omega (arith, n .before (omega arith)))
         where
           soon : c < p1 + g
@@ -100,7 +120,8 @@ module _ (a b g k w r p p1 p2 j x m : ℕ) (pos : 0 < r) (below : p < w) (lies :
   pub late-sample : p2 ≡ 0 → (a + b) * w + 2 ≤ (k + 2) * r + g * w → counted k 1 1 R ≡ []
   late-sample none m3 =
       unsampled R k 1 1 (j + 1) (λ i p q. high-to i (omega arith) q)
-      (dite (decLe (length R) (j + 1 + k)) (λ h. h) (λ h. absurd (omega (arith, rw shape at (ends (j + 1 + k) (omega arith))))))
+      (dite (decLe (length R) (j + 1 + k)) (λ h. h)
+      (λ h. absurd (omega (arith, rw shape at (ends (j + 1 + k) (omega arith))))))
     where
       shape : p1 + (1 * (a + b) + p2) ≡ p1 + (a + b)
       shape = omega arith
@@ -111,15 +132,19 @@ pub short-mark : (a b g k w r p p1 p2 j m : ℕ) → 0 < r → p < w → p + j *
     → counted k 1 1 (settledHigh w r p g m (wave a b p1 p2 (1 ∷ []))) ≡ []
 short-mark a b g k w r p p1 p2 j m pos below lies enough m1 =
     unsampled reads k 1 1 (length reads)
-    (λ q y h. dite (decLe q j) (λ le. high-to a b g k w r p p1 p2 j 1 m pos below lies enough q le h) (λ gt. high q h gt)) (omega arith)
+    (λ q y h. dite (decLe q j) (λ le. high-to a b g k w r p p1 p2 j 1 m pos below lies enough q le h)
+    (λ gt. high q h gt)) (omega arith)
   where
     reads : List ℕ
     reads = settledHigh w r p g m (wave a b p1 p2 (1 ∷ []))
 
     high : (q : ℕ) → q < length reads → (q ≤ j → ⊥) → getD reads q 2 ≡ 1
-    high q h gt = dite (ℕ-discrete (getD reads q 2) 1) (λ e. e) (λ d. absurd (on d (start-low a b g k w r p p1 p2 j 1 m pos below lies enough q h d)))
+    high q h gt =
+        dite (ℕ-discrete (getD reads q 2) 1) (λ e. e)
+        (λ d. absurd (on d (start-low a b g k w r p p1 p2 j 1 m pos below lies enough q h d)))
       where
-        on : getD reads q 2 ≢ 1 → (c : ℕ) × (c * w ≤ p + q * r) × (p + q * r < suc c * w) × Known g (wave a b p1 p2 (1 ∷ [])) c 0 → ⊥
+        on : getD reads q 2 ≢ 1
+            → (c : ℕ) × (c * w ≤ p + q * r) × (p + q * r < suc c * w) × Known g (wave a b p1 p2 (1 ∷ [])) c 0 → ⊥
         on d (c, u, v, n) =
             dite (decLe (p + suc q * r) ((p1 + a) * w))
             (λ y. omega (arith, mul-le-mul-right r (wider q j gt)))
@@ -127,7 +152,8 @@ short-mark a b g k w r p p1 p2 j m pos below lies enough m1 =
             omega (
               arith,
               low-in-mark a b p1 p2 (p1 + a)
-                  (low a b g k w r p p1 p2 j 1 m pos below lies enough q h d (p1 + a) (omega arith) (omega (arith, mul-le-mul-right w within)) .level
+                  (low a b g k w r p p1 p2 j 1 m pos below lies enough q h d (p1 + a) (omega arith)
+                  (omega (arith, mul-le-mul-right w within)) .level
                   (p1 + a) (omega arith) (omega arith)),
             ))
           where
@@ -137,13 +163,16 @@ short-mark a b g k w r p p1 p2 j m pos below lies enough m1 =
             wider : (q j : ℕ) → (q ≤ j → ⊥) → suc (suc j) ≤ suc q
             wider q j gt = omega arith
 
--- M2 is minus two or less, and there are no choices: the first read touches the cell's start and settles low, and its sample starts before the
+-- M2 is minus two or less, and there are no choices: the first read touches the cell's start and settles low, and its
+-- sample starts before the
 -- code has settled
-pub early-sample : (a b g k w r p p1 p2 : ℕ) → 0 < a → 0 < g → 0 < k → 0 < r → p < w → p1 * w < p + r → p + k * r < (p1 + (a + g)) * w
+pub early-sample : (a b g k w r p p1 p2 : ℕ) → 0 < a → 0 < g → 0 < k → 0 < r → p < w → p1 * w < p + r
+    → p + k * r < (p1 + (a + g)) * w
     → counted k 1 1 (settledLow w r p g (wave a b p1 p2 (1 ∷ []))) ≢ 1 ∷ []
 early-sample a b g k w r p p1 p2 ha hg hk pos below touches early same =
     dite (decLe (suc k) (length reads)) sampled-low
-    (λ h. let none : [] ≡ 1 ∷ [] = sym (unsampled reads k 1 1 0 (λ i p q. absurd (omega arith)) (omega arith)) ∙ same in omega (arith, ap length none))
+    (λ h. let none : [] ≡ 1 ∷ [] = sym (unsampled reads k 1 1 0 (λ i p q. absurd (omega arith)) (omega arith))
+    ∙ same in omega (arith, ap length none))
   where
     sent : List ℕ
     sent = wave a b p1 p2 (1 ∷ [])
@@ -164,17 +193,25 @@ early-sample a b g k w r p p1 p2 ha hg hk pos below touches early same =
         ))
 
     -- so a read that shares time with one of them settles low
-    low-read : (q c : ℕ) → q < length reads → p1 ≤ c → c < p1 + (a + g) → c * w < p + suc q * r → p + q * r < suc c * w → getD reads q 2 ≡ 0
+    low-read : (q c : ℕ) → q < length reads → p1 ≤ c → c < p1 + (a + g) → c * w < p + suc q * r → p + q * r < suc c * w
+        → getD reads q 2 ≡ 0
     low-read q c there x y u v =
         dite (ℕ-discrete (getD reads q 2) 1)
-        (λ e. absurd (unknown c x y (stays-high (even-clocks w r p pos below) g sent q c (record { before-the-end = u; after-the-start = v }) e)))
+        (λ e. absurd
+        (unknown c x y
+        (stays-high (even-clocks w r p pos below) g sent q c
+        (record { before-the-end = u; after-the-start = v }) e)))
         (λ d. omega (arith, d, is-level w r p g sent [] pos below (wave-most a b p1 p2 (1 ∷ [])) (most-none 1) q there))
 
     sampled-low : k < length reads → ⊥
     sampled-low h =
-        let (c, x, y, u, v) = cycle-of (cycleStart w) (p + k * r) (a + g) p1 (omega (arith, mul-le-mul-right r hk)) (omega arith) in
-        let mark : getD reads 0 2 ≡ 0 = low-read 0 p1 (omega arith) (omega arith) (omega arith) (omega arith) (omega arith) in
+        let (c, x, y, u, v) =
+        cycle-of (cycleStart w) (p + k * r) (a + g) p1 (omega (arith, mul-le-mul-right r hk)) (omega arith) in
+        let mark : getD reads 0 2 ≡ 0 =
+        low-read 0 p1 (omega arith) (omega arith) (omega arith) (omega arith) (omega arith) in
         let sample : getD reads (0 + k) 2 ≡ 0 = rw zero-add (low-read k c h x y (omega arith) v) in
-        let zero-found = counted-step k 0 1 reads 0 0 2 (omega arith) (omega arith) (λ i p q. absurd (omega arith)) (omega (arith, mark)) in
+        let zero-found =
+        counted-step k 0 1 reads 0 0 2 (omega arith) (omega arith) (λ i p q. absurd (omega arith))
+        (omega (arith, mark)) in
         let wrong : _≡_ {A = ℕ} 0 1 = cc (rw (mark, sample) at zero-found) in
         omega arith

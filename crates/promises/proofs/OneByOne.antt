@@ -1,4 +1,5 @@
--- A receiver that keeps a well formed state answers a level with what the rules bring and keeps the next state, which is well formed again.
+-- A receiver that keeps a well formed state answers a level with what the rules bring and keeps the next state, which
+-- is well formed again.
 use mathlib.Core.Path.{_≡_, refl, ap}
 use mathlib.Core.Bool.{true}
 use mathlib.Core.List.{List, [], _∷_}
@@ -17,7 +18,8 @@ use Rattle.promises.specs.OneByOne.{answers, AllGiven, reported, Operati
 
 module _ (g : Settings) where
   -- one call
-  steps : (s : State) (read : ℕ) → Valid g s → read ≤ 1 → stepped (receiverOf g s) read ≡ reached g (next g s read .state) (next g s read .event)
+  steps : (s : State) (read : ℕ) → Valid g s → read ≤ 1
+      → stepped (receiverOf g s) read ≡ reached g (next g s read .state) (next g s read .event)
   unfolding stepped
   steps s read valid level =
       rw (well-formed-of g s valid, le-leb read 1 level)
@@ -30,13 +32,15 @@ module _ (g : Settings) where
       rw (steps s read valid (omega (arith, levels .0)))
       (all-given reads (next g s read .state) (valid-next g s read valid (omega (arith, levels .0))) (levels .1))
 
-  all-reported : (reads : List ℕ) (s : State) (place : ℕ) → Valid g s → Levels reads → reported place (answers (receiverOf g s) reads) ≡ reports g s place reads
+  all-reported : (reads : List ℕ) (s : State) (place : ℕ) → Valid g s → Levels reads
+      → reported place (answers (receiverOf g s) reads) ≡ reports g s place reads
   unfolding answers reported reportsBy
   all-reported [] s place valid levels = refl
   all-reported (read ∷ reads) s place valid levels =
       rw (
         steps s read valid (omega (arith, levels .0)),
-        all-reported reads (next g s read .state) (suc place) (valid-next g s read valid (omega (arith, levels .0))) (levels .1),
+        all-reported reads (next g s read .state) (suc place) (valid-next g s read valid (omega (arith, levels .0)))
+            (levels .1),
       )
 
 begun-is : (k n Q : ℕ) → settingsFit k n Q ≡ true → begun k n Q .1 ≡ receiverOf (record { k = k; n = n; Q = Q }) fresh

@@ -56,7 +56,8 @@ use Rattle.promises.specs.OneMeaning.{One, Only, OneLeft, OneMeaning}
 one : {X Y : Type 0} (told : X → Y) (back : Y → X) → ((x : X) → back (told x) ≡ x) → (defined : Y) → One told defined
 one told back turns defined x y this other = sym (turns x) ∙ ap back (sym this ∙ other) ∙ turns y
 
-one-left : {X Y Z : Type 0} (told : X → Y) (back : Y → X) → ((x : X) → back (told x) ≡ x) → (defined : Y × Z) → OneLeft told defined
+one-left : {X Y Z : Type 0} (told : X → Y) (back : Y → X) → ((x : X) → back (told x) ≡ x) → (defined : Y × Z)
+    → OneLeft told defined
 one-left {X} {Y} {Z} told back turns defined x y left right this other = (
   one told back turns (defined .0) x y (ap (λ (p : Y × Z). p .0) this) (ap (λ (p : Y × Z). p .0) other),
   ap (λ (p : Y × Z). p .1) (sym this ∙ other),
@@ -121,19 +122,31 @@ step-of o = record { receiver = o .receiver; event = plain event E.Refused (o .a
 
 listen-of : Outcome × ℕ → Listened
 unfolding plain answer event
-listen-of (o, used) = record { receiver = o .receiver; event = plain event E.Refused (o .answer); row = o .row; used = record { 0 = used } }
+listen-of (o, used) =
+    record {
+      receiver = o .receiver;
+      event = plain event E.Refused (o .answer);
+      row = o .row;
+      used =
+          record { 0 = used };
+    }
 
 pub one-meaning : OneMeaning
 unfolding plain answer judged quiet-judged step-of listen-of
 one-meaning = record {
   judge = λ a b k w r. one judgedSays (plain judged J.Refused) judge-back (judgement a b k w r);
-  judge-quiet = λ a b k w r q p1. one quietJudgedSays (plain quiet-judged Q.Refused) quiet-back (quietJudgement a b k w r q p1);
+  judge-quiet =
+      λ a b k w r q p1. one quietJudgedSays (plain quiet-judged Q.Refused) quiet-back (quietJudgement a b k w r q p1);
   send = λ a b p1 p2 bits output. sent (sentMessage a b p1 p2 bits output);
   send-plan = λ a b n leads trails bits output. sent (sentPlan a b n leads trails bits output);
-  smooth = λ wave output. one-left smoothedSays (plain (λ n. M.Wave (record { 0 = n })) M.Refused) smooth-back (smoothed wave output);
+  smooth =
+      λ wave output. one-left smoothedSays (plain (λ n. M.Wave (record { 0 = n })) M.Refused) smooth-back
+      (smoothed wave output);
   warp = λ w r p wave output. read (warped w r p wave output);
   settle = λ reads choices output. read (settled reads choices output);
-  count-bits = λ k n level reads output. one-left countedSays (answer C.Bits C.Refused C.RanOut) count-back (countedBits k n level reads output);
+  count-bits =
+      λ k n level reads output. one-left countedSays (answer C.Bits C.Refused C.RanOut) count-back
+      (countedBits k n level reads output);
   fresh = λ k n Q. one-left startSays (plain (λ e. F.Fresh) F.Refused) start-back (begun k n Q);
   step = λ receiver read. one steppedSays step-of step-back (stepped receiver read);
   listen = λ receiver reads. one listenedSays listen-of listen-back (listened receiver reads);
@@ -141,7 +154,8 @@ one-meaning = record {
   read-header = λ bytes. one headSays (plain head H.Refused) head-back (header bytes);
   check = λ bytes. one checkedSays (plain K.Capture K.Refused) capture-back (checked bytes);
   read-capture = λ bytes output. one-left checkedSays (plain K.Capture K.Refused) capture-back (readBack bytes output);
-  write-capture = λ k n Q reads output. one-left writtenSays (plain W.Bytes W.Refused) written-back (written k n Q reads output);
+  write-capture =
+      λ k n Q reads output. one-left writtenSays (plain W.Bytes W.Refused) written-back (written k n Q reads output);
   put-heading = λ output. line (lent headingLine output);
   put-row = λ place n bits output. line (lent (eventLine place (row (take n (unpacked 8 bits)))) output);
   put-broken = λ place found output. line (lent (eventLine place (broken found)) output);
@@ -197,17 +211,30 @@ one-meaning = record {
     start-back (F.Refused f) = ap F.Refused (refusal-back f)
 
     step-back : (x : Stepped) → step-of (steppedSays x) ≡ x
-    step-back x = ap (λ (e : CodeEvent). record { receiver = x .receiver; event = e; row = x .row }) (event-back (x .receiver .n) (x .row) (x .event))
+    step-back x =
+        ap (λ (e : CodeEvent). record { receiver = x .receiver; event = e; row = x .row })
+        (event-back (x .receiver .n) (x .row) (x .event))
 
     listen-back : (x : Listened) → listen-of (listenedSays x) ≡ x
-    listen-back x = ap (λ (e : CodeEvent). record { receiver = x .receiver; event = e; row = x .row; used = x .used }) (event-back (x .receiver .n) (x .row) (x .event))
+    listen-back x =
+        ap (λ (e : CodeEvent). record { receiver = x .receiver; event = e; row = x .row; used = x .used })
+        (event-back (x .receiver .n) (x .row) (x .event))
 
     number-back : (x : Number) → plain (λ n. N.Is (n .value) (n .after)) N.Refused (numberSays x) ≡ x
     number-back (N.Is v after) = refl
     number-back (N.Refused f) = ap N.Refused (refusal-back f)
 
     head : Heading → Head
-    head h = H.Found (record { k = record { 0 = h .k }; n = h .n; q = record { 0 = h .Q }; level = h .level; «level_at» = h .level-at; after = h .after })
+    head h =
+        H.Found (record {
+          k = record { 0 = h .k };
+          n = h .n;
+          q = record { 0 = h .Q };
+          level = h .level;
+          «level_at» =
+              h .level-at;
+          after = h .after;
+        })
 
     head-back : (x : Head) → plain head H.Refused (headSays x) ≡ x
     head-back (H.Found h) = refl

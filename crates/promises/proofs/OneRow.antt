@@ -1,4 +1,5 @@
--- One row through the row receiver: each mark is heard and each sample is right, and M4 keeps the run of high reads below Q up to the last sample.
+-- One row through the row receiver: each mark is heard and each sample is right, and M4 keeps the run of high reads
+-- below Q up to the last sample.
 use mathlib.Core.Path.{_≡_, subst, sym, ap, _∙_}
 use mathlib.Core.List.{List, [], _∷_, _++_, append-assoc}
 use Prim.Native.Nat.{ℕ, suc, _+_, _*_, _-_, _≤_, _<_}
@@ -57,19 +58,26 @@ module _ {tw tr S D : ℕ → ℕ} {w1 w2 r1 r2 end : ℕ} (wclk : Clock tw w1 w
           less = lt-of-mul-lt-mul-right r1 (omega (arith, m4, far, span-high wclk c (a + b + g)))
       go (no h) = omega (arith, two)
 
-  -- The receiver counts after the mark m of the cell at c, for which it waited at v from read j on, and has the bits bs. It delivers those and the bits
+  -- The receiver counts after the mark m of the cell at c, for which it waited at v from read j on, and has the bits
+  -- bs. It delivers those and the bits
   -- of the cells from c on, with the last sample that the counted rule finds from read j on.
   abbrev Delivered : ℕ → ℕ → ℕ → ℕ → List ℕ → List ℕ → ℕ → Type 0
   Delivered j m ρ v bs bits c =
-      (s : ℕ) × (σ : ℕ) × Goes k n Q D (suc m) (counting k (1 - v) ρ bs) (deliveredAt s (bs ++ bits) ∷ []) (suc s) (hunting σ)
+      (s : ℕ) × (σ : ℕ)
+      × Goes k n Q D (suc m) (counting k (1 - v) ρ bs) (deliveredAt s (bs ++ bits) ∷ []) (suc s) (hunting σ)
       × Ended tw tr S g Q (c + length bits * (a + b)) (final v bits) (suc s) σ
       × Samples k D (length bits) v j s
 
   -- one cell: from its mark to its sample
-  module _ (x c v j m ρ : ℕ) (bs : List ℕ) (lv : v < 2) (lx : x < 2) (lr : ρ ≤ 1) (cell : Cell S a b g c v (codeLevel v x))
+  module _ (x c v j m ρ : ℕ) (bs : List ℕ) (lv : v < 2) (lx : x < 2) (lr : ρ ≤ 1)
+      (cell : Cell S a b g c v (codeLevel v x))
       (heard : Heard tw tr D a b g k r2 c v (codeLevel v x) j m) where
     short : k + 1 < Q
-    short = omega (arith, few c m (m + k) (heard .edge) (omega (arith, heard .ends, rclk .low (m + k), mono wclk (c + (a + b)) (c + (a + b + g)) (omega arith))))
+    short = omega (
+      arith,
+      few c m (m + k) (heard .edge)
+          (omega (arith, heard .ends, rclk .low (m + k), mono wclk (c + (a + b)) (c + (a + b + g)) (omega arith))),
+    )
 
     some-k : 0 < k
     some-k = counts wclk rclk pos see ok
@@ -82,16 +90,21 @@ module _ {tw tr S D : ℕ → ℕ} {w1 w2 r1 r2 end : ℕ} (wclk : Clock tw w1 w
 
     sampled : {d s : ℕ} → Samples k D d (codeLevel v x) (m + k) s → Samples k D (suc d) v j s
     sampled {d} {s} more′ =
-        more (heard .from) (heard .before) (omega (arith, heard .differs)) (subst (λ (u : ℕ). Samples k D d u (m + k) s) (sym (heard .sample)) more′)
+        more (heard .from) (heard .before) (omega (arith, heard .differs))
+        (subst (λ (u : ℕ). Samples k D d u (m + k) s) (sym (heard .sample)) more′)
 
     last : suc (length bs) ≡ n → Delivered j m ρ v bs (x ∷ []) c
     last l = go (downto k n Q D m (1 - v) ρ bs some-k (omega (arith, short)))
       where
-        go : (σ : ℕ) × (σ < ρ + k) × Goes k n Q D (suc m) (counting k (1 - v) ρ bs) [] (m + k) (counting 1 (1 - v) σ bs) → Delivered j m ρ v bs (x ∷ []) c
+        go : (σ : ℕ) × (σ < ρ + k)
+            × Goes k n Q D (suc m) (counting k (1 - v) ρ bs) [] (m + k) (counting 1 (1 - v) σ bs)
+            → Delivered j m ρ v bs (x ∷ []) c
         go (σ, p, f) = (
           m + k,
           runAfter Q σ (D (m + k)),
-          join k n Q D f (then (sample-last k n Q (1 - v) σ bs (D (m + k)) x (omega (arith, run-most Q σ (D (m + k)), short)) bit-is l) here),
+          join k n Q D f
+              (then (sample-last k n Q (1 - v) σ bs (D (m + k)) x
+              (omega (arith, run-most Q σ (D (m + k)), short)) bit-is l) here),
           record {
             level = code-level v x lv lx;
             runs = omega (arith, run-most Q σ (D (m + k)), short);
@@ -108,9 +121,12 @@ module _ {tw tr S D : ℕ → ℕ} {w1 w2 r1 r2 end : ℕ} (wclk : Clock tw w1 w
 
     -- from the mark up to and with the mark m′ of the next cell, which is heard from the sample on
     abbrev Onward : ℕ → Type 0
-    Onward m′ = (σ : ℕ) × (σ ≤ 1) × Goes k n Q D (suc m) (counting k (1 - v) ρ bs) [] (suc m′) (counting k (1 - codeLevel v x) σ (bs ++ (x ∷ [])))
+    Onward m′ =
+        (σ : ℕ) × (σ ≤ 1)
+        × Goes k n Q D (suc m) (counting k (1 - v) ρ bs) [] (suc m′) (counting k (1 - codeLevel v x) σ (bs ++ (x ∷ [])))
 
-    onward : (u m′ : ℕ) → suc (length bs) < n → Heard tw tr D a b g k r2 (c + (a + b)) (codeLevel v x) u (m + k) m′ → Onward m′
+    onward : (u m′ : ℕ) → suc (length bs) < n → Heard tw tr D a b g k r2 (c + (a + b)) (codeLevel v x) u (m + k) m′
+        → Onward m′
     onward u m′ l next′ = wait (downto k n Q D m (1 - v) ρ bs some-k (omega (arith, short)))
       where
         s : ℕ
@@ -127,40 +143,58 @@ module _ {tw tr S D : ℕ → ℕ} {w1 w2 r1 r2 end : ℕ} (wclk : Clock tw w1 w
         close = omega (
           arith,
           few c m (m′ - 1) (heard .edge)
-              (subst (λ (i : ℕ). tr (m′ - 1) < tw i) (add-assoc c (a + b) g) (next′ .touch (m′ - 1) (omega (arith, later)) (omega (arith, later)))),
+              (subst (λ (i : ℕ). tr (m′ - 1) < tw i) (add-assoc c (a + b) g)
+              (next′ .touch (m′ - 1) (omega (arith, later)) (omega (arith, later)))),
         )
 
         place : suc s + (m′ - suc s) ≡ m′
         place = omega (arith, later)
 
         -- the run after the sample, and the reads from the sample to the mark
-        mark : (σ : ℕ) → runAfter Q σ (D s) < Q → Goes k n Q D (suc m) (counting k (1 - v) ρ bs) [] s (counting 1 (1 - v) σ bs)
+        mark : (σ : ℕ) → runAfter Q σ (D s) < Q
+            → Goes k n Q D (suc m) (counting k (1 - v) ρ bs) [] s (counting 1 (1 - v) σ bs)
             → (τ : ℕ) × (τ ≤ runAfter Q σ (D s) + (m′ - suc s)) × (codeLevel v x ≡ 0 → runAfter Q σ (D s) ≡ 0 → τ ≡ 0)
-            × Goes k n Q D (suc s) (waiting (codeLevel v x) (runAfter Q σ (D s)) (bs ++ (x ∷ []))) [] (suc s + (m′ - suc s)) (waiting (codeLevel v x) τ (bs ++ (x ∷ [])))
+            × Goes k n Q D (suc s) (waiting (codeLevel v x) (runAfter Q σ (D s)) (bs ++ (x ∷ []))) []
+            (suc s + (m′ - suc s)) (waiting (codeLevel v x) τ (bs ++ (x ∷ [])))
             → Onward m′
-        mark σ h f (τ, p, z, w) = go (marks k n Q (codeLevel v x) τ (bs ++ (x ∷ [])) two (code-level v x lv lx) (λ e. z e (sampled-low σ e)))
+        mark σ h f (τ, p, z, w) =
+            go (marks k n Q (codeLevel v x) τ (bs ++ (x ∷ [])) two (code-level v x lv lx) (λ e. z e (sampled-low σ e)))
           where
-            to-wait : next (rules k n Q) (counting 1 (1 - v) σ bs) (D s) ≡ silently (waiting (codeLevel v x) (runAfter Q σ (D s)) (bs ++ (x ∷ [])))
+            to-wait : next (rules k n Q) (counting 1 (1 - v) σ bs) (D s)
+                ≡ silently (waiting (codeLevel v x) (runAfter Q σ (D s)) (bs ++ (x ∷ [])))
             to-wait =
                 sample-more k n Q (1 - v) σ bs (D s) x h bit-is l
                 ∙ ap (λ (y : ℕ). silently (waiting y (runAfter Q σ (D s)) (bs ++ (x ∷ [])))) (heard .sample)
 
-            go : (ω : ℕ) × (ω ≤ 1) × (next (rules k n Q) (waiting (codeLevel v x) τ (bs ++ (x ∷ []))) (1 - codeLevel v x)
+            go : (ω : ℕ) × (ω ≤ 1)
+                × (next (rules k n Q) (waiting (codeLevel v x) τ (bs ++ (x ∷ []))) (1 - codeLevel v x)
                 ≡ silently (counting k (1 - codeLevel v x) ω (bs ++ (x ∷ [])))) → Onward m′
-            go (ω, q, e) = (ω, q, join k n Q D f (then to-wait (join k n Q D (rw place at w) (step k n Q D (next′ .differs) e here))))
+            go (ω, q, e) = (
+              ω,
+              q,
+              join k n Q D f
+                  (then to-wait (join k n Q D (rw place at w) (step k n Q D (next′ .differs) e here))),
+            )
 
-        wait : (σ : ℕ) × (σ < ρ + k) × Goes k n Q D (suc m) (counting k (1 - v) ρ bs) [] s (counting 1 (1 - v) σ bs) → Onward m′
+        wait : (σ : ℕ) × (σ < ρ + k) × Goes k n Q D (suc m) (counting k (1 - v) ρ bs) [] s (counting 1 (1 - v) σ bs)
+            → Onward m′
         wait (σ, p, f) =
-            mark σ (omega (arith, run-most Q σ (D s), short)) f (linger k n Q D (m′ - suc s) (suc s) (codeLevel v x) (runAfter Q σ (D s)) (bs ++ (x ∷ []))
-            (λ i y z. next′ .before i (omega arith) (omega (arith, place))) (omega (arith, run-most Q σ (D s), close, later)))
+            mark σ (omega (arith, run-most Q σ (D s), short)) f
+            (linger k n Q D (m′ - suc s) (suc s) (codeLevel v x) (runAfter Q σ (D s)) (bs ++ (x ∷ []))
+            (λ i y z. next′ .before i (omega arith) (omega (arith, place)))
+            (omega (arith, run-most Q σ (D s), close, later)))
 
-  body : (xs : List ℕ) (x c v j m ρ : ℕ) (bs : List ℕ) → v < 2 → x < 2 → Bits xs → ρ ≤ 1 → Cell S a b g c v (codeLevel v x)
-      → Heard tw tr D a b g k r2 c v (codeLevel v x) j m → Holds a b g S (c + (a + b)) (codeLevel v x) xs → length bs + suc (length xs) ≡ n
+  body : (xs : List ℕ) (x c v j m ρ : ℕ) (bs : List ℕ) → v < 2 → x < 2 → Bits xs → ρ ≤ 1
+      → Cell S a b g c v (codeLevel v x)
+      → Heard tw tr D a b g k r2 c v (codeLevel v x) j m → Holds a b g S (c + (a + b)) (codeLevel v x) xs
+      → length bs + suc (length xs) ≡ n
       → tw (c + suc (length xs) * (a + b)) ≤ end → Delivered j m ρ v bs (x ∷ xs) c
   body [] x c v j m ρ bs lv lx hb lr cell heard hs l e = last x c v j m ρ bs lv lx lr cell heard (omega arith)
   body (y ∷ ys) x c v j m ρ bs lv lx hb lr cell heard hs l e =
-      go (hear wclk rclk pos see ok (c + (a + b)) (codeLevel v x) (codeLevel (codeLevel v x) y) (m + k) lu (code-level (codeLevel v x) y lu (hb .0)) inside (hs .0) (heard .next))
-      λ m′ σ q h. body ys y (c + (a + b)) (codeLevel v x) (m + k) m′ σ (bs ++ (x ∷ [])) lu (hb .0) (hb .1) q (hs .0) h (hs .1)
+      go (hear wclk rclk pos see ok (c + (a + b)) (codeLevel v x) (codeLevel (codeLevel v x) y) (m + k) lu
+      (code-level (codeLevel v x) y lu (hb .0)) inside (hs .0) (heard .next))
+      λ m′ σ q h. body ys y (c + (a + b)) (codeLevel v x) (m + k) m′ σ (bs ++ (x ∷ [])) lu (hb .0) (hb .1) q (hs .0) h
+      (hs .1)
       (rw length-append (omega arith)) (subst (λ (i : ℕ). tw i ≤ end) further e)
     where
       lu : codeLevel v x < 2
@@ -175,11 +209,16 @@ module _ {tw tr S D : ℕ → ℕ} {w1 w2 r1 r2 end : ℕ} (wclk : Clock tw w1 w
       Next : ℕ → Type 0
       Next m′ = Heard tw tr D a b g k r2 (c + (a + b)) (codeLevel v x) (codeLevel (codeLevel v x) y) (m + k) m′
 
-      go : (m′ : ℕ) × Next m′ → ((m′ σ : ℕ) → σ ≤ 1 → Next m′ → Delivered (m + k) m′ σ (codeLevel v x) (bs ++ (x ∷ [])) (y ∷ ys) (c + (a + b)))
+      go : (m′ : ℕ) × Next m′
+          → ((m′ σ : ℕ) → σ ≤ 1 → Next m′
+          → Delivered (m + k) m′ σ (codeLevel v x) (bs ++ (x ∷ [])) (y ∷ ys) (c + (a + b)))
           → Delivered j m ρ v bs (x ∷ y ∷ ys) c
-      go (m′, next′) rest = on (onward x c v j m ρ bs lv lx lr cell heard (codeLevel (codeLevel v x) y) m′ (omega arith) next′)
+      go (m′, next′) rest =
+          on (onward x c v j m ρ bs lv lx lr cell heard (codeLevel (codeLevel v x) y) m′ (omega arith) next′)
         where
-          on : (σ : ℕ) × (σ ≤ 1) × Goes k n Q D (suc m) (counting k (1 - v) ρ bs) [] (suc m′) (counting k (1 - codeLevel v x) σ (bs ++ (x ∷ [])))
+          on : (σ : ℕ) × (σ ≤ 1)
+              × Goes k n Q D (suc m) (counting k (1 - v) ρ bs) [] (suc m′)
+              (counting k (1 - codeLevel v x) σ (bs ++ (x ∷ [])))
               → Delivered j m ρ v bs (x ∷ y ∷ ys) c
           on (σ, q, f) =
               let (s, τ, h, d, p) = rest m′ σ q next′ in
@@ -192,18 +231,22 @@ module _ {tw tr S D : ℕ → ℕ} {w1 w2 r1 r2 end : ℕ} (wclk : Clock tw w1 w
       × Ended tw tr S g Q (c + length bits * (a + b)) (final 1 bits) (suc s) σ
       × Samples k D (length bits) 1 j s
 
-  pub one-row : (bits : List ℕ) (c j : ℕ) → 0 < n → Bits bits → Holds a b g S c 1 bits → Waits tw tr D g c 1 j → length bits ≡ n
+  pub one-row : (bits : List ℕ) (c j : ℕ) → 0 < n → Bits bits → Holds a b g S c 1 bits → Waits tw tr D g c 1 j
+      → length bits ≡ n
       → tw (c + length bits * (a + b)) ≤ end → RowFrom bits c j
   one-row [] c j some hb hs wait l e = absurd (omega arith)
   one-row (x ∷ xs) c j some hb hs wait l e =
-      go (hear wclk rclk pos see ok c 1 (codeLevel 1 x) j (omega arith) (code-level 1 x (omega arith) (hb .0)) inside (hs .0) wait)
+      go (hear wclk rclk pos see ok c 1 (codeLevel 1 x) j (omega arith) (code-level 1 x (omega arith) (hb .0)) inside
+      (hs .0) wait)
     where
       inside : tw (c + (a + b)) ≤ end
       inside = omega (arith, e, mono wclk (c + (a + b)) (c + suc (length xs) * (a + b)) (omega arith))
 
       go : (m : ℕ) × Heard tw tr D a b g k r2 c 1 (codeLevel 1 x) j m → RowFrom (x ∷ xs) c j
       go (m, heard) =
-          let (s, σ, f, d, p) = body xs x c 1 j m 0 [] (omega arith) (hb .0) (hb .1) (omega arith) (hs .0) heard (hs .1) (omega arith) e in (
+          let (s, σ, f, d, p) =
+          body xs x c 1 j m 0 [] (omega arith) (hb .0) (hb .1) (omega arith) (hs .0) heard (hs .1)
+          (omega arith) e in (
             s,
             σ,
             join k n Q D (rw place at (stay k n Q D (m - j) j (λ i y z. heard .before i y (omega (arith, place)))))

@@ -1,4 +1,5 @@
--- The line keeps its word: a read is the level that the cycles sharing time with it all have, settling leaves it so, and every settled read is a level.
+-- The line keeps its word: a read is the level that the cycles sharing time with it all have, settling leaves it so,
+-- and every settled read is a level.
 use mathlib.Core.Path.{_≡_, _∙_}
 use mathlib.Core.List.{List}
 use Prim.Native.Nat.{ℕ, suc, _≤_, _<_}
@@ -19,7 +20,8 @@ use Rattle.promises.proofs.Timing.{Settled}
 use Rattle.promises.proofs.Smoothing.{smoothBy, smooth-is, smooth-by-most}
 
 -- clocks within bounds, the phase below the first writer cycle
-pub within-bounds : {tw tr : ℕ → ℕ} {w1 w2 r1 r2 : ℕ} → Clock tw w1 w2 → Clock tr r1 r2 → 0 < r1 → tw 0 ≤ tr 0 → tr 0 < tw 1 → Clocks tw tr
+pub within-bounds : {tw tr : ℕ → ℕ} {w1 w2 r1 r2 : ℕ} → Clock tw w1 w2 → Clock tr r1 r2 → 0 < r1 → tw 0 ≤ tr 0
+    → tr 0 < tw 1 → Clocks tw tr
 within-bounds wclk rclk pos phase below = record {
   cycles-on = λ i. omega (arith, wclk .low i);
   reads-on = λ j. omega (arith, rclk .low j);
@@ -41,15 +43,19 @@ pub record Reads (tw tr : ℕ → ℕ) (levels rs : List ℕ) : Type 0 where
   pub ends : (j : ℕ) → j < length rs → tr (suc j) ≤ tw (length levels)
 
 -- every settled read is a level
-pub line-levels : {tw tr : ℕ → ℕ} → Clocks tw tr → (levels choices : List ℕ) → AtMost 2 levels → AtMost 1 choices → AtMost 1 (settle (warpBy tw tr levels) choices)
-line-levels {tw} {tr} clocks levels choices all chosen = settle-most (warpBy tw tr levels) choices (reads-most clocks levels all) chosen
+pub line-levels : {tw tr : ℕ → ℕ} → Clocks tw tr → (levels choices : List ℕ) → AtMost 2 levels → AtMost 1 choices
+    → AtMost 1 (settle (warpBy tw tr levels) choices)
+line-levels {tw} {tr} clocks levels choices all chosen =
+    settle-most (warpBy tw tr levels) choices (reads-most clocks levels all) chosen
 
 pub line-reads : {tw tr : ℕ → ℕ} → Clocks tw tr → (levels choices : List ℕ) → AtMost 2 levels → AtMost 1 choices
     → Reads tw tr levels (settle (warpBy tw tr levels) choices)
 line-reads {tw} {tr} clocks levels choices all chosen = record {
   settled = record {
     agrees = λ j v known ends same.
-        let is : getD warped j 2 ≡ v = read-same clocks levels j v ends λ i within shares. same i (shares .before-the-end) (shares .after-the-start)
+        let is : getD warped j 2 ≡ v =
+        read-same clocks levels j v ends λ i within shares. same i (shares .before-the-end)
+        (shares .after-the-start)
         in settle-keeps warped choices j (omega arith) ∙ is;
     level = λ j ends.
         let here = read-there clocks levels j ends in
@@ -73,6 +79,8 @@ reads-of-01 w r p l choices pos below levels chosen =
     rw (warp-by w r p (smooth l), smooth-is l)
     (line-reads (even-clocks w r p pos below) (smoothBy 1 0 1 l) choices (smooth-by-most 1 0 1 l levels) chosen)
 
-pub levels-of-01 : (w r p : ℕ) (l choices : List ℕ) → 0 < r → p < w → AtMost 1 l → AtMost 1 choices → AtMost 1 (settle (warp w r p (smooth l)) choices)
+pub levels-of-01 : (w r p : ℕ) (l choices : List ℕ) → 0 < r → p < w → AtMost 1 l → AtMost 1 choices
+    → AtMost 1 (settle (warp w r p (smooth l)) choices)
 levels-of-01 w r p l choices pos below levels chosen =
-    rw (warp-by w r p (smooth l)) (line-levels (even-clocks w r p pos below) (smooth l) choices (smooth-most 1 l levels) chosen)
+    rw (warp-by w r p (smooth l))
+    (line-levels (even-clocks w r p pos below) (smooth l) choices (smooth-most 1 l levels) chosen)

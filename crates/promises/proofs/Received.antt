@@ -1,4 +1,5 @@
--- The counted receiver returns the message: in front of each cell it waits at the level before it, hears the mark and samples the code, and so
+-- The counted receiver returns the message: in front of each cell it waits at the level before it, hears the mark and
+-- samples the code, and so
 -- waits in front of the next.
 use mathlib.Core.Path.{_≡_, refl, subst, _∙_}
 use mathlib.Core.List.{List, [], _∷_}
@@ -17,10 +18,12 @@ use Rattle.promises.proofs.Stretches.{length-wave, wave-carries, wave-l
 use Rattle.promises.proofs.Reading.{Reads}
 
 -- from read j on, in front of the cell at cycle c
-module _ {tw tr S : ℕ → ℕ} {w1 w2 r1 r2 end : ℕ} (rs : List ℕ) (wclk : Clock tw w1 w2) (rclk : Clock tr r1 r2) (pos : 0 < r1)
+module _ {tw tr S : ℕ → ℕ} {w1 w2 r1 r2 end : ℕ} (rs : List ℕ) (wclk : Clock tw w1 w2) (rclk : Clock tr r1 r2)
+    (pos : 0 < r1)
     (see : Settled tw tr S (λ i. getD rs i 2) end) (there : (i : ℕ) → tr (suc i) ≤ end → i < length rs)
     {a b g k : ℕ} (ok : Margins a b g k w1 w2 r1 r2) where
-  pub received : (bits : List ℕ) (c v j : ℕ) → Levels bits → v < 2 → Holds a b g S c v bits → Waits tw tr (λ i. getD rs i 2) g c v j
+  pub received : (bits : List ℕ) (c v j : ℕ) → Levels bits → v < 2 → Holds a b g S c v bits
+      → Waits tw tr (λ i. getD rs i 2) g c v j
       → tw (c + length bits * (a + b)) ≤ end → counted k (length bits) v (drop j rs) ≡ bits
   unfolding counted
   received [] c v j hb lv hs wait e = refl
@@ -43,10 +46,12 @@ module _ {tw tr S : ℕ → ℕ} {w1 w2 r1 r2 end : ℕ} (rs : List ℕ) (wclk :
           → counted k (length xs) (codeLevel v x) (drop (m + k) rs) ≡ xs)
           → counted k (suc (length xs)) v (drop j rs) ≡ x ∷ xs
       go (m, q) more =
-          counted-step k (length xs) v rs j m 2 (q .from) (there (m + k) (omega (arith, q .ends, inside))) (q .before) (omega (arith, q .differs))
+          counted-step k (length xs) v rs j m 2 (q .from) (there (m + k) (omega (arith, q .ends, inside))) (q .before)
+          (omega (arith, q .differs))
           ∙ rw (q .differs, q .sample, bit-code v x lv (hb .0), more m (q .next))
 
--- margins of minus one or more and any clocks within their bounds, the phase below the first writer cycle: the receiver, started high, returns
+-- margins of minus one or more and any clocks within their bounds, the phase below the first writer cycle: the
+-- receiver, started high, returns
 -- the message
 module _ {tw tr : ℕ → ℕ} {w1 w2 r1 r2 : ℕ} (wclk : Clock tw w1 w2) (rclk : Clock tr r1 r2) (pos : 0 < r1)
     (phase : tw 0 ≤ tr 0) (below : tr 0 < tw 1) {a b g k : ℕ} (settles : 0 < g) (ok : Margins a b g k w1 w2 r1 r2) where
@@ -71,5 +76,6 @@ module _ {tw tr : ℕ → ℕ} {w1 w2 r1 r2 : ℕ} (wclk : Clock tw w1 w2) (rclk
         calm = λ i p q.
             quiet wclk rclk pos (reads .settled) 0 p1 i 1 (omega arith)
             (omega (arith, mono wclk p1 (length (smoothBy g 0 1 l)) (omega (arith, fits, same))))
-            (λ n x y. flat g l 0 1 n p1 (wave-leads a b p1 p2 bits) (omega (arith, fits)) (omega arith) y) (omega (arith, mono rclk 0 i p)) q;
+            (λ n x y. flat g l 0 1 n p1 (wave-leads a b p1 p2 bits) (omega (arith, fits)) (omega arith) y)
+            (omega (arith, mono rclk 0 i p)) q;
       }

@@ -1,4 +1,5 @@
--- The counted receiver's rule as a relation, and that it is what a last sample's place is computed by: each mark is the first read that differs.
+-- The counted receiver's rule as a relation, and that it is what a last sample's place is computed by: each mark is the
+-- first read that differs.
 use mathlib.Core.Path.{_≡_, refl}
 use mathlib.Core.Logic.{_≢_}
 use mathlib.Core.List.{List}
@@ -13,14 +14,16 @@ use Rattle.promises.specs.Places.{markPlace, samplePlace}
 -- from read j on, at the level v, the n-th sample is read s
 pub data Samples (k : ℕ) (D : ℕ → ℕ) : ℕ → ℕ → ℕ → ℕ → Type 0 where
   none : {v j : ℕ} → Samples k D 0 v j j
-  more : {n v j m s : ℕ} → j ≤ m → ((i : ℕ) → j ≤ i → i < m → D i ≡ v) → D m ≢ v → Samples k D n (D (m + k)) (m + k) s → Samples k D (suc n) v j s
+  more : {n v j m s : ℕ} → j ≤ m → ((i : ℕ) → j ≤ i → i < m → D i ≡ v) → D m ≢ v → Samples k D n (D (m + k)) (m + k) s
+      → Samples k D (suc n) v j s
 
 pub samples-on : {k n v j s : ℕ} {D : ℕ → ℕ} → Samples k D n v j s → j ≤ s
 samples-on none = omega arith
 samples-on (more h same differs next) = omega (arith, samples-on next)
 
 -- the mark is read m
-marked-at : (level : ℕ) (R : List ℕ) (d j m : ℕ) → j + d ≡ m → m < length R → ((i : ℕ) → j ≤ i → i < m → getD R i 2 ≡ level) → getD R m 2 ≢ level
+marked-at : (level : ℕ) (R : List ℕ) (d j m : ℕ) → j + d ≡ m → m < length R
+    → ((i : ℕ) → j ≤ i → i < m → getD R i 2 ≡ level) → getD R m 2 ≢ level
     → markPlace level j (drop j R) ≡ m
 unfolding markPlace
 marked-at level R zero j m e l same differs =
@@ -32,7 +35,8 @@ marked-at level R (suc d) j m e l same differs =
     rw (drop-cons R j 2 (omega arith), eq-eqb (getD R j 2) level (same j (omega arith) (omega arith)))
     (marked-at level R d (suc j) m (omega arith) l (λ i p q. same i (omega arith) q) differs)
 
-pub sampled-at : (R : List ℕ) {k n v j s : ℕ} → Samples k (λ i. getD R i 2) n v j s → s < length R → samplePlace k n v j (drop j R) ≡ s
+pub sampled-at : (R : List ℕ) {k n v j s : ℕ} → Samples k (λ i. getD R i 2) n v j s → s < length R
+    → samplePlace k n v j (drop j R) ≡ s
 unfolding samplePlace
 sampled-at R none l = refl
 sampled-at R {k} {v = v} (more {n = n} {j = j} {m = m} {s = s} h same differs next) l =

@@ -1,4 +1,5 @@
--- The wave of a plan, smoothed, has the plan's rows: pads are stretches of high, and where a row ended high the stretch begins with its last
+-- The wave of a plan, smoothed, has the plan's rows: pads are stretches of high, and where a row ended high the stretch
+-- begins with its last
 -- code subcell.
 use mathlib.Core.Path.{_≡_, _∙_}
 use mathlib.Core.Logic.{dite}
@@ -14,7 +15,8 @@ use Rattle.promises.proofs.Timing.{Margins}
 use Rattle.promises.proofs.LevelLists.{most-append}
 use Rattle.promises.proofs.Cells.{Holds}
 use Rattle.promises.proofs.Smoothing.{Run, smoothBy, smoothed, flat}
-use Rattle.promises.proofs.Stretches.{Stands, stands-left, stands-right, stands-run, Carries, carries, length-cells, length-wave, wave-parts, wave-most, holds}
+use Rattle.promises.proofs.Stretches.{Stands, stands-left, stands-right, stands-run, Carries, carries}
+use Rattle.promises.proofs.Stretches.{length-cells, length-wave, wave-parts, wave-most, holds}
 
 -- the level on the line after the cells of a message that starts from the level v
 abbrev pub final : ℕ → List ℕ → ℕ
@@ -26,12 +28,14 @@ abbrev pub Filled : List Row → Type 0
 Filled [] = Unit {0}
 Filled (row ∷ rows) = (0 < length (row .bits)) × Filled rows
 
--- The smoothed wave S has the rows from cycle c on, after the level u and t cycles of trail. Pads are known from their cycle g on, and at once
+-- The smoothed wave S has the rows from cycle c on, after the level u and t cycles of trail. Pads are known from their
+-- cycle g on, and at once
 -- after high.
 abbrev pub Line : ℕ → ℕ → ℕ → (ℕ → ℕ) → ℕ → ℕ → ℕ → List Row → Type 0
 Line a b g S c u t [] = ((i : ℕ) → c + g ≤ i → i < c + t → S i ≡ 1) × (u ≡ 1 → (i : ℕ) → c ≤ i → i < c + t → S i ≡ 1)
 Line a b g S c u t (row ∷ rows) =
-    ((i : ℕ) → c + g ≤ i → i < c + (t + row .lead) → S i ≡ 1) × (u ≡ 1 → (i : ℕ) → c ≤ i → i < c + (t + row .lead) → S i ≡ 1)
+    ((i : ℕ) → c + g ≤ i → i < c + (t + row .lead) → S i ≡ 1)
+    × (u ≡ 1 → (i : ℕ) → c ≤ i → i < c + (t + row .lead) → S i ≡ 1)
     × Holds a b g S (c + (t + row .lead)) 1 (row .bits)
     × Line a b g S (c + (t + row .lead) + length (row .bits) * (a + b)) (final 1 (row .bits)) (row .trail) rows
 
@@ -50,7 +54,8 @@ pub plan-most : (a b : ℕ) (rows : List Row) → AtMost 1 (planWave a b rows)
 unfolding planWave
 plan-most a b [] = most-none 1
 plan-most a b (row ∷ rows) =
-    most-append 1 (wave a b (row .lead) (row .trail) (row .bits)) (planWave a b rows) (wave-most a b (row .lead) (row .trail) (row .bits))
+    most-append 1 (wave a b (row .lead) (row .trail) (row .bits)) (planWave a b rows)
+    (wave-most a b (row .lead) (row .trail) (row .bits))
     (plan-most a b rows)
 
 run-join : (W : ℕ → ℕ) (c n m v : ℕ) → Run W c n v → Run W (c + n) m v → Run W c (n + m) v
@@ -60,7 +65,8 @@ run-join W c n m v p q i x y = dite (decLe (c + n) i) (λ z. q i z (omega arith)
 last-run : (a b : ℕ) (W : ℕ → ℕ) (xs : List ℕ) (x c v : ℕ) → Carries a b W c v (x ∷ xs)
     → (d : ℕ) × (d + b ≡ c + suc (length xs) * (a + b)) × Run W d b (final v (x ∷ xs))
 last-run a b W [] x c v h = (c + a, omega arith, h .1)
-last-run a b W (y ∷ ys) x c v h = let (d, e, r) = last-run a b W ys y (c + (a + b)) (codeLevel v x) (h .2) in (d, omega arith, r)
+last-run a b W (y ∷ ys) x c v h = let (d, e, r) =
+    last-run a b W ys y (c + (a + b)) (codeLevel v x) (h .2) in (d, omega arith, r)
 
 -- the margins keep the settling count below the code subcell's length
 pub settles-in-code : {a b g k w1 w2 r1 r2 : ℕ} → w1 ≤ w2 → r1 ≤ r2 → 0 < r1 → Margins a b g k w1 w2 r1 r2 → g < b
@@ -83,7 +89,8 @@ module _ (a b g : ℕ) (gb : g ≤ b) (l : List ℕ) where
       ≡ replicate (t + row .lead) 1 ++ (cells a b 1 (row .bits) ++ (replicate (row .trail) 1 ++ planWave a b rows))
   unfolding planWave
   regroup t row rows =
-      rw (wave-parts a b (row .lead) (row .trail) (row .bits), ← replicate-append-replicate {A = ℕ} t (row .lead) 1) (simp append-assoc)
+      rw (wave-parts a b (row .lead) (row .trail) (row .bits), ← replicate-append-replicate {A = ℕ} t (row .lead) 1)
+      (simp append-assoc)
 
   sent-from : (rows : List Row) (c u t : ℕ) → Filled rows → Stands W c (replicate t 1 ++ planWave a b rows)
       → c + length (replicate t 1 ++ planWave a b rows) ≤ length l → Before c u → Line a b g S c u t rows
@@ -100,7 +107,8 @@ module _ (a b g : ℕ) (gb : g ≤ b) (l : List ℕ) where
     smoothed g l 0 1 c p 1 (omega arith) pads (omega (arith, whole-size)),
     (λ e. before e p pads (omega (arith, whole-size))),
     holds a b g l (row .bits) (c + p) 1 (omega (arith, whole-size)) carried,
-    sent-from rows next (final 1 (row .bits)) (row .trail) (f .1) (rw at-next at (stands-right W (c + p) C rest from-cells))
+    sent-from rows next (final 1 (row .bits)) (row .trail) (f .1)
+        (rw at-next at (stands-right W (c + p) C rest from-cells))
         (omega (arith, whole-size)) (onward (row .bits) (f .0) carried),
   )
     where
@@ -119,7 +127,8 @@ module _ (a b g : ℕ) (gb : g ≤ b) (l : List ℕ) where
       whole : Stands W c (replicate p 1 ++ (C ++ rest))
       whole = rw (regroup t row rows) at h
 
-      whole-size : length (replicate t 1 ++ planWave a b (row ∷ rows)) ≡ p + (length (row .bits) * (a + b) + length rest)
+      whole-size : length (replicate t 1 ++ planWave a b (row ∷ rows))
+          ≡ p + (length (row .bits) * (a + b) + length rest)
       whole-size = rw (regroup t row rows) (simp (length-append, length-replicate, length-cells))
 
       pads : Run W c p 1
@@ -134,7 +143,8 @@ module _ (a b g : ℕ) (gb : g ≤ b) (l : List ℕ) where
       at-next : c + p + length C ≡ next
       at-next = rw length-cells
 
-      onward : (bits : List ℕ) → 0 < length bits → Carries a b W (c + p) 1 bits → Before (c + p + length bits * (a + b)) (final 1 bits)
+      onward : (bits : List ℕ) → 0 < length bits → Carries a b W (c + p) 1 bits
+          → Before (c + p + length bits * (a + b)) (final 1 bits)
       onward [] q car = absurd (omega arith)
       onward (x ∷ xs) q car = go (last-run a b W xs x (c + p) 1 car)
         where
@@ -142,14 +152,17 @@ module _ (a b g : ℕ) (gb : g ≤ b) (l : List ℕ) where
               → Before (c + p + suc (length xs) * (a + b)) (final 1 (x ∷ xs))
           go (d, e, run) one more highs len′ i y z =
               smoothed g l 0 1 d (b + more) 1 (omega arith)
-              (run-join W d b more 1 (λ h q r. run h q r ∙ one) (λ h q r. highs h (omega arith) (omega arith))) (omega arith) i (omega arith)
+              (run-join W d b more 1 (λ h q r. run h q r ∙ one) (λ h q r. highs h (omega arith) (omega arith)))
+              (omega arith) i (omega arith)
               (omega arith)
 
 -- The wave of a plan, smoothed, has its rows.
-pub sent : (a b g : ℕ) (rows : List Row) → g ≤ b → Filled rows → Line a b g (λ i. getD (smoothBy g 0 1 (planWave a b rows)) i 2) 0 1 0 rows
+pub sent : (a b g : ℕ) (rows : List Row) → g ≤ b → Filled rows
+    → Line a b g (λ i. getD (smoothBy g 0 1 (planWave a b rows)) i 2) 0 1 0 rows
 sent a b g rows gb filled =
     sent-from a b g gb l rows 0 1 0 filled (λ i p. rw zero-add) (rw zero-add (omega arith))
-    λ one p run le i x y. flat g l 0 1 i p (λ j z. run j (omega arith) (omega arith)) (omega arith) (omega arith) (omega arith)
+    λ one p run le i x y. flat g l 0 1 i p (λ j z. run j (omega arith) (omega arith)) (omega arith) (omega arith)
+    (omega arith)
   where
     l : List ℕ
     l = planWave a b rows

@@ -1,4 +1,5 @@
--- Each margin of 01 is a difference of two naturals, so that it is minus one or more is an order between these: the margins of the inner theorem.
+-- Each margin of 01 is a difference of two naturals, so that it is minus one or more is an order between these: the
+-- margins of the inner theorem.
 use mathlib.Core.Path.{_≡_, refl, sym, _∙_}
 use mathlib.Core.Bool.{true}
 use Prim.Native.Nat.{ℕ, zero, suc, _+_, _*_}
@@ -34,7 +35,8 @@ module _ (a b k w r : ℕ) where
   pub almost-margins : almostAccepted a b k w r ≡ true → Margins a b 1 k w w r r
   unfolding almostAccepted
   almost-margins h =
-      let (one, two, three) = both-3 (minusOneOrMore (m1 a w r)) (minusOneOrMore (m2 a k w r)) (minusOneOrMore (m3 a b k w r)) h in
+      let (one, two, three) =
+      both-3 (minusOneOrMore (m1 a w r)) (minusOneOrMore (m2 a k w r)) (minusOneOrMore (m3 a b k w r)) h in
       record {
         m1 = omega (arith, leb-true (1 * w + 2 * r) (a * w + 1) (sym m1-almost ∙ one));
         m2 = omega (arith, leb-true (1 * r + (a + 1) * w) (k * r + 1) (sym m2-almost ∙ two));
@@ -55,4 +57,5 @@ module _ (a b k w r : ℕ) where
 
   pub accepted-margins : accepted a b k w r ≡ true → Margins a b 1 k w w r r
   accepted-margins h =
-      let met = accepted-keeps a b k w r h in record { m1 = omega (arith, met .M1); m2 = omega (arith, met .M2); m3 = omega (arith, met .M3) }
+      let met = accepted-keeps a b k w r h in
+      record { m1 = omega (arith, met .M1); m2 = omega (arith, met .M2); m3 = omega (arith, met .M3) }

@@ -1,4 +1,5 @@
--- Smoothing with a settling count g: a change makes its cycle and the g - 1 after it unknown, so a stretch of one level is known from its
+-- Smoothing with a settling count g: a change makes its cycle and the g - 1 after it unknown, so a stretch of one level
+-- is known from its
 -- cycle g on. 01's smooth is the case of 1.
 use mathlib.Core.Path.{_≡_, refl, subst, sym, ap, _∙_}
 use mathlib.Core.Logic.{_≢_, dite}
@@ -36,7 +37,8 @@ smooth-from-is before [] = refl
 smooth-from-is before (level ∷ levels) = go (eqb before level) (smooth-from-is level levels)
   where
     go : (same : Bool) → smoothFrom level levels ≡ smoothBy 1 0 level levels
-        → choose same level 2 ∷ smoothFrom level levels ≡ seen (unknown 1 0 same) level ∷ smoothBy 1 (unknown 1 0 same - 1) level levels
+        → choose same level 2 ∷ smoothFrom level levels
+        ≡ seen (unknown 1 0 same) level ∷ smoothBy 1 (unknown 1 0 same - 1) level levels
     go true e = ap (λ l. level ∷ l) e
     go false e = ap (λ l. 2 ∷ l) e
 
@@ -46,12 +48,14 @@ smooth-is = smooth-from-is 1
 
 pub length-smooth-by : (g left before : ℕ) (levels : List ℕ) → length (smoothBy g left before levels) ≡ length levels
 length-smooth-by g left before [] = refl
-length-smooth-by g left before (level ∷ levels) = ap suc (length-smooth-by g (unknown g left (eqb before level) - 1) level levels)
+length-smooth-by g left before (level ∷ levels) =
+    ap suc (length-smooth-by g (unknown g left (eqb before level) - 1) level levels)
 
 pub smooth-by-most : (g left before : ℕ) (levels : List ℕ) → AtMost 1 levels → AtMost 2 (smoothBy g left before levels)
 smooth-by-most g left before [] all = most-none 2
 smooth-by-most g left before (level ∷ levels) all =
-    most-more 2 (seen n level) (smoothBy g (n - 1) level levels) (this n) (smooth-by-most g (n - 1) level levels (most-rest 1 level levels all))
+    most-more 2 (seen n level) (smoothBy g (n - 1) level levels) (this n)
+    (smooth-by-most g (n - 1) level levels (most-rest 1 level levels all))
   where
     n : ℕ
     n = unknown g left (eqb before level)
@@ -65,20 +69,23 @@ unknown-most g left true h = h
 unknown-most g left false h = omega arith
 
 -- with no change in the first m cycles, what is known of them is the level before
-pub flat : (g : ℕ) (levels : List ℕ) (left v i m : ℕ) → ((j : ℕ) → j < m → getD levels j 2 ≡ v) → m ≤ length levels → left ≤ i → i < m
+pub flat : (g : ℕ) (levels : List ℕ) (left v i m : ℕ) → ((j : ℕ) → j < m → getD levels j 2 ≡ v) → m ≤ length levels
+    → left ≤ i → i < m
     → getD (smoothBy g left v levels) i 2 ≡ v
 flat g [] left v i m h p q r = absurd (omega arith)
 flat g (x ∷ xs) zero v zero m h p q r = rw (eq-eqb v x (sym (h 0 (omega arith)))) (h 0 (omega arith))
 flat g (x ∷ xs) (suc left) v zero m h p q r = absurd (not-suc-le-zero q)
 flat g (x ∷ xs) left v (suc i) m h p q r =
     rw (eq-eqb v x (sym e))
-    (flat g xs (left - 1) x i (m - 1) (λ j y. h (suc j) (omega arith) ∙ sym e) (omega arith) (omega arith) (omega arith) ∙ e)
+    (flat g xs (left - 1) x i (m - 1) (λ j y. h (suc j) (omega arith) ∙ sym e) (omega arith) (omega arith)
+    (omega arith) ∙ e)
   where
     e : x ≡ v
     e = h 0 (omega arith)
 
 -- a run of m cycles from the first on is known after g of them, whatever stood before
-turn : (g : ℕ) (levels : List ℕ) (left u v i m : ℕ) → left ≤ g → ((j : ℕ) → j < m → getD levels j 2 ≡ v) → m ≤ length levels → g ≤ i → i < m
+turn : (g : ℕ) (levels : List ℕ) (left u v i m : ℕ) → left ≤ g → ((j : ℕ) → j < m → getD levels j 2 ≡ v)
+    → m ≤ length levels → g ≤ i → i < m
     → getD (smoothBy g left u levels) i 2 ≡ v
 turn g levels left u v i m o h p q r =
     dite (ℕ-discrete v u)
@@ -88,13 +95,16 @@ turn g levels left u v i m o h p q r =
     nought : {g : ℕ} → g ≤ 0 → 0 ≡ g
     nought q = omega arith
 
-    changed : (levels : List ℕ) (i : ℕ) → ((j : ℕ) → j < m → getD levels j 2 ≡ v) → m ≤ length levels → g ≤ i → i < m → v ≢ u
+    changed : (levels : List ℕ) (i : ℕ) → ((j : ℕ) → j < m → getD levels j 2 ≡ v) → m ≤ length levels → g ≤ i → i < m
+        → v ≢ u
         → getD (smoothBy g left u levels) i 2 ≡ v
     changed [] i h p q r d = absurd (omega arith)
-    changed (x ∷ xs) zero h p q r d = rw (ne-eqb u x (omega (arith, h 0 (omega arith)))) (subst (λ (y : ℕ). seen y x ≡ v) (nought q) (h 0 r))
+    changed (x ∷ xs) zero h p q r d =
+        rw (ne-eqb u x (omega (arith, h 0 (omega arith)))) (subst (λ (y : ℕ). seen y x ≡ v) (nought q) (h 0 r))
     changed (x ∷ xs) (suc i) h p q r d =
         rw (ne-eqb u x (omega (arith, h 0 (omega arith))))
-        (flat g xs (g - 1) x i (m - 1) (λ j y. h (suc j) (omega arith) ∙ sym (h 0 (omega arith))) (omega arith) (omega arith) (omega arith)
+        (flat g xs (g - 1) x i (m - 1) (λ j y. h (suc j) (omega arith) ∙ sym (h 0 (omega arith))) (omega arith)
+        (omega arith) (omega arith)
         ∙ h 0 (omega arith))
 
 -- W is v on n places from c on
@@ -102,7 +112,8 @@ abbrev pub Run : (ℕ → ℕ) → ℕ → ℕ → ℕ → Type 0
 Run W c n v = (i : ℕ) → c ≤ i → i < c + n → W i ≡ v
 
 -- a run from cycle c on is known from its cycle g on
-pub smoothed : (g : ℕ) (levels : List ℕ) (left u c k v : ℕ) → left ≤ g → Run (λ i. getD levels i 2) c k v → c + k ≤ length levels
+pub smoothed : (g : ℕ) (levels : List ℕ) (left u c k v : ℕ) → left ≤ g → Run (λ i. getD levels i 2) c k v
+    → c + k ≤ length levels
     → (i : ℕ) → c + g ≤ i → i < c + k → getD (smoothBy g left u levels) i 2 ≡ v
 smoothed g levels left u zero k v o h p i q r =
     turn g levels left u v i k o (λ j y. h j (omega arith) (omega arith)) (omega arith) (omega arith) (omega arith)

@@ -1,4 +1,5 @@
--- One read of the row receiver after another: a read makes the run Q, or the mode decides, and what is reported on the way carries its places.
+-- One read of the row receiver after another: a read makes the run Q, or the mode decides, and what is reported on the
+-- way carries its places.
 use mathlib.Core.Path.{_≡_, refl, ap, _∙_}
 use mathlib.Core.Bool.{Bool, true, false}
 use mathlib.Core.List.{List, [], _∷_, _++_}
@@ -9,7 +10,8 @@ use lib.ListN.{length, length-append}
 use borrow.Author.Tests.{eq-eqb, ne-eqb}
 use Rattle.measure.specs.Choose.{choose}
 use Rattle.measure.specs.Cells.{bitOf}
-use Rattle.board.specs.Rows.{Settings, State, nothing, row, Moved, runAfter, hunting, ready, counting, waiting, quietened, collected, listening, next}
+use Rattle.board.specs.Rows.{Settings, State, nothing, row, Moved, runAfter, hunting, ready, counting, waiting}
+use Rattle.board.specs.Rows.{quietened, collected, listening, next}
 use Rattle.board.specs.declared.Mode.{Mode}
 use Rattle.board.specs.declared.Mode.the-variants.{Hunting, Ready, Counting, Waiting}
 
@@ -33,7 +35,8 @@ module _ (k n Q : ℕ) where
   G = rules k n Q
 
   -- a read that does not make the run Q, and one that does
-  pub calm-step : (s : State) (x : ℕ) → runAfter Q (s .run) x < Q → next G s x ≡ listening (s .mode) G s (runAfter Q (s .run) x) x
+  pub calm-step : (s : State) (x : ℕ) → runAfter Q (s .run) x < Q
+      → next G s x ≡ listening (s .mode) G s (runAfter Q (s .run) x) x
   unfolding next
   calm-step s x h = rw (ne-eqb (runAfter Q (s .run) x) Q (omega arith))
 
@@ -57,7 +60,8 @@ module _ (k n Q : ℕ) where
       → next G (counting (suc (suc left)) m ρ bs) x ≡ silently (counting (suc left) m (runAfter Q ρ x) bs)
   counts-on left m ρ bs x h =
       calm-step (counting (suc (suc left)) m ρ bs) x h
-      ∙ rw (ne-eqb (suc (suc left) - 1) 0 (omega arith)) (ap (λ (l : ℕ). silently (counting l m (runAfter Q ρ x) bs)) fewer)
+      ∙ rw (ne-eqb (suc (suc left) - 1) 0 (omega arith))
+      (ap (λ (l : ℕ). silently (counting l m (runAfter Q ρ x) bs)) fewer)
     where
       fewer : suc (suc left) - 1 ≡ suc left
       fewer = omega arith
@@ -78,12 +82,17 @@ module _ (k n Q : ℕ) where
       ∙ rw (ne-eqb (length (bs ++ (y ∷ []))) n (rw length-append (omega arith)))
 
   -- waiting, at a read of the level and at a mark
-  pub waits-on : (v ρ : ℕ) (bs : List ℕ) → runAfter Q ρ v < Q → next G (waiting v ρ bs) v ≡ silently (waiting v (runAfter Q ρ v) bs)
+  pub waits-on : (v ρ : ℕ) (bs : List ℕ) → runAfter Q ρ v < Q
+      → next G (waiting v ρ bs) v ≡ silently (waiting v (runAfter Q ρ v) bs)
   waits-on v ρ bs h = calm-step (waiting v ρ bs) v h ∙ rw (eq-eqb v v refl)
 
   pub marks : (v ρ : ℕ) (bs : List ℕ) → 1 < Q → v < 2 → (v ≡ 0 → ρ ≡ 0)
       → (σ : ℕ) × (σ ≤ 1) × (next G (waiting v ρ bs) (1 - v) ≡ silently (counting k (1 - v) σ bs))
-  marks zero ρ bs p h z = (1, omega arith, rw (z refl) (calm-step (waiting 0 0 bs) 1 (omega arith) ∙ ap (λ (σ : ℕ). silently (counting k 1 σ bs)) least))
+  marks zero ρ bs p h z = (
+    1,
+    omega arith,
+    rw (z refl) (calm-step (waiting 0 0 bs) 1 (omega arith) ∙ ap (λ (σ : ℕ). silently (counting k 1 σ bs)) least),
+  )
     where
       least : min 1 Q ≡ 1
       least = omega arith
@@ -94,19 +103,23 @@ module _ (k n Q : ℕ) where
   keeps-run : (s : State) (ρ x : ℕ) → listening (s .mode) G s ρ x .state .run ≡ ρ
   keeps-run s ρ x = go (s .mode)
     where
-      either : (b : Bool) (one other : Moved) → one .state .run ≡ ρ → other .state .run ≡ ρ → choose b one other .state .run ≡ ρ
+      either : (b : Bool) (one other : Moved) → one .state .run ≡ ρ → other .state .run ≡ ρ
+          → choose b one other .state .run ≡ ρ
       either true one other p q = p
       either false one other p q = q
 
       go : (m : Mode) → listening m G s ρ x .state .run ≡ ρ
       go Hunting = refl
       go Ready = either (eqb x (s .level)) _ _ refl refl
-      go Counting = either (eqb (s .left - 1) 0) _ _ (either (eqb (length (s .bits ++ (bitOf (s .level) x ∷ []))) n) _ _ refl refl) refl
+      go Counting =
+          either (eqb (s .left - 1) 0) _ _
+          (either (eqb (length (s .bits ++ (bitOf (s .level) x ∷ []))) n) _ _ refl refl) refl
       go Waiting = either (eqb x (s .level)) _ _ refl refl
 
   -- a high read that does not make the run Q adds one to it
   pub adds : (s : State) → suc (s .run) < Q → next G s 1 .state .run ≡ suc (s .run)
-  adds s h = ap (λ (m : Moved). m .state .run) (calm-step s 1 (omega arith)) ∙ keeps-run s (runAfter Q (s .run) 1) 1 ∙ least
+  adds s h = ap (λ (m : Moved). m .state .run) (calm-step s 1 (omega arith)) ∙ keeps-run s (runAfter Q (s .run) 1) 1
+      ∙ least
     where
       least : runAfter Q (s .run) 1 ≡ suc (s .run)
       least = omega arith

@@ -1,4 +1,5 @@
--- A wave as stretches of one level: each cell of a message is two of them, so after smoothing the wave holds the message's cells.
+-- A wave as stretches of one level: each cell of a message is two of them, so after smoothing the wave holds the
+-- message's cells.
 use mathlib.Core.Path.{_≡_, subst, _∙_}
 use mathlib.Core.Bool.{Bool, true, false}
 use mathlib.Core.List.{List, [], _∷_, _++_, append-assoc}
@@ -45,15 +46,18 @@ cells-first : (a b v x : ℕ) (xs : List ℕ)
 unfolding cells
 cells-first a b v x xs = append-assoc (replicate a (1 - v)) (replicate b (codeLevel v x)) (cells a b (codeLevel v x) xs)
 
-pub wave-parts : (a b p1 p2 : ℕ) (bits : List ℕ) → wave a b p1 p2 bits ≡ replicate p1 1 ++ (cells a b 1 bits ++ replicate p2 1)
+pub wave-parts : (a b p1 p2 : ℕ) (bits : List ℕ)
+    → wave a b p1 p2 bits ≡ replicate p1 1 ++ (cells a b 1 bits ++ replicate p2 1)
 unfolding wave
 wave-parts a b p1 p2 bits = append-assoc (replicate p1 1) (cells a b 1 bits) (replicate p2 1)
 
 pub carries : (a b : ℕ) (W : ℕ → ℕ) (bits : List ℕ) (c v : ℕ) → Stands W c (cells a b v bits) → Carries a b W c v bits
 carries a b W [] c v h = tt
 carries a b W (x ∷ xs) c v h = (
-  stands-run W c a (1 - v) (stands-left W c (replicate a (1 - v)) (replicate b (codeLevel v x) ++ cells a b (codeLevel v x) xs) cell),
-  stands-run W (c + a) b (codeLevel v x) (stands-left W (c + a) (replicate b (codeLevel v x)) (cells a b (codeLevel v x) xs) after),
+  stands-run W c a (1 - v)
+      (stands-left W c (replicate a (1 - v)) (replicate b (codeLevel v x) ++ cells a b (codeLevel v x) xs) cell),
+  stands-run W (c + a) b (codeLevel v x)
+      (stands-left W (c + a) (replicate b (codeLevel v x)) (cells a b (codeLevel v x) xs) after),
   carries a b W xs (c + (a + b)) (codeLevel v x)
       (subst (λ (n : ℕ). Stands W n (cells a b (codeLevel v x) xs)) (rw length-replicate (add-assoc c a b))
       (stands-right W (c + a) (replicate b (codeLevel v x)) (cells a b (codeLevel v x) xs) after)),
@@ -82,8 +86,10 @@ unfolding cells
 cells-most a b v [] h = most-none 1
 cells-most a b v (x ∷ xs) h =
     rw (cells-first a b v x xs)
-    (most-append 1 (replicate a (1 - v)) (replicate b (codeLevel v x) ++ cells a b (codeLevel v x) xs) (most-replicate 1 a (1 - v) (omega arith))
-    (most-append 1 (replicate b (codeLevel v x)) (cells a b (codeLevel v x) xs) (most-replicate 1 b (codeLevel v x) (code (eqb x 1)))
+    (most-append 1 (replicate a (1 - v)) (replicate b (codeLevel v x) ++ cells a b (codeLevel v x) xs)
+    (most-replicate 1 a (1 - v) (omega arith))
+    (most-append 1 (replicate b (codeLevel v x)) (cells a b (codeLevel v x) xs)
+    (most-replicate 1 b (codeLevel v x) (code (eqb x 1)))
     (cells-most a b (codeLevel v x) xs (code (eqb x 1)))))
   where
     code : (is : Bool) → choose is v (1 - v) ≤ 1
@@ -94,13 +100,16 @@ pub wave-most : (a b p1 p2 : ℕ) (bits : List ℕ) → AtMost 1 (wave a b p1 p2
 wave-most a b p1 p2 bits =
     rw (wave-parts a b p1 p2 bits)
     (most-append 1 (replicate p1 1) (cells a b 1 bits ++ replicate p2 1) (most-replicate 1 p1 1 (omega arith))
-    (most-append 1 (cells a b 1 bits) (replicate p2 1) (cells-most a b 1 bits (omega arith)) (most-replicate 1 p2 1 (omega arith))))
+    (most-append 1 (cells a b 1 bits) (replicate p2 1) (cells-most a b 1 bits (omega arith))
+    (most-replicate 1 p2 1 (omega arith))))
 
 -- the wave of a message, from its first cell on
-wave-stands : (a b p1 p2 : ℕ) (bits : List ℕ) → Stands (λ i. getD (wave a b p1 p2 bits) i 2) p1 (cells a b 1 bits ++ replicate p2 1)
+wave-stands : (a b p1 p2 : ℕ) (bits : List ℕ)
+    → Stands (λ i. getD (wave a b p1 p2 bits) i 2) p1 (cells a b 1 bits ++ replicate p2 1)
 wave-stands a b p1 p2 bits =
     subst (λ (c : ℕ). Stands W c (cells a b 1 bits ++ replicate p2 1)) (zero-add _ ∙ length-replicate p1 1)
-    (stands-right W 0 (replicate p1 1) (cells a b 1 bits ++ replicate p2 1) (subst (Stands W 0) (wave-parts a b p1 p2 bits) whole))
+    (stands-right W 0 (replicate p1 1) (cells a b 1 bits ++ replicate p2 1)
+    (subst (Stands W 0) (wave-parts a b p1 p2 bits) whole))
   where
     W : ℕ → ℕ
     W i = getD (wave a b p1 p2 bits) i 2
@@ -112,10 +121,12 @@ wave-stands a b p1 p2 bits =
 pub wave-carries : (a b p1 p2 : ℕ) (bits : List ℕ) → Carries a b (λ i. getD (wave a b p1 p2 bits) i 2) p1 1 bits
 wave-carries a b p1 p2 bits =
     carries a b (λ i. getD (wave a b p1 p2 bits) i 2) bits p1 1
-    (stands-left (λ i. getD (wave a b p1 p2 bits) i 2) p1 (cells a b 1 bits) (replicate p2 1) (wave-stands a b p1 p2 bits))
+    (stands-left (λ i. getD (wave a b p1 p2 bits) i 2) p1 (cells a b 1 bits) (replicate p2 1)
+    (wave-stands a b p1 p2 bits))
 
 -- and is high after that
-pub wave-trails : (a b p1 p2 : ℕ) (bits : List ℕ) → Run (λ i. getD (wave a b p1 p2 bits) i 2) (p1 + length bits * (a + b)) p2 1
+pub wave-trails : (a b p1 p2 : ℕ) (bits : List ℕ)
+    → Run (λ i. getD (wave a b p1 p2 bits) i 2) (p1 + length bits * (a + b)) p2 1
 wave-trails a b p1 p2 bits =
     stands-run W (p1 + length bits * (a + b)) p2 1
     (subst (λ (n : ℕ). Stands W (p1 + n) (replicate p2 1)) (length-cells a b 1 bits)
@@ -128,16 +139,19 @@ wave-trails a b p1 p2 bits =
 pub wave-leads : (a b p1 p2 : ℕ) (bits : List ℕ) (i : ℕ) → i < p1 → getD (wave a b p1 p2 bits) i 2 ≡ 1
 wave-leads a b p1 p2 bits i p =
     rw (wave-parts a b p1 p2 bits)
-    (List·getD-append (replicate p1 1) (cells a b 1 bits ++ replicate p2 1) 2 i (rw length-replicate p) ∙ getD-replicate p1 i 1 2 p)
+    (List·getD-append (replicate p1 1) (cells a b 1 bits ++ replicate p2 1) 2 i (rw length-replicate p)
+    ∙ getD-replicate p1 i 1 2 p)
 
 -- a stretch is known in the smoothed wave from its cycle g on, so each cell that the wave carries is a cell of it
-pub holds : (a b g : ℕ) (l bits : List ℕ) (c v : ℕ) → c + length bits * (a + b) ≤ length l → Carries a b (λ i. getD l i 2) c v bits
+pub holds : (a b g : ℕ) (l bits : List ℕ) (c v : ℕ) → c + length bits * (a + b) ≤ length l
+    → Carries a b (λ i. getD l i 2) c v bits
     → Holds a b g (λ i. getD (smoothBy g 0 1 l) i 2) c v bits
 holds a b g l [] c v h p = tt
 holds a b g l (x ∷ xs) c v h p = (
   record {
     mark = λ i q r. smoothed g l 0 1 c a (1 - v) (omega arith) (p .0) (omega arith) i q r;
-    code = λ i q r. smoothed g l 0 1 (c + a) b (codeLevel v x) (omega arith) (p .1) (omega arith) i (omega arith) (omega arith);
+    code = λ i q r. smoothed g l 0 1 (c + a) b (codeLevel v x) (omega arith) (p .1) (omega arith) i (omega arith)
+        (omega arith);
   },
   holds a b g l xs (c + (a + b)) (codeLevel v x) (omega arith) (p .2),
 )

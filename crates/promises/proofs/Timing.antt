@@ -1,4 +1,5 @@
--- One cell of the line, read by another clock: the margins place its mark within its settled mark subcell and its sample within its settled code subcell.
+-- One cell of the line, read by another clock: the margins place its mark within its settled mark subcell and its
+-- sample within its settled code subcell.
 use mathlib.Core.Path.{_≡_, refl, subst, sym, ap}
 use mathlib.Core.Logic.{_≢_}
 use Prim.Native.Nat.{ℕ, zero, suc, _+_, _*_, _-_, _≤_, _<_, suc-le-suc}
@@ -8,14 +9,16 @@ use native.Mathlib.Omega.{arith}
 use native.Mathlib.Decide.{ℕ-discrete, decLe}
 use Rattle.promises.proofs.Clock.{Clock, span-low, span-high, reach-low, mono}
 
--- What is known of settled reads D of a smoothed wave S, up to the time end: where all cycles that share more than a point
+-- What is known of settled reads D of a smoothed wave S, up to the time end: where all cycles that share more than a
+-- point
 -- of time with read j have the level v, the read is v; and every read is a level.
 pub record Settled (tw tr S D : ℕ → ℕ) (end : ℕ) : Type 0 where
   pub agrees : (j v : ℕ) → v < 2 → tr (suc j) ≤ end
       → ((i : ℕ) → tw i < tr (suc j) → tr j < tw (suc i) → S i ≡ v) → D j ≡ v
   pub level : (j : ℕ) → tr (suc j) ≤ end → D j < 2
 
--- M1, M2 and M3 are -1 or more, with no difference written, for clocks from w1 to w2 and r1 to r2 and the settling count g
+-- M1, M2 and M3 are -1 or more, with no difference written, for clocks from w1 to w2 and r1 to r2 and the settling
+-- count g
 pub record Margins (a b g k w1 w2 r1 r2 : ℕ) : Type 0 where
   pub m1 : 2 * r2 + g * w1 ≤ suc (a * w1)
   pub m2 : (a + g) * w2 + r1 ≤ suc (k * r1)
@@ -31,7 +34,8 @@ pub record Waits (tw tr D : ℕ → ℕ) (g c v j : ℕ) : Type 0 where
   pub start : tr j ≤ tw (c + g)
   pub calm : (i : ℕ) → j ≤ i → tr (suc i) ≤ tw c → D i ≡ v
 
--- Read m is the mark of the cell at cycle c for a receiver that waits at v from read j on, and read m + k its sample, at the level u
+-- Read m is the mark of the cell at cycle c for a receiver that waits at v from read j on, and read m + k its sample,
+-- at the level u
 pub record Heard (tw tr D : ℕ → ℕ) (a b g k r2 c v u j m : ℕ) : Type 0 where
   pub from : j ≤ m
   pub before : (i : ℕ) → j ≤ i → i < m → D i ≡ v
@@ -89,7 +93,8 @@ module _ {tw tr S D : ℕ → ℕ} {w1 w2 r1 r2 end : ℕ} (wclk : Clock tw w1 w
 
   -- a read that starts at x or after, and less than r2 after
   pub cross : (x n j : ℕ) → tr j ≤ x → x ≤ tr j + n → Crossing tr r2 x j
-  cross x zero j lo hi = (j, omega arith, omega arith, omega (arith, rclk .low j, rclk .high j), λ i p q. absurd (omega arith))
+  cross x zero j lo hi =
+      (j, omega arith, omega arith, omega (arith, rclk .low j, rclk .high j), λ i p q. absurd (omega arith))
   cross x (suc n) j lo hi = at (decLe x (tr j)) (λ h. cross x n (suc j) h (omega (arith, rclk .low j)))
     where
       this : tr j < x → (i : ℕ) → Dec (j ≡ i) → (suc j ≤ i → tr i < x) → j ≤ i → tr i < x
@@ -97,8 +102,15 @@ module _ {tw tr S D : ℕ → ℕ} {w1 w2 r1 r2 end : ℕ} (wclk : Clock tw w1 w
       this q i (no e) f y = f (omega arith)
 
       go : tr j < x → Dec (tr (suc j) ≤ x) → (tr (suc j) ≤ x → Crossing tr r2 x (suc j)) → Crossing tr r2 x j
-      go q (yes h) more = let (m, p, r, u, f) = more h in (m, omega arith, r, u, λ i y z. this q i (ℕ-discrete j i) (λ w. f i w z) y)
-      go q (no h) more = (suc j, omega arith, omega arith, omega (arith, rclk .high j), λ i y z. this q i (ℕ-discrete j i) (λ w. absurd (omega arith)) y)
+      go q (yes h) more = let (m, p, r, u, f) =
+          more h in (m, omega arith, r, u, λ i y z. this q i (ℕ-discrete j i) (λ w. f i w z) y)
+      go q (no h) more = (
+        suc j,
+        omega arith,
+        omega arith,
+        omega (arith, rclk .high j),
+        λ i y z. this q i (ℕ-discrete j i) (λ w. absurd (omega arith)) y,
+      )
 
       at : Dec (x ≤ tr j) → (tr (suc j) ≤ x → Crossing tr r2 x (suc j)) → Crossing tr r2 x j
       at (yes q) more = (j, omega arith, q, omega (arith, rclk .low j, rclk .high j), λ i p q. absurd (omega arith))
@@ -139,36 +151,60 @@ module _ {tw tr S D : ℕ → ℕ} {w1 w2 r1 r2 end : ℕ} (wclk : Clock tw w1 w
         late = late;
         ends = ends;
         sample = calm (m + k) (omega arith) ends;
-        next = record { start = omega (arith, ends, rclk .low (m + k), mono wclk (c + (a + b)) (c + (a + b) + g) (omega arith)); calm = calm };
+        next = record {
+          start =
+              omega (arith, ends, rclk .low (m + k), mono wclk (c + (a + b)) (c + (a + b) + g) (omega arith));
+          calm =
+              calm;
+        };
       }
         where
           late : tw (c + (a + g)) ≤ tr (m + k)
           late = omega (arith, span-high wclk c (a + g), ok .m2, rw add-one at (reach-low rclk m 1 k counts))
 
           ends : tr (suc (m + k)) ≤ tw (c + (a + b))
-          ends = omega (arith, rw add-suc at (span-high rclk m (suc k)), ok .m3, reach-low wclk c g (a + b) (omega (arith, room)))
+          ends = omega (
+            arith,
+            rw add-suc at (span-high rclk m (suc k)),
+            ok .m3,
+            reach-low wclk c g (a + b) (omega (arith, room)),
+          )
 
           calm : (i : ℕ) → m + k ≤ i → tr (suc i) ≤ tw (c + (a + b)) → D i ≡ u
-          calm i p q = quiet (c + (a + g)) (c + (a + b)) i u lu (omega arith) (cell .code) (omega (arith, late, mono rclk (m + k) i p)) q
+          calm i p q =
+              quiet (c + (a + g)) (c + (a + b)) i u lu (omega arith) (cell .code)
+              (omega (arith, late, mono rclk (m + k) i p)) q
 
       -- the first read that differs, where read n lies wholly within the settled mark
-      marked : (n : ℕ) → j ≤ n → tw (c + g) ≤ tr n → tr n < tw (c + g) + r2 → ((i : ℕ) → j ≤ i → i < n → tr i < tw (c + g)) → (m : ℕ) × Heard tw tr D a b g k r2 c v u j m
+      marked : (n : ℕ) → j ≤ n → tw (c + g) ≤ tr n → tr n < tw (c + g) + r2
+          → ((i : ℕ) → j ≤ i → i < n → tr i < tw (c + g)) → (m : ℕ) × Heard tw tr D a b g k r2 c v u j m
       marked n p q t f = go (first D v (n - j) j (subst (λ (i : ℕ). D i ≢ v) (there j n p) other))
         where
           in-time : (i : ℕ) → i ≤ n → tr (suc i) ≤ end
-          in-time i h = omega (arith, within c n t, mono rclk (suc i) (suc n) (suc-le-suc h), mono wclk (c + a) (c + (a + b)) (omega arith))
+          in-time i h =
+              omega (
+                arith,
+                within c n t,
+                mono rclk (suc i) (suc n) (suc-le-suc h),
+                mono wclk (c + a) (c + (a + b)) (omega arith),
+              )
 
           there : (j n : ℕ) → j ≤ n → n ≡ j + (n - j)
           there j n p = omega arith
 
           other : D n ≢ v
-          other = omega (arith, quiet (c + g) (c + a) n (1 - v) (omega arith) (in-time n (omega arith)) (cell .mark) q (within c n t))
+          other = omega (
+            arith,
+            quiet (c + g) (c + a) n (1 - v) (omega arith) (in-time n (omega arith)) (cell .mark) q
+                (within c n t),
+          )
 
           go : (m : ℕ) × (j ≤ m) × (m ≤ j + (n - j)) × (D m ≢ v) × ((i : ℕ) → j ≤ i → i < m → D i ≡ v)
               → (m : ℕ) × Heard tw tr D a b g k r2 c v u j m
           go (m, from, le, d, before) = (
             m,
-            sampled m from before (omega (arith, see .level m (in-time m (omega arith)))) (omega (arith, mono rclk m n (omega arith)))
+            sampled m from before (omega (arith, see .level m (in-time m (omega arith))))
+                (omega (arith, mono rclk m n (omega arith)))
                 (λ i x y. omega (arith, f i x (omega arith)))
                 (edge (decLe (tr (suc m)) (tw c))),
           )
@@ -177,7 +213,8 @@ module _ {tw tr S D : ℕ → ℕ} {w1 w2 r1 r2 end : ℕ} (wclk : Clock tw w1 w
               edge (yes h) = absurd (d (wait .calm m from h))
               edge (no h) = omega arith
 
-      -- Lemmas 1 and 2: the mark of the cell is heard, its sample is the code, and the receiver then waits for the next cell
+      -- Lemmas 1 and 2: the mark of the cell is heard, its sample is the code, and the receiver then waits for the next
+      -- cell
       pub hear : (m : ℕ) × Heard tw tr D a b g k r2 c v u j m
       hear = go (cross (tw (c + g)) (tw (c + g) - tr j) j (wait .start) (omega (arith, wait .start)))
         where

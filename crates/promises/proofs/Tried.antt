@@ -1,4 +1,5 @@
--- P10's two rows: the hypotheses are met by computation, and what demand 3 says of the replaced stretch is computed beside it.
+-- P10's two rows: the hypotheses are met by computation, and what demand 3 says of the replaced stretch is computed
+-- beside it.
 use mathlib.Core.Path.{refl}
 use mathlib.Core.List.{[], _∷_}
 use native.Mathlib.Omega.{arith}
@@ -10,7 +11,8 @@ use Rattle.line.specs.Settle.{settle}
 use Rattle.counted.specs.Counted.{fromMark}
 use Rattle.board.specs.Rows.{next}
 use Rattle.board.specs.Feeding.{reportsBy}
-use Rattle.promises.specs.Places.{readsOf, cyclesOf, passing, numbered, withinLead, heard, markPlace, samplePlace, lastSample, deliveries}
+use Rattle.promises.specs.Places.{readsOf, cyclesOf, passing, numbered, withinLead, heard, markPlace, samplePlace}
+use Rattle.promises.specs.Places.{lastSample, deliveries}
 use Rattle.promises.specs.Replaced.{WhollyAfter, reportsAt, moved}
 use Rattle.promises.specs.Demand3.{Fitting}
 use Rattle.promises.specs.Tried.{first, second, p10, false-quiet, Tried}
@@ -43,5 +45,6 @@ tried = record {
   hears = refl;
   reports = refl;
   before = demand-3 p10 fitting .before 54 58 false-quiet (omega arith) (omega arith);
-  after = demand-3 p10 fitting .after 54 58 false-quiet (omega arith) (omega arith) (first ∷ []) second [] refl wholly-after;
+  after = demand-3 p10 fitting .after 54 58 false-quiet (omega arith) (omega arith)
+      (first ∷ []) second [] refl wholly-after;
 }

@@ -11,13 +11,15 @@ use Rattle.line.specs.Settle.{settle}
 use Rattle.counted.specs.Counted.{fromMark}
 use Rattle.board.specs.Rows.{fresh, next}
 use Rattle.board.specs.Feeding.{Report, Step, reportsBy}
-use Rattle.promises.specs.Places.{readsOf, passing, numbered, withinLead, heard, markPlace, samplePlace, lastSample, deliveries}
+use Rattle.promises.specs.Places.{readsOf, passing, numbered, withinLead, heard, markPlace, samplePlace}
+use Rattle.promises.specs.Places.{lastSample, deliveries}
 use Rattle.promises.specs.Replaced.{damaged, reportsAt, below}
 use Rattle.promises.specs.Demand3.{Demand3}
 use Rattle.promises.specs.Tried.{p10}
 use Rattle.promises.specs.Useless.{ShutOut}
 
-too-few : (step : Step) → length (below 117 (reportsBy step fresh 0 (damaged p10 117 117 []))) < 2 → Demand3 p10 step → ⊥
+too-few : (step : Step) → length (below 117 (reportsBy step fresh 0 (damaged p10 117 117 []))) < 2 → Demand3 p10 step
+    → ⊥
 unfolding readsOf settle warp warpFrom look dropped smoothFrom planWave wave cells fromMark passing numbered withinLead heard markPlace samplePlace lastSample deliveries reportsAt
 too-few step few demand =
     let two = ap (λ (l : List Report). length l) (demand .before 117 117 [] (omega arith) (omega arith)) in

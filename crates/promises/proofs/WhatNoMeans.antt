@@ -1,4 +1,5 @@
--- The exact rule at 01's clocks and settling: 01's margins at minus one or more are those of the inner rule, whose lost message is lost on 01's line.
+-- The exact rule at 01's clocks and settling: 01's margins at minus one or more are those of the inner rule, whose lost
+-- message is lost on 01's line.
 use mathlib.Core.Path.{_≡_, refl, sym, _∙_}
 use mathlib.Core.Bool.{Bool, true, false, false≢true}
 use mathlib.Core.List.{[], _∷_}
@@ -19,7 +20,10 @@ use Rattle.promises.proofs.Exact.{lost-1, lost-2, lost-3}
 -- what is lost with a settling count of 1 is lost on 01's line
 pub loses-lost : (a b k w r : ℕ) (m : OneBit w) → Loses a b 1 k w r m → Lost a b k w r m
 loses-lost a b k w r m loses =
-    rw (warp-by w r (m .p) (smooth (wave a b (m .p1) (m .p2) (m .bit ∷ []))), smooth-is (wave a b (m .p1) (m .p2) (m .bit ∷ []))) loses
+    rw (
+      warp-by w r (m .p) (smooth (wave a b (m .p1) (m .p2) (m .bit ∷ []))),
+      smooth-is (wave a b (m .p1) (m .p2) (m .bit ∷ [])),
+    ) loses
 
 unless-false : (b : Bool) → (b ≡ false → ⊥) → b ≡ true
 unless-false true h = refl
@@ -29,19 +33,23 @@ module _ (a b k w r : ℕ) (ha : 1 ≤ a) (hk : 1 ≤ k) (hw : 1 ≤ w) (hr : 1 
   lose : almostAccepted a b k w r ≡ false → (m : OneBit w) × Lost a b k w r m
   lose refused = lost (
       margins-or a b 1 k w w r r (λ ok. absurd (false≢true (sym refused ∙ margins-almost a b k w r ok)))
-      (lost-1 a b 1 k w r ha (omega arith) hk hw hr) (lost-2 a b 1 k w r ha (omega arith) hk hw hr) (lost-3 a b 1 k w r ha (omega arith) hk hw hr)
+      (lost-1 a b 1 k w r ha (omega arith) hk hw hr) (lost-2 a b 1 k w r ha (omega arith) hk hw hr)
+      (lost-3 a b 1 k w r ha (omega arith) hk hw hr)
       )
     where
       lost : (m : OneBit w) × Loses a b 1 k w r m → (m : OneBit w) × Lost a b k w r m
       lost (m, loses) = (m, loses-lost a b k w r m loses)
 
   refute : EveryMessageReturned a b k w r → (m : OneBit w) × Lost a b k w r m → ⊥
-  refute every (m, lost) = lost (every (m .p) (m .p1) (m .p2) (m .bit ∷ []) (m .choices) (m .phase) (m .is-bit, tt) (m .are-choices))
+  refute every (m, lost) =
+      lost (every (m .p) (m .p1) (m .p2) (m .bit ∷ []) (m .choices) (m .phase) (m .is-bit, tt) (m .are-choices))
 
 pub margins-are-exact : MarginsAreExact
 margins-are-exact a b k w r ha hk hw hr = record {
   enough = λ met. returned a b k w r hr (almost-margins a b k w r met);
-  needed = λ every. unless-false (almostAccepted a b k w r) (λ refused. refute a b k w r ha hk hw hr every (lose a b k w r ha hk hw hr refused));
+  needed =
+      λ every. unless-false (almostAccepted a b k w r)
+      (λ refused. refute a b k w r ha hk hw hr every (lose a b k w r ha hk hw hr refused));
   lost = lose a b k w r ha hk hw hr;
 }
 

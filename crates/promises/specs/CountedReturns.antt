@@ -1,4 +1,5 @@
--- 01, "Margins": with settings that are accepted, no message is lost between sender and counted receiver. Source 002's results are cases of it.
+-- 01, "Margins": with settings that are accepted, no message is lost between sender and counted receiver. Source 002's
+-- results are cases of it.
 use Prim.Native.Nat.{ℕ, _+_, _*_, _≤_, _<_}
 use mathlib.Core.Path.{_≡_}
 use mathlib.Core.Bool.{true}
@@ -28,25 +29,31 @@ found a b k w r p p1 p2 bits choices = counted k (length bits) 1 (overTheLine a 
 -- every message is returned, at any phase, with any pads, 0 included, and any choices
 abbrev pub EveryMessageReturned : (a b k w r : ℕ) → Type 0
 EveryMessageReturned a b k w r =
-    (p p1 p2 : ℕ) (bits choices : List ℕ) → p < w → Levels bits → Levels choices → found a b k w r p p1 p2 bits choices ≡ bits
+    (p p1 p2 : ℕ) (bits choices : List ℕ) → p < w → Levels bits → Levels choices
+    → found a b k w r p p1 p2 bits choices ≡ bits
 
 -- the theorem: accepted settings return every message
 abbrev pub AcceptedReturn : Type 0
 AcceptedReturn = (a b k w r : ℕ) → accepted a b k w r ≡ true → EveryMessageReturned a b k w r
 
--- What that means for the operation: where its own ranges, limits and room are kept, it answers with the number of bits, and these stand at the
+-- What that means for the operation: where its own ranges, limits and room are kept, it answers with the number of
+-- bits, and these stand at the
 -- output's front.
 abbrev pub OperationReturns : Type 0
-OperationReturns = (a b k w r p p1 p2 : ℕ) (bits choices output : List ℕ) → accepted a b k w r ≡ true → p < w → Levels bits → Levels choices
-    → sampling k ≡ true → length bits ≤ bitsMost → length (overTheLine a b w r p p1 p2 bits choices) ≤ entriesMost → length bits ≤ length output
-    → countedBits k (length bits) 1 (overTheLine a b w r p p1 p2 bits choices) output ≡ (given (length bits), onto bits output)
+OperationReturns = (a b k w r p p1 p2 : ℕ) (bits choices output : List ℕ) → accepted a b k w r ≡ true → p < w
+    → Levels bits → Levels choices
+    → sampling k ≡ true → length bits ≤ bitsMost → length (overTheLine a b w r p p1 p2 bits choices) ≤ entriesMost
+    → length bits ≤ length output
+    → countedBits k (length bits) 1 (overTheLine a b w r p p1 p2 bits choices) output
+    ≡ (given (length bits), onto bits output)
 
 -- w / r is within one part in n of unity: from 1 - 1/n to 1 + 1/n
 pub record WithinOnePartIn (n w r : ℕ) : Type 0 where
   pub least : n * r ≤ n * w + r
   pub most : n * w ≤ n * r + r
 
--- source 002's two results: its 18-cycle cell within 1/18 of unity, and its 32-cycle cell, with k 23, within 1/32; both lie inside the margins
+-- source 002's two results: its 18-cycle cell within 1/18 of unity, and its 32-cycle cell, with k 23, within 1/32; both
+-- lie inside the margins
 pub record Source002 : Type 0 where
   pub cell-18-accepted : (w r : ℕ) → WithinOnePartIn 18 w r → accepted 5 13 10 w r ≡ true
   pub cell-18-returns : (w r : ℕ) → WithinOnePartIn 18 w r → EveryMessageReturned 5 13 10 w r
@@ -60,7 +67,8 @@ shortestRead = 67
 abbrev pub longestRead : ℕ
 longestRead = 141
 
--- Source 002 conjectures that its 18-cycle cell bears ratios almost 30 per cent from unity. At w 100 the reads of these lengths are accepted and
+-- Source 002 conjectures that its 18-cycle cell bears ratios almost 30 per cent from unity. At w 100 the reads of these
+-- lengths are accepted and
 -- no others, and return every message; one step further on either side a bit is lost.
 pub record Conjecture002 : Type 0 where
   pub accepts-exactly : (r : ℕ) → accepted 5 13 10 100 r ≡ between shortestRead longestRead r

@@ -1,5 +1,7 @@
--- Demand 3: a plan's rows are delivered once and in order, and any stretch of reads that is replaced is made good with the next lead quiet that is heard.
--- The definitions are those that the operations' contracts cite: the sender leaves `planWave` in the lent output, each pass of the line leaves its list, and
+-- Demand 3: a plan's rows are delivered once and in order, and any stretch of reads that is replaced is made good with
+-- the next lead quiet that is heard.
+-- The definitions are those that the operations' contracts cite: the sender leaves `planWave` in the lent output, each
+-- pass of the line leaves its list, and
 -- the receiver, given one read a call, reports what feeding `next` reports (OneByOne).
 use Prim.Native.Nat.{ℕ, _+_, _-_, _≤_, _<_}
 use mathlib.Core.Path.{_≡_}
@@ -36,10 +38,12 @@ pub record Fitting (x : Link) : Type 0 where
 
 -- Demand 3 of a receiver that does `step` with each read.
 pub record Demand3 (x : Link) (step : Step) : Type 0 where
-  -- Ahead of the stretch: the rows that end there by their last sample are delivered, these and no others, and nothing is broken.
+  -- Ahead of the stretch: the rows that end there by their last sample are delivered, these and no others, and nothing
+  -- is broken.
   pub before : (i j : ℕ) (junk : List ℕ) → i ≤ j → j ≤ length (readsOf x)
       → below i (reportsBy step fresh 0 (damaged x i j junk)) ≡ below i (deliveries x 0 (x .rows))
-  -- After a row's lead quiet, read wholly after the stretch, has been heard, exactly that row and those after it are. Of the first such row it says most.
+  -- After a row's lead quiet, read wholly after the stretch, has been heard, exactly that row and those after it are.
+  -- Of the first such row it says most.
   pub after : (i j : ℕ) (junk : List ℕ) → i ≤ j → j ≤ length (readsOf x)
       → (earlier : List Row) (row : Row) (later : List Row) → x .rows ≡ earlier ++ row ∷ later
       → WhollyAfter x (cyclesOf x earlier) row j
@@ -54,7 +58,8 @@ settings x = record { k = x .k; n = x .n; Q = x .Q }
 abbrev pub Demand3Holds : Type 0
 Demand3Holds = (x : Link) → Fitting x → Demand3 x (next (settings x))
 
--- What demand 3 takes for granted. Q reads lie within each lead, and each last sample is a read; a lead quiet that is read wholly after the stretch is heard
+-- What demand 3 takes for granted. Q reads lie within each lead, and each last sample is a read; a lead quiet that is
+-- read wholly after the stretch is heard
 -- after it, and the last samples from its row on are read after that, so neither difference stops at 0.
 pub record Grounds (x : Link) : Type 0 where
   pub leads : (earlier : List Row) (row : Row) (later : List Row) → x .rows ≡ earlier ++ row ∷ later
@@ -63,7 +68,8 @@ pub record Grounds (x : Link) : Type 0 where
   pub heard-after : (j : ℕ) (earlier : List Row) (row : Row) (later : List Row) → x .rows ≡ earlier ++ row ∷ later
       → WhollyAfter x (cyclesOf x earlier) row j → j ≤ heard x (cyclesOf x earlier) row
   pub sampled-after : (earlier : List Row) (row : Row) (later : List Row) → x .rows ≡ earlier ++ row ∷ later
-      → above (heard x (cyclesOf x earlier) row) (deliveries x (cyclesOf x earlier) (row ∷ later)) ≡ deliveries x (cyclesOf x earlier) (row ∷ later)
+      → above (heard x (cyclesOf x earlier) row) (deliveries x (cyclesOf x earlier) (row ∷ later))
+      ≡ deliveries x (cyclesOf x earlier) (row ∷ later)
 
 abbrev pub GroundsHold : Type 0
 GroundsHold = (x : Link) → Fitting x → Grounds x

@@ -1,4 +1,5 @@
--- The user's demands 1, 2 and 3 in order, each over the definitions that the operations' contracts cite. That every call ends is not stated here: the
+-- The user's demands 1, 2 and 3 in order, each over the definitions that the operations' contracts cite. That every
+-- call ends is not stated here: the
 -- prover shows it of each function by itself.
 use Prim.Native.Nat.{ℕ, _+_, _-_, _≤_}
 use mathlib.Core.Path.{_≡_}
@@ -39,7 +40,8 @@ RefusesBy numbers (given result) = Unit {0}
 RefusesBy numbers (refused number place) = oneOf number numbers ≡ true
 RefusesBy numbers (refusedAfter number place count) = ⊥
 
--- and leaves what was lent; refusal 5, which tells how many bits were found, leaves these bits, and is spoken of with demand 2
+-- and leaves what was lent; refusal 5, which tells how many bits were found, leaves these bits, and is spoken of with
+-- demand 2
 unfoldable pub Refuses : {A B : Type 0} → List ℕ → B → Answer A × B → Type 0
 Refuses numbers lent (given result, left) = Unit {0}
 Refuses numbers lent (refused number place, left) = (oneOf number numbers ≡ true) × (left ≡ lent)
@@ -53,32 +55,41 @@ RefusesReads numbers receiver outcome = Refuses numbers receiver (outcome .answe
 abbrev pub unstarted : Receiver
 unstarted = begun 0 0 0 .1
 
--- Demand 1: whatever comes in is answered, and what is bad is refused by number and leaves what was lent. When exactly which number is given, the
+-- Demand 1: whatever comes in is answered, and what is bad is refused by number and leaves what was lent. When exactly
+-- which number is given, the
 -- definitions say.
 pub record Demand1 : Type 0 where
   pub judge : (a b k w r : ℕ) → RefusesBy (1 ∷ []) (judgement a b k w r)
   pub judge-quiet : (a b k w r Q p1 : ℕ) → RefusesBy (1 ∷ []) (quietJudgement a b k w r Q p1)
-  pub send : (a b p1 p2 : ℕ) (bits output : List ℕ) → Refuses (1 ∷ 3 ∷ 2 ∷ 4 ∷ []) output (sentMessage a b p1 p2 bits output)
-  pub send-plan : (a b n : ℕ) (leads trails bits output : List ℕ) → Refuses (1 ∷ 3 ∷ 2 ∷ 4 ∷ []) output (sentPlan a b n leads trails bits output)
+  pub send : (a b p1 p2 : ℕ) (bits output : List ℕ)
+      → Refuses (1 ∷ 3 ∷ 2 ∷ 4 ∷ []) output (sentMessage a b p1 p2 bits output)
+  pub send-plan : (a b n : ℕ) (leads trails bits output : List ℕ)
+      → Refuses (1 ∷ 3 ∷ 2 ∷ 4 ∷ []) output (sentPlan a b n leads trails bits output)
   pub smooth : (wave output : List ℕ) → Refuses (3 ∷ 2 ∷ 4 ∷ []) output (smoothed wave output)
   pub warp : (w r p : ℕ) (wave output : List ℕ) → Refuses (1 ∷ 3 ∷ 2 ∷ 4 ∷ []) output (warped w r p wave output)
   pub settle : (reads choices output : List ℕ) → Refuses (3 ∷ 2 ∷ 4 ∷ []) output (settled reads choices output)
-  pub count-bits : (k n level : ℕ) (reads output : List ℕ) → Refuses (1 ∷ 3 ∷ 2 ∷ 4 ∷ []) output (countedBits k n level reads output)
+  pub count-bits : (k n level : ℕ) (reads output : List ℕ)
+      → Refuses (1 ∷ 3 ∷ 2 ∷ 4 ∷ []) output (countedBits k n level reads output)
   pub fresh : (k n Q : ℕ) → Refuses (1 ∷ []) unstarted (begun k n Q)
   pub step : (receiver : Receiver) (read : ℕ) → RefusesReads (1 ∷ 2 ∷ []) receiver (stepped receiver read)
-  pub listen : (receiver : Receiver) (reads : List ℕ) → RefusesReads (1 ∷ 3 ∷ 2 ∷ []) receiver (listened receiver reads .0)
+  pub listen : (receiver : Receiver) (reads : List ℕ)
+      → RefusesReads (1 ∷ 3 ∷ 2 ∷ []) receiver (listened receiver reads .0)
   pub read-header : (bytes : List ℕ) → RefusesBy (3 ∷ 6 ∷ 7 ∷ 8 ∷ []) (header bytes)
   pub check : (bytes : List ℕ) → RefusesBy (3 ∷ 6 ∷ 7 ∷ 8 ∷ []) (checked bytes)
   pub read-capture : (bytes output : List ℕ) → Refuses (3 ∷ 6 ∷ 7 ∷ 8 ∷ 4 ∷ []) output (readBack bytes output)
-  pub write-capture : (k n Q : ℕ) (reads output : List ℕ) → Refuses (1 ∷ 3 ∷ 2 ∷ 4 ∷ []) output (written k n Q reads output)
+  pub write-capture : (k n Q : ℕ) (reads output : List ℕ)
+      → Refuses (1 ∷ 3 ∷ 2 ∷ 4 ∷ []) output (written k n Q reads output)
   pub put-line : (line output : List ℕ) → Refuses (4 ∷ []) output (lent line output)
 
--- Demand 2: what is sent, what the line makes of it and what is received are the very lists and reports of the definitions, and captures go both ways.
+-- Demand 2: what is sent, what the line makes of it and what is received are the very lists and reports of the
+-- definitions, and captures go both ways.
 pub record Demand2 : Type 0 where
   pub sends-and-passes : OperationsLeave
-  pub counts : (k n level : ℕ) (reads output : List ℕ) → Leaves (countedBits k n level reads output) (counted k n level reads)
+  pub counts : (k n level : ℕ) (reads output : List ℕ)
+      → Leaves (countedBits k n level reads output) (counted k n level reads)
   pub counts-until-the-end : (k n level : ℕ) (reads output : List ℕ) (place count : ℕ) (left : List ℕ)
-      → countedBits k n level reads output ≡ (refusedAfter 5 place count, left) → take count left ≡ counted k n level reads
+      → countedBits k n level reads output ≡ (refusedAfter 5 place count, left)
+      → take count left ≡ counted k n level reads
   pub reports : OperationReports
   pub reads-back : WrittenReadsBack
   pub writes-back : ReadWritesBack

@@ -1,4 +1,5 @@
--- What demand 3 means for the receiver's operation: made fresh and given one read a call, it refuses no level and reports what the rules report.
+-- What demand 3 means for the receiver's operation: made fresh and given one read a call, it refuses no level and
+-- reports what the rules report.
 use Prim.Native.Nat.{ℕ, suc}
 use mathlib.Core.Path.{_≡_}
 use mathlib.Core.Bool.{true}

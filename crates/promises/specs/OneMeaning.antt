@@ -1,5 +1,6 @@
 -- 01, "Holding the promises to one meaning": no promise leaves room for two results.
--- Each promise is an equation: on the left the operation's definition, on the right what its answer tells and what it leaves. Here they stand one by one.
+-- Each promise is an equation: on the left the operation's definition, on the right what its answer tells and what it
+-- leaves. Here they stand one by one.
 use Prim.Native.Nat.{ℕ}
 use mathlib.Core.Path.{_≡_}
 use mathlib.Core.List.{List}
@@ -44,7 +45,8 @@ pub record OneMeaning : Type 1 where
   pub judge : (a b k w r : ℕ) → One judgedSays (judgement a b k w r)
   pub judge-quiet : (a b k w r Q p1 : ℕ) → One quietJudgedSays (quietJudgement a b k w r Q p1)
   pub send : (a b p1 p2 : ℕ) (bits output : List ℕ) → OneLeft sentSays (sentMessage a b p1 p2 bits output)
-  pub send-plan : (a b n : ℕ) (leads trails bits output : List ℕ) → OneLeft sentSays (sentPlan a b n leads trails bits output)
+  pub send-plan : (a b n : ℕ) (leads trails bits output : List ℕ)
+      → OneLeft sentSays (sentPlan a b n leads trails bits output)
   pub smooth : (wave output : List ℕ) → OneLeft smoothedSays (smoothed wave output)
   pub warp : (w r p : ℕ) (wave output : List ℕ) → OneLeft readSays (warped w r p wave output)
   pub settle : (reads choices output : List ℕ) → OneLeft readSays (settled reads choices output)
@@ -59,11 +61,14 @@ pub record OneMeaning : Type 1 where
   pub read-capture : (bytes output : List ℕ) → OneLeft checkedSays (readBack bytes output)
   pub write-capture : (k n Q : ℕ) (reads output : List ℕ) → OneLeft writtenSays (written k n Q reads output)
   pub put-heading : (output : List ℕ) → OneLeft putSays (lent headingLine output)
-  pub put-row : (place n : ℕ) (bits output : List ℕ) → OneLeft putSays (lent (eventLine place (row (take n (unpacked 8 bits)))) output)
+  pub put-row : (place n : ℕ) (bits output : List ℕ)
+      → OneLeft putSays (lent (eventLine place (row (take n (unpacked 8 bits)))) output)
   pub put-broken : (place found : ℕ) (output : List ℕ) → OneLeft putSays (lent (eventLine place (broken found)) output)
   pub put-end : (reads rows : ℕ) (output : List ℕ) → OneLeft putSays (lent (endLine reads rows) output)
-  pub put-refused : (refusal : Refusal) (output : List ℕ) → OneLeft putSays (lent (refusedLine (numberOf refusal) (placeOf refusal)) output)
-  -- promises of the very thing given: those of `measure`, a receiver's well_formed, the held reader's new, advance and place
+  pub put-refused : (refusal : Refusal) (output : List ℕ)
+      → OneLeft putSays (lent (refusedLine (numberOf refusal) (placeOf refusal)) output)
+  -- promises of the very thing given: those of `measure`, a receiver's well_formed, the held reader's new, advance and
+  -- place
   pub number : (refusal : Refusal) → Only (numberOf refusal)
   pub place : (refusal : Refusal) → Only (placeOf refusal)
   pub between : (least most x : ℕ) → Only (isBetween least most x)

@@ -1,4 +1,5 @@
--- What sending and the three passes leave at the front of a lent output, wherever they do not refuse: the very lists that the theorems speak of.
+-- What sending and the three passes leave at the front of a lent output, wherever they do not refuse: the very lists
+-- that the theorems speak of.
 -- (The counted receiver's own line is in CountedReturns, feeding's in OneByOne, and the captures' in their room.)
 use Prim.Native.Nat.{ℕ}
 use mathlib.Core.Path.{_≡_}

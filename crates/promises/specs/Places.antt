@@ -1,4 +1,5 @@
--- A plan over a link: its settled reads, with which of them a row's lead quiet has been heard, and where its last sample falls. None of this asks the row receiver.
+-- A plan over a link: its settled reads, with which of them a row's lead quiet has been heard, and where its last
+-- sample falls. None of this asks the row receiver.
 use Prim.Native.Nat.{ℕ, zero, suc, _+_}
 use mathlib.Core.Bool.{Bool, true, false, _&&_}
 use mathlib.Core.List.{List, [], _∷_}
@@ -90,4 +91,5 @@ lastSample x cycle row =
 unfoldable pub deliveries : Link → ℕ → List Row → List Report
 deliveries x cycle [] = []
 deliveries x cycle (one ∷ rows) =
-    record { place = lastSample x cycle one; event = delivered (one .bits) } ∷ deliveries x (cycle + cyclesOf x (one ∷ [])) rows
+    record { place = lastSample x cycle one; event = delivered (one .bits) } ∷ deliveries x
+    (cycle + cyclesOf x (one ∷ [])) rows

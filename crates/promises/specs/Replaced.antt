@@ -1,4 +1,5 @@
--- A stretch of a link's settled reads that is replaced by any others: which rows are read wholly after it, and where it moves the reports.
+-- A stretch of a link's settled reads that is replaced by any others: which rows are read wholly after it, and where it
+-- moves the reports.
 use Prim.Native.Nat.{ℕ, _+_, _-_, _≤_, _<_}
 use mathlib.Core.Bool.{Bool}
 use mathlib.Core.List.{List, [], _∷_, _++_}

@@ -1,4 +1,5 @@
--- Demand 3 tried at P10's settings: two rows, and four reads between their last samples replaced by a false quiet with a false mark behind it.
+-- Demand 3 tried at P10's settings: two rows, and four reads between their last samples replaced by a false quiet with
+-- a false mark behind it.
 use Prim.Native.Nat.{ℕ}
 use mathlib.Core.Path.{_≡_}
 use mathlib.Core.List.{List, [], _∷_, _++_}
@@ -16,7 +17,8 @@ first = record { lead = 23; trail = 0; bits = 1 ∷ 0 ∷ [] }
 abbrev pub second : Row
 second = record { lead = 23; trail = 0; bits = 0 ∷ 1 ∷ [] }
 
--- M4 and both M5 are 0. Each read shares time with two cycles; unknown reads fall both ways, and low where the second row's lead begins.
+-- M4 and both M5 are 0. Each read shares time with two cycles; unknown reads fall both ways, and low where the second
+-- row's lead begins.
 abbrev pub p10 : Link
 p10 = record {
   a = 5;
@@ -50,7 +52,8 @@ pub record Tried : Type 0 where
   -- the places that it speaks of: the last samples, and the read with which the second lead quiet has been heard
   pub samples : deliveries p10 0 (first ∷ second ∷ []) ≡ at 51 (row (1 ∷ 0 ∷ [])) ∷ at 111 (row (0 ∷ 1 ∷ [])) ∷ []
   pub hears : heard p10 (cyclesOf p10 (first ∷ [])) second ≡ 80
-  -- The reports. The false row is broken with the very read that the second lead quiet is heard with, now at 54 + 24 + (80 - 58): its own report comes before.
+  -- The reports. The false row is broken with the very read that the second lead quiet is heard with, now at 54 + 24 +
+  -- (80 - 58): its own report comes before.
   pub reports : told ≡ at 51 (row (1 ∷ 0 ∷ [])) ∷ at 100 (broken 1) ∷ at 131 (row (0 ∷ 1 ∷ [])) ∷ []
   pub before : below 54 told ≡ at 51 (row (1 ∷ 0 ∷ [])) ∷ []
   pub after : above 100 told ≡ at 131 (row (0 ∷ 1 ∷ [])) ∷ []

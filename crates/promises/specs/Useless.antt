@@ -21,7 +21,8 @@ refusesAll s read = record { state = s; event = nothing }
 abbrev pub leavesState : Settings → Step
 leavesState g s read = record { state = s; event = next g s read .event }
 
--- One that delivers a first row and hunts ever after. That it has delivered it remembers by a read left in hunting, which the rules never leave.
+-- One that delivers a first row and hunts ever after. That it has delivered it remembers by a read left in hunting,
+-- which the rules never leave.
 abbrev pub delivered : State
 delivered = record { mode = Hunting; left = 1; level = 1; run = 0; bits = [] }
 
@@ -46,4 +47,5 @@ pub record ShutOut : Type 0 where
   pub refusing : Demand3 p10 refusesAll → ⊥
   pub leaving : Demand3 p10 (leavesState (settings p10)) → ⊥
   pub once : Demand3 p10 (deliversOnce (settings p10)) → ⊥
-  pub once-is : reportsBy (deliversOnce (settings p10)) fresh 0 (readsOf p10) ≡ record { place = 51; event = row (1 ∷ 0 ∷ []) } ∷ []
+  pub once-is : reportsBy (deliversOnce (settings p10)) fresh 0 (readsOf p10)
+      ≡ record { place = 51; event = row (1 ∷ 0 ∷ []) } ∷ []

@@ -48,7 +48,8 @@ pub record WithinLimits (a b w r : ℕ) (m : OneBit w) : Type 0 where
   pub reads : length (warp w r (m .p) (smooth (wave a b (m .p1) (m .p2) (m .bit ∷ [])))) ≤ entriesMost
   pub chosen : length (m .choices) ≤ entriesMost
 
--- Every message is returned exactly if M1, M2 and M3 are minus one or more. At all other settings a message of one bit is lost.
+-- Every message is returned exactly if M1, M2 and M3 are minus one or more. At all other settings a message of one bit
+-- is lost.
 pub record ExactRule (a b k w r : ℕ) : Type 0 where
   pub enough : almostAccepted a b k w r ≡ true → EveryMessageReturned a b k w r
   pub needed : EveryMessageReturned a b k w r → almostAccepted a b k w r ≡ true
@@ -58,13 +59,15 @@ pub record ExactRule (a b k w r : ℕ) : Type 0 where
 abbrev pub MarginsAreExact : Type 0
 MarginsAreExact = (a b k w r : ℕ) → 1 ≤ a → 1 ≤ k → 1 ≤ w → 1 ≤ r → ExactRule a b k w r
 
--- A "no" that loses nothing: at a 2, b 5, k 4 and equal clocks M1 is minus one and M2 and M3 are 0, so the settings are refused and return every message.
+-- A "no" that loses nothing: at a 2, b 5, k 4 and equal clocks M1 is minus one and M2 and M3 are 0, so the settings are
+-- refused and return every message.
 pub record HarmlessNo : Type 0 where
   pub least : (m1 2 1 1 ≡ negsuc 0) × (m2 2 4 1 1 ≡ pos 0) × (m3 2 5 4 1 1 ≡ pos 0)
   pub refused : accepted 2 5 4 1 1 ≡ false
   pub returned : EveryMessageReturned 2 5 4 1 1
 
--- 01's limits change nothing: where the settings are in range and some message of one bit is within the limits, one within the limits is lost
+-- 01's limits change nothing: where the settings are in range and some message of one bit is within the limits, one
+-- within the limits is lost
 abbrev pub LostWithinLimits : Type 0
 LostWithinLimits = (a b k w r : ℕ) → inRange a b k w r ≡ true → (m : OneBit w) → WithinLimits a b w r m
     → almostAccepted a b k w r ≡ false → (n : OneBit w) × WithinLimits a b w r n × Lost a b k w r n

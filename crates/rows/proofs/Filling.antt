@@ -1,4 +1,5 @@
--- A page is filled turn by turn: the lines on it and all those from where the program stands are all the lines from where it began.
+-- A page is filled turn by turn: the lines on it and all those from where the program stands are all the lines from
+-- where it began.
 use Prim.Native.Nat.{ℕ, _+_, _-_, _≤_, _<_}
 use mathlib.Core.Path.{_≡_, refl, sym, ap, subst, _∙_}
 use mathlib.Core.Bool.{Bool, true}
@@ -26,9 +27,11 @@ tail-none : (i : ℕ) (l : List ℕ) → drop (length l - i) (drop i l) ≡ []
 tail-none i l = drop-of-length-le (drop i l) {i = length l - i} (omega (arith, length-drop i l))
 
 -- the reads that are lent to a turn are those that are left
-pub ready-left : (at : Walk) (reads : List ℕ) → Ready at (length reads) → Ready at (at .place + length (tail (at .place) reads))
+pub ready-left : (at : Walk) (reads : List ℕ) → Ready at (length reads)
+    → Ready at (at .place + length (tail (at .place) reads))
 ready-left at reads r =
-    let e : at .place + length (tail (at .place) reads) ≡ length reads = omega (arith, ap length (tail-all (at .place) reads), length-drop (at .place) reads, r .within) in
+    let e : at .place + length (tail (at .place) reads) ≡ length reads =
+    omega (arith, ap length (tail-all (at .place) reads), length-drop (at .place) reads, r .within) in
     rw e r
 
 -- a page that is being filled, from where the program began to where it stands
@@ -42,7 +45,15 @@ pub record Filling (w : Walk) (reads page₀ page : List ℕ) (at : Walk) (bytes
 
 pub filling-none : (w : Walk) (reads page : List ℕ) → Ready w (length reads) → Filling w reads page page w 0
 filling-none w reads page r =
-    record { lines = refl; room = omega arith; size = refl; ready = r; onwards = omega arith; further = λ h. absurd (omega arith) }
+    record {
+      lines = refl;
+      room = omega arith;
+      size = refl;
+      ready = r;
+      onwards = omega arith;
+      further =
+          λ h. absurd (omega arith);
+    }
 
 -- reads bring no more rows than they are
 rows-most : (all rows : ℕ) (heard : Outcome × ℕ) → Heard all heard → rowsAfter (heard .0 .answer) rows ≤ rows + heard .1
@@ -77,7 +88,8 @@ module _ (w : Walk) (reads page₀ page : List ℕ) (at : Walk) (bytes : ℕ) (f
 
   -- the turn as it is defined
   filled-defined : length (turnLine at left) ≤ length page - bytes
-      → Filled w reads (take bytes page ++ onto (turnLine at left) (drop bytes page)) (onward at heard) (goesOn (heard .0 .answer)) (bytes + length (turnLine at left))
+      → Filled w reads (take bytes page ++ onto (turnLine at left) (drop bytes page)) (onward at heard)
+      (goesOn (heard .0 .answer)) (bytes + length (turnLine at left))
   unfolding left heard
   filled-defined fits =
       let n : length (take bytes page) ≡ bytes = length-take-le bytes page (f .room) in
@@ -89,8 +101,16 @@ module _ (w : Walk) (reads page₀ page : List ℕ) (at : Walk) (bytes : ℕ) (f
             f .lines
             ∙ ap (λ (l : List ℕ). take bytes page ++ l) (turn-lines at left)
             ∙ rw (passed, line-behind page (turnLine at left) bytes (f .room))
-            (sym (append-assoc (take bytes page) (turnLine at left) (choose (goesOn (heard .0 .answer)) (linesOf (onward at heard) (drop (at .place + heard .1) reads)) [])));
-        room = omega (arith, length-append (take bytes page) (onto (turnLine at left) (drop bytes page)), length-append (turnLine at left) (drop (length (turnLine at left)) (drop bytes page)), length-drop (length (turnLine at left)) (drop bytes page), length-drop bytes page);
+            (sym (append-assoc (take bytes page) (turnLine at left)
+            (choose (goesOn (heard .0 .answer))
+            (linesOf (onward at heard) (drop (at .place + heard .1) reads)) [])));
+        room = omega (
+          arith,
+          length-append (take bytes page) (onto (turnLine at left) (drop bytes page)),
+          length-append (turnLine at left) (drop (length (turnLine at left)) (drop bytes page)),
+          length-drop (length (turnLine at left)) (drop bytes page),
+          length-drop bytes page,
+        );
         ready =
             record {
               within = omega (arith, known .most, r .within);
@@ -100,8 +120,11 @@ module _ (w : Walk) (reads page₀ page : List ℕ) (at : Walk) (bytes : ℕ) (f
         further = λ e. omega (arith, known .least e, f .onwards);
       }
 
-  -- The turn as it was told. A part of a list up to its end is lent by its length, and comes back before what lies beyond it, which is nothing.
-  module _ (after : Walk) (more : Bool) (n : ℕ) (out : List ℕ) (e : turned at (tail (at .place) reads) (tail bytes page) ≡ (after, more, n, out)) (kept : length out ≡ length (tail bytes page)) where
+  -- The turn as it was told. A part of a list up to its end is lent by its length, and comes back before what lies
+  -- beyond it, which is nothing.
+  module _ (after : Walk) (more : Bool) (n : ℕ) (out : List ℕ)
+      (e : turned at (tail (at .place) reads) (tail bytes page) ≡ (after, more, n, out))
+      (kept : length out ≡ length (tail bytes page)) where
     told : turned at (drop (at .place) reads) (drop bytes page) ≡ (after, more, n, out)
     told = rw (tail-all (at .place) reads, tail-all bytes page) at e
 
@@ -116,16 +139,22 @@ module _ (w : Walk) (reads page₀ page : List ℕ) (at : Walk) (bytes : ℕ) (f
 
     pub back-size : length back ≡ length page₀
     back-size =
-        rw back-is (length-append (take bytes page) out ∙ omega (arith, size, length-take-le bytes page (f .room), f .room, f .size))
+        rw back-is
+        (length-append (take bytes page) out
+        ∙ omega (arith, size, length-take-le bytes page (f .room), f .room, f .size))
 
     pub filled-turn : Filled w reads back after more (bytes + n)
     unfolding turned left heard
     filled-turn =
-        let out-is : onto (turnLine at left) (drop bytes page) ≡ out = ap (λ (t : Walk × Bool × ℕ × List ℕ). t .3) told in
-        let whole : length out ≡ length (turnLine at left) + length (drop (length (turnLine at left)) (drop bytes page)) =
-        ap length (sym out-is) ∙ length-append (turnLine at left) (drop (length (turnLine at left)) (drop bytes page)) in
+        let out-is : onto (turnLine at left) (drop bytes page) ≡ out =
+        ap (λ (t : Walk × Bool × ℕ × List ℕ). t .3) told in
+        let whole : length out
+        ≡ length (turnLine at left) + length (drop (length (turnLine at left)) (drop bytes page)) =
+        ap length (sym out-is)
+        ∙ length-append (turnLine at left) (drop (length (turnLine at left)) (drop bytes page)) in
         rw back-is
-        (subst (λ (t : Walk × Bool × ℕ × List ℕ). Filled w reads (take bytes page ++ t .3) (t .0) (t .1) (bytes + t .2)) told
+        (subst (λ (t : Walk × Bool × ℕ × List ℕ). Filled w reads (take bytes page ++ t .3) (t .0) (t .1)
+        (bytes + t .2)) told
         (filled-defined (omega (arith, size, whole))))
 
     pub added-most : bytes + n ≤ length page₀

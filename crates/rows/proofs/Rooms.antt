@@ -16,7 +16,8 @@ use Rattle.capture.specs.declared.Checked.the-variants.{Capture as Good}
 first : {out out′ : List ℕ} {x y : Answer Summary} → _≡_ {A = Answer Summary × List ℕ} (x, out) (y, out′) → x ≡ y
 first e = ap (λ (p : Answer Summary × List ℕ). p .0) e
 
-unrolled-room : (answer : Answer Capture) (out out′ : List ℕ) (s : Summary) → unrolled answer out ≡ (given s, out′) → s .reads .0 ≤ length out
+unrolled-room : (answer : Answer Capture) (out out′ : List ℕ) (s : Summary) → unrolled answer out ≡ (given s, out′)
+    → s .reads .0 ≤ length out
 unrolled-room (given c) out out′ s e = go (decLe (length (readsOf (c .level) (c .runs))) (length out))
   where
     go : Dec (length (readsOf (c .level) (c .runs)) ≤ length out) → s .reads .0 ≤ length out
@@ -29,13 +30,17 @@ unrolled-room (given c) out out′ s e = go (decLe (length (readsOf (c .level) (
         let checkedSays = first (rw (lt-ltb (length out) (length (readsOf (c .level) (c .runs))) (omega arith)) at e) in
         let z : _≡_ {A = ℕ} 0 1 = cc in
         absurd (omega arith)
-unrolled-room (refused number place) out out′ s e = let checkedSays = first e in let z : _≡_ {A = ℕ} 0 1 = cc in absurd (omega arith)
-unrolled-room (refusedAfter number place count) out out′ s e = let checkedSays = first e in let z : _≡_ {A = ℕ} 0 1 = cc in absurd (omega arith)
+unrolled-room (refused number place) out out′ s e = let checkedSays = first e in let z : _≡_ {A = ℕ} 0 1 = cc in
+    absurd (omega arith)
+unrolled-room (refusedAfter number place count) out out′ s e = let checkedSays = first e in let z : _≡_ {A = ℕ} 0 1 =
+    cc in absurd (omega arith)
 
-pub reads-fit : (bytes out out′ : List ℕ) (x : Checked) (s : Summary) → readBack bytes out ≡ (checkedSays x, out′) → x ≡ Good s → length out′ ≡ length out
+pub reads-fit : (bytes out out′ : List ℕ) (x : Checked) (s : Summary) → readBack bytes out ≡ (checkedSays x, out′)
+    → x ≡ Good s → length out′ ≡ length out
     → s .reads .0 ≤ length out′
 unfolding readBack
-reads-fit bytes out out′ x s e is kept = omega (arith, unrolled-room (capture bytes) out out′ s (e ∙ ap (λ (y : Checked). (checkedSays y, out′)) is), kept)
+reads-fit bytes out out′ x s e is kept =
+    omega (arith, unrolled-room (capture bytes) out out′ s (e ∙ ap (λ (y : Checked). (checkedSays y, out′)) is), kept)
 
 -- so many zeros are no more than so many
 pub zeros-most : (n : ℕ) → length (replicate {A = ℕ} n 0) ≤ n

@@ -1,4 +1,5 @@
--- What the functions of the program promise each other: a turn's line in a lent buffer, and a page of lines. The program's way and what it writes are defined in the crate of its lines.
+-- What the functions of the program promise each other: a turn's line in a lent buffer, and a page of lines. The
+-- program's way and what it writes are defined in the crate of its lines.
 use Prim.Native.Nat.{ℕ, _≤_, _<_}
 use mathlib.Core.Path.{_≡_}
 use mathlib.Core.Bool.{Bool, true}
@@ -29,7 +30,8 @@ pub record Ready (w : Walk) (all : ℕ) : Type 0 where
 abbrev pub turnLine : Walk → List ℕ → List ℕ
 turnLine w left = lineAt (onward w (listened (w .receiver) left)) (listened (w .receiver) left .0 .answer)
 
--- a turn: where the program stands after it, whether more lines follow, the line's length, and the buffer with the line at its front
+-- a turn: where the program stands after it, whether more lines follow, the line's length, and the buffer with the line
+-- at its front
 unfoldable pub turned : Walk → List ℕ → List ℕ → Walk × Bool × ℕ × List ℕ
 turned w left out = (
   onward w (listened (w .receiver) left),
@@ -38,9 +40,11 @@ turned w left out = (
   onto (turnLine w left) out,
 )
 
--- A page that was filled from a stand on: the lines on it, and then those from the next stand on where more follow, are all the lines; a page after which more follow leaves fewer reads.
+-- A page that was filled from a stand on: the lines on it, and then those from the next stand on where more follow, are
+-- all the lines; a page after which more follow leaves fewer reads.
 pub record Filled (w : Walk) (reads page : List ℕ) (after : Walk) (more : Bool) (bytes : ℕ) : Type 0 where
-  pub lines : linesOf w (drop (w .place) reads) ≡ take bytes page ++ choose more (linesOf after (drop (after .place) reads)) []
+  pub lines : linesOf w (drop (w .place) reads) ≡ take bytes page
+      ++ choose more (linesOf after (drop (after .place) reads)) []
   pub room : bytes ≤ length page
   pub ready : Ready after (length reads)
   pub further : more ≡ true → w .place < after .place

@@ -1,4 +1,5 @@
-// The rows program: reads a capture from standard input and prints what the row receiver makes of its reads, a line for each event.
+// The rows program: reads a capture from standard input and prints what the row receiver makes of its reads, a line for
+// each event.
 ghost use mathlib.Core.Path.{_≡_};
 ghost use mathlib.Core.Bool.{true};
 ghost use Prim.Native.Nat.{ℕ, _+_, _≤_, _<_};
@@ -13,11 +14,11 @@ use capture::Checked;
 use capture::Summary;
 use libc::STDIN_FILENO;
 use libc::STDOUT_FILENO;
-use page::Put;
 use measure::ENTRIES_MOST;
 use measure::INPUT_MOST;
 use measure::ReadCycles;
 use measure::Refusal;
+use page::Put;
 
 // No line is longer: twenty digits, a row's word, its 1,024 bits and a line feed.
 const LINE_MOST: usize = 1050;
@@ -32,7 +33,8 @@ struct Walk {
     rows: usize,
 }
 
-// After lines were put: where the program stands, whether more lines follow, and how many bytes those that were put have.
+// After lines were put: where the program stands, whether more lines follow, and how many bytes those that were put
+// have.
 struct Turned {
     walk: Walk,
     more: bool,
@@ -49,11 +51,13 @@ fn bytes_of(put: Put) -> usize
     }
 }
 
-// One turn: listens to the reads that are left up to the next event and puts its line, or the last line where none comes.
+// One turn: listens to the reads that are left up to the next event and puts its line, or the last line where none
+// comes.
 fn turn(walk: Walk, left: &[u8], out: &mut [u8]) -> Turned
     requires { ⌜ Ready (standing walk) (walk .place .0 + length (now left)) ⌝ }
     requires { ⌜ lineMost ≤ length (now out) ⌝ }
-    ensures { λ x. ⌜ turned (standing walk) (now (left .entry)) (now (out .entry)) ≡ (standing (x .walk), x .more, x .bytes, now (out .exit)) ⌝ }
+    ensures { λ x. ⌜ turned (standing walk) (now (left .entry)) (now (out .entry))
+        ≡ (standing (x .walk), x .more, x .bytes, now (out .exit)) ⌝ }
 {
     let before = walk.place.0;
     let rows = walk.rows;
@@ -124,7 +128,8 @@ fn turn(walk: Walk, left: &[u8], out: &mut [u8]) -> Turned
 fn fill(start: Walk, reads: &[u8], page: &mut [u8]) -> Turned
     requires { ⌜ Ready (standing start) (length (now reads)) ⌝ }
     requires { ⌜ lineMost ≤ length (now page) ⌝ }
-    ensures { λ x. ⌜ Filled (standing start) (now (reads .entry)) (now (page .exit)) (standing (x .walk)) (x .more) (x .bytes) ⌝ }
+    ensures { λ x. ⌜ Filled (standing start) (now (reads .entry)) (now (page .exit)) (standing (x .walk)) (x .more)
+        (x .bytes) ⌝ }
 {
     let mut walk = start;
     let mut bytes = 0;

@@ -16,7 +16,8 @@ use Rattle.sender.proofs.Placed.{placed-next}
 -- from a bit on: its cell, and then the cells of the bits after it, from the level that its cell leaves
 pub cells-step : (a b before : ℕ) (bits : List ℕ) (i : ℕ) → i < length bits
     → cells a b before (drop i bits)
-    ≡ replicate a (opposite before) ++ replicate b (codeLevel before (getD bits i 0)) ++ cells a b (codeLevel before (getD bits i 0)) (drop (i + 1) bits)
+    ≡ replicate a (opposite before) ++ replicate b (codeLevel before (getD bits i 0))
+    ++ cells a b (codeLevel before (getD bits i 0)) (drop (i + 1) bits)
 unfolding cells
 cells-step a b before bits i h = rw (drop-cons bits i 0 h, add-one)
 
@@ -47,18 +48,21 @@ code-level-most before bit h = go (eqb bit 1)
     go false = omega arith
 
 -- one cell laid down leaves the cells of the bits after it, from its end on
-pub cells-placed : (a b before level : ℕ) (bits : List ℕ) (i at : ℕ) (out next : List ℕ) → i < length bits → level ≡ codeLevel before (getD bits i 0)
+pub cells-placed : (a b before level : ℕ) (bits : List ℕ) (i at : ℕ) (out next : List ℕ) → i < length bits
+    → level ≡ codeLevel before (getD bits i 0)
     → sets out at (replicate a (opposite before) ++ replicate b (codeLevel before (getD bits i 0))) ≡ next
     → sets out at (cells a b before (drop i bits)) ≡ sets next (at + a + b) (cells a b level (drop (i + 1) bits))
 cells-placed a b before level bits i at out next h is laid =
     let code = codeLevel before (getD bits i 0) in
     let cell = replicate a (opposite before) ++ replicate b code in
     ap (λ (l : List ℕ). sets out at l) (cells-step a b before bits i h)
-    ∙ placed-next out next at (at + a + b) cell (cells a b code (drop (i + 1) bits)) laid (omega (arith, length-cell a b (opposite before) code))
+    ∙ placed-next out next at (at + a + b) cell (cells a b code (drop (i + 1) bits)) laid
+    (omega (arith, length-cell a b (opposite before) code))
     ∙ rw is
 
 -- 65,535 cycles of pad on either side and 1,024 cells of 510: no message has a longer wave
-pub message-most : (a b p1 p2 n : ℕ) → a ≤ 255 → b ≤ 255 → p1 ≤ 65535 → p2 ≤ 65535 → n ≤ 1024 → p1 + n * (a + b) + p2 ≤ 653310
+pub message-most : (a b p1 p2 n : ℕ) → a ≤ 255 → b ≤ 255 → p1 ≤ 65535 → p2 ≤ 65535 → n ≤ 1024
+    → p1 + n * (a + b) + p2 ≤ 653310
 message-most a b p1 p2 n ha hb h1 h2 hn =
     let cell : a + b ≤ 510 = omega arith in
     omega (arith, mul-le-mul hn cell)

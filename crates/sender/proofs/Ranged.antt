@@ -18,7 +18,8 @@ between-least least most x e = leb-true least x (both (leb least x) (leb x most)
 
 -- each pad of a list that is in range
 pub pads-most : (pads : List ℕ) → padded pads ≡ true → (i : ℕ) → i < length pads → getD pads i 0 ≤ 65535
-pads-most pads e = above-none padMost pads (ltb-false (firstAbove padMost pads) (length pads) (not-true (someAbove padMost pads) e))
+pads-most pads e =
+    above-none padMost pads (ltb-false (firstAbove padMost pads) (length pads) (not-true (someAbove padMost pads) e))
 
 pub row-bits-least : (n : ℕ) → rowBits n ≡ true → 1 ≤ n
 row-bits-least n e = between-least 1 1024 n e
@@ -29,7 +30,8 @@ pub record Message (a b p1 p2 : ℕ) : Type 0 where
   pub p1-most : p1 ≤ 65535
   pub p2-most : p2 ≤ 65535
 
-pub message-bounded : (a b p1 p2 : ℕ) → subcell a && subcell b && leb p1 padMost && leb p2 padMost ≡ true → Message a b p1 p2
+pub message-bounded : (a b p1 p2 : ℕ) → subcell a && subcell b && leb p1 padMost && leb p2 padMost ≡ true
+    → Message a b p1 p2
 message-bounded a b p1 p2 e =
     let pads = both-3 (subcell a && subcell b) (leb p1 padMost) (leb p2 padMost) e in
     let cell = both (subcell a) (subcell b) (pads .0) in
@@ -50,12 +52,16 @@ pub record Plan (a b n : ℕ) (leads trails bits : List ℕ) : Type 0 where
   pub trails-padded : padded trails ≡ true
 
 pub plan-bounded : (a b n : ℕ) (leads trails bits : List ℕ)
-    → subcell a && subcell b && rowBits n && fitting n leads trails bits && padded leads && padded trails ≡ true → Plan a b n leads trails bits
+    → subcell a && subcell b && rowBits n && fitting n leads trails bits && padded leads && padded trails ≡ true
+    → Plan a b n leads trails bits
 plan-bounded a b n leads trails bits e =
-    let lists = both-3 (subcell a && subcell b && rowBits n && fitting n leads trails bits) (padded leads) (padded trails) e in
+    let lists =
+    both-3 (subcell a && subcell b && rowBits n && fitting n leads trails bits) (padded leads) (padded trails) e in
     let counts = both (subcell a && subcell b && rowBits n) (fitting n leads trails bits) (lists .0) in
     let numbers = both-3 (subcell a) (subcell b) (rowBits n) (counts .0) in
-    let fits = both-3 (leb 1 (length leads)) (eqb (length trails) (length leads)) (eqb (length bits) (length leads * n)) (counts .1) in
+    let fits =
+    both-3 (leb 1 (length leads)) (eqb (length trails) (length leads)) (eqb (length bits) (length leads * n))
+    (counts .1) in
     record {
       a-most = between-most 1 255 a (numbers .0);
       b-most = between-most 1 255 b (numbers .1);

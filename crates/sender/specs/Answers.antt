@@ -1,4 +1,5 @@
--- 01, "Sending" and "Refusal numbers": what sending a message and sending a plan answer and leave in the lent output, for all input, and what each case of the code says.
+-- 01, "Sending" and "Refusal numbers": what sending a message and sending a plan answer and leave in the lent output,
+-- for all input, and what each case of the code says.
 use Prim.Native.Nat.{ℕ, _*_}
 use mathlib.Core.Bool.{Bool, _&&_, not}
 use mathlib.Core.List.{List}
@@ -11,7 +12,8 @@ use Rattle.sender.specs.Sending.{wave, planWave, rowsOf}
 use Rattle.sender.specs.declared.Sent.{Sent}
 use Rattle.sender.specs.declared.Sent.the-variants.{Wave, Refused}
 
--- a message: refusal 1 for a, b or a pad out of range, 3 for more than 1,024 bits or a wave over its limit, 2 for an entry that is no bit
+-- a message: refusal 1 for a, b or a pad out of range, 3 for more than 1,024 bits or a wave over its limit, 2 for an
+-- entry that is no bit
 unfoldable pub sentMessage : ℕ → ℕ → ℕ → ℕ → List ℕ → List ℕ → Answer ℕ × List ℕ
 sentMessage a b p1 p2 bits output =
     ranged (subcell a && subcell b && leb p1 padMost && leb p2 padMost) output
@@ -29,7 +31,8 @@ fitting n leads trails bits =
 abbrev pub padded : List ℕ → Bool
 padded pads = not (someAbove padMost pads)
 
--- a plan: refusal 1 for a, b, n or a pad out of range and for lists that do not fit, 3 for more than 1,024 rows or a wave over its limit, 2 for an entry that is no bit
+-- a plan: refusal 1 for a, b, n or a pad out of range and for lists that do not fit, 3 for more than 1,024 rows or a
+-- wave over its limit, 2 for an entry that is no bit
 unfoldable pub sentPlan : ℕ → ℕ → ℕ → List ℕ → List ℕ → List ℕ → List ℕ → Answer ℕ × List ℕ
 sentPlan a b n leads trails bits output =
     ranged (subcell a && subcell b && rowBits n && fitting n leads trails bits && padded leads && padded trails) output

@@ -13,7 +13,8 @@ opposite level = 1 - level
 abbrev pub codeLevel : ℕ → ℕ → ℕ
 codeLevel before bit = choose (eqb bit 1) before (opposite before)
 
--- The cells of bits, from the level before the first of them: each turns the line over for its mark, a cycles long, and then has its code level for b. What is on the line then is before the next.
+-- The cells of bits, from the level before the first of them: each turns the line over for its mark, a cycles long, and
+-- then has its code level for b. What is on the line then is before the next.
 unfoldable pub cells : ℕ → ℕ → ℕ → List ℕ → List ℕ
 cells a b before [] = []
 cells a b before (bit ∷ bits) =
@@ -38,7 +39,8 @@ unfoldable pub planWave : ℕ → ℕ → List Row → List ℕ
 planWave a b [] = []
 planWave a b (row ∷ rows) = wave a b (row .lead) (row .trail) (row .bits) ++ planWave a b rows
 
--- The rows of a plan that is lent as three lists: lead pads, trail pads, and the bits of all rows one behind another, n for each.
+-- The rows of a plan that is lent as three lists: lead pads, trail pads, and the bits of all rows one behind another, n
+-- for each.
 unfoldable pub rowsOf : ℕ → List ℕ → List ℕ → List ℕ → List Row
 rowsOf n [] trails bits = []
 rowsOf n (p1 ∷ leads) [] bits = []

@@ -51,7 +51,9 @@ fn code_level(before: u8, bit: u8) -> u8
 // Writes a cell at a place and gives the level that it leaves on the line.
 fn cell_into(a: usize, b: usize, before: u8, bit: u8, out: &mut [u8], at: usize) -> u8
     requires { ⌜ (before ≤ 1) × (at + a + b ≤ length (now out)) ⌝ }
-    ensures { λ level. ⌜ (level ≡ codeLevel before bit) × (sets (now (out .entry)) at (replicate a (opposite before) ++ replicate b (codeLevel before bit)) ≡ now (out .exit)) ⌝ }
+    ensures { λ level. ⌜ (level ≡ codeLevel before bit)
+        × (sets (now (out .entry)) at (replicate a (opposite before) ++ replicate b (codeLevel before bit))
+        ≡ now (out .exit)) ⌝ }
 {
     let level = code_level(before, bit);
     fill(out, at, a, 1 - before);
@@ -62,7 +64,8 @@ fn cell_into(a: usize, b: usize, before: u8, bit: u8, out: &mut [u8], at: usize)
 // Writes the cells of a message at a place, from high, and gives the place after them.
 fn cells_into(a: usize, b: usize, bits: &[u8], out: &mut [u8], at: usize) -> usize
     requires { ⌜ at + length (now bits) * (a + b) ≤ length (now out) ⌝ }
-    ensures { λ after. ⌜ (after ≡ at + length (now (bits .entry)) * (a + b)) × (sets (now (out .entry)) at (cells a b 1 (now (bits .entry))) ≡ now (out .exit)) ⌝ }
+    ensures { λ after. ⌜ (after ≡ at + length (now (bits .entry)) * (a + b))
+        × (sets (now (out .entry)) at (cells a b 1 (now (bits .entry))) ≡ now (out .exit)) ⌝ }
 {
     let mut before = HIGH;
     let mut place = at;
@@ -86,7 +89,8 @@ fn wave_into(
     at: usize,
 ) -> usize
     requires { ⌜ at + p1 + length (now bits) * (a + b) + p2 ≤ length (now out) ⌝ }
-    ensures { λ after. ⌜ (after ≡ at + p1 + length (now (bits .entry)) * (a + b) + p2) × (sets (now (out .entry)) at (wave a b p1 p2 (now (bits .entry))) ≡ now (out .exit)) ⌝ }
+    ensures { λ after. ⌜ (after ≡ at + p1 + length (now (bits .entry)) * (a + b) + p2)
+        × (sets (now (out .entry)) at (wave a b p1 p2 (now (bits .entry))) ≡ now (out .exit)) ⌝ }
 {
     fill(out, at, p1, HIGH);
     let trail = cells_into(a, b, bits, out, at + p1);
@@ -111,7 +115,8 @@ fn in_range(a: usize, b: usize, p1: usize, p2: usize) -> bool
 }
 
 // Sends a message. Gives the number of cycles of its wave.
-// Refuses with 1 (a, b or a pad), 3 (more than 1,024 bits; up to that number no wave is over its own limit), 2 (the place of the first entry that is no bit), 4.
+// Refuses with 1 (a, b or a pad), 3 (more than 1,024 bits; up to that number no wave is over its own limit), 2 (the
+// place of the first entry that is no bit), 4.
 // The output holds the wave at its front and is otherwise untouched; every refusal leaves all of it.
 pub fn send(
     a: WriterCycles,
@@ -121,7 +126,8 @@ pub fn send(
     bits: &[u8],
     out: &mut [u8],
 ) -> Sent
-    ensures { λ x. ⌜ sentMessage (a .0) (b .0) (p1 .0) (p2 .0) (now (bits .entry)) (now (out .entry)) ≡ (sentSays x, now (out .exit)) ⌝ }
+    ensures { λ x. ⌜ sentMessage (a .0) (b .0) (p1 .0) (p2 .0) (now (bits .entry)) (now (out .entry))
+        ≡ (sentSays x, now (out .exit)) ⌝ }
 {
     let mark = a.0;
     let code = b.0;
@@ -187,7 +193,10 @@ fn plan_in_range(
     trails: &[usize],
     bits: &[u8],
 ) -> bool
-    ensures { λ fits. ⌜ fits ≡ (subcell a && subcell b && rowBits n && fitting n (now (leads .entry)) (now (trails .entry)) (now (bits .entry)) && padded (now (leads .entry)) && padded (now (trails .entry))) ⌝ }
+    ensures { λ fits. ⌜ fits
+        ≡ (subcell a && subcell b && rowBits n
+        && fitting n (now (leads .entry)) (now (trails .entry)) (now (bits .entry)) && padded (now (leads .entry))
+        && padded (now (trails .entry))) ⌝ }
 {
     if !measure::between(SUBCELL_LEAST, SUBCELL_MOST, a) {
         return false;
@@ -209,8 +218,11 @@ fn plan_in_range(
 
 // Gives the number of cycles of a plan's wave, whatever its bits.
 fn plan_cycles(a: usize, b: usize, n: usize, leads: &[usize], trails: &[usize]) -> usize
-    requires { ⌜ (a ≤ 255) × (b ≤ 255) × (n ≤ 1024) × (length (now leads) ≤ 1024) × (length (now trails) ≡ length (now leads)) × (padded (now leads) ≡ true) × (padded (now trails) ≡ true) ⌝ }
-    ensures { λ cycles. ⌜ ((bits : List ℕ) → length bits ≡ length (now (leads .entry)) * n → length (planWave a b (rowsOf n (now (leads .entry)) (now (trails .entry)) bits)) ≡ cycles) ⌝ }
+    requires { ⌜ (a ≤ 255) × (b ≤ 255) × (n ≤ 1024) × (length (now leads) ≤ 1024)
+        × (length (now trails) ≡ length (now leads)) × (padded (now leads) ≡ true) × (padded (now trails) ≡ true) ⌝ }
+    ensures { λ cycles. ⌜
+        ((bits : List ℕ) → length bits ≡ length (now (leads .entry)) * n
+        → length (planWave a b (rowsOf n (now (leads .entry)) (now (trails .entry)) bits)) ≡ cycles) ⌝ }
 {
     let cell = a + b;
     let row = n * cell;
@@ -233,8 +245,10 @@ fn plan_into(
     bits: &[u8],
     out: &mut [u8],
 )
-    requires { ⌜ (length (now trails) ≡ length (now leads)) × (length (now bits) ≡ length (now leads) * n) × (length (planWave a b (rowsOf n (now leads) (now trails) (now bits))) ≤ length (now out)) ⌝ }
-    ensures { λ _. ⌜ sets (now (out .entry)) 0 (planWave a b (rowsOf n (now (leads .entry)) (now (trails .entry)) (now (bits .entry)))) ≡ now (out .exit) ⌝ }
+    requires { ⌜ (length (now trails) ≡ length (now leads)) × (length (now bits) ≡ length (now leads) * n)
+        × (length (planWave a b (rowsOf n (now leads) (now trails) (now bits))) ≤ length (now out)) ⌝ }
+    ensures { λ _. ⌜ sets (now (out .entry)) 0
+        (planWave a b (rowsOf n (now (leads .entry)) (now (trails .entry)) (now (bits .entry)))) ≡ now (out .exit) ⌝ }
 {
     let mut at = 0;
     let mut start = 0;
@@ -248,8 +262,10 @@ fn plan_into(
     }
 }
 
-// Sends a plan: for each row a lead pad, a trail pad, and n bits of the one list of bits. Gives the number of cycles of the plan's wave.
-// Refuses with 1 (a, b, n or a pad; no row; lists that do not fit one another), 3 (more than 1,024 rows, or 1,048,576 cycles), 2 (the place of the first entry that is no bit), 4.
+// Sends a plan: for each row a lead pad, a trail pad, and n bits of the one list of bits. Gives the number of cycles of
+// the plan's wave.
+// Refuses with 1 (a, b, n or a pad; no row; lists that do not fit one another), 3 (more than 1,024 rows, or 1,048,576
+// cycles), 2 (the place of the first entry that is no bit), 4.
 // The output holds the wave at its front and is otherwise untouched; every refusal leaves all of it.
 pub fn send_plan(
     a: WriterCycles,
@@ -260,7 +276,8 @@ pub fn send_plan(
     bits: &[u8],
     out: &mut [u8],
 ) -> Sent
-    ensures { λ x. ⌜ sentPlan (a .0) (b .0) n (now (leads .entry)) (now (trails .entry)) (now (bits .entry)) (now (out .entry)) ≡ (sentSays x, now (out .exit)) ⌝ }
+    ensures { λ x. ⌜ sentPlan (a .0) (b .0) n (now (leads .entry)) (now (trails .entry)) (now (bits .entry))
+        (now (out .entry)) ≡ (sentSays x, now (out .exit)) ⌝ }
 {
     let mark = a.0;
     let code = b.0;

@@ -40,11 +40,13 @@ times-less x (suc c) u =
 pub margin-is : (x c u y v : ℕ) → (pos x -ℤ pos c) *ℤ pos u -ℤ pos y *ℤ pos v ≡ pos (x * u) -ℤ pos (c * u + y * v)
 margin-is x c u y v = ap (λ (z : ℤ). z -ℤ pos (y * v)) (times-less x c u) ∙ less-less (pos (x * u)) (c * u) (y * v)
 
-pub margin-met : (x c u y v : ℕ) → zeroOrMore ((pos x -ℤ pos c) *ℤ pos u -ℤ pos y *ℤ pos v) ≡ leb (c * u + y * v) (x * u)
+pub margin-met : (x c u y v : ℕ)
+    → zeroOrMore ((pos x -ℤ pos c) *ℤ pos u -ℤ pos y *ℤ pos v) ≡ leb (c * u + y * v) (x * u)
 margin-met x c u y v = ap zeroOrMore (margin-is x c u y v) ∙ difference-met (x * u) (c * u + y * v)
 
 -- The same of a margin that is -d or more.
-pub margin-least : (d x c u y v : ℕ) → zeroOrMore ((pos x -ℤ pos c) *ℤ pos u -ℤ pos y *ℤ pos v +ℤ pos d) ≡ leb (c * u + y * v) (x * u + d)
+pub margin-least : (d x c u y v : ℕ)
+    → zeroOrMore ((pos x -ℤ pos c) *ℤ pos u -ℤ pos y *ℤ pos v +ℤ pos d) ≡ leb (c * u + y * v) (x * u + d)
 margin-least d x c u y v =
     ap (λ (z : ℤ). zeroOrMore (z +ℤ pos d)) (margin-is x c u y v)
     ∙ ap zeroOrMore (later (x * u) (c * u + y * v))
@@ -103,7 +105,8 @@ unfolding accepted
 keeps-accepted a b k w r h =
     rw (m1-met a w r ∙ le-leb _ _ (h .M1), m2-met a k w r ∙ le-leb _ _ (h .M2), m3-met a b k w r ∙ le-leb _ _ (h .M3))
 
-pub quiet-keeps : (a b k w r Q p1 : ℕ) → quietAccepted a b k w r Q p1 ≡ true → Accepted a b k w r × QuietAccepted a b w r Q p1
+pub quiet-keeps : (a b k w r Q p1 : ℕ) → quietAccepted a b k w r Q p1 ≡ true
+    → Accepted a b k w r × QuietAccepted a b w r Q p1
 unfolding quietAccepted
 quiet-keeps a b k w r Q p1 e =
     let parts = both-3 (accepted a b k w r) (zeroOrMore (m4 a b Q w r)) (zeroOrMore (m5 p1 Q w r)) e in (
@@ -114,7 +117,8 @@ quiet-keeps a b k w r Q p1 e =
       },
     )
 
-pub keeps-quiet : (a b k w r Q p1 : ℕ) → Accepted a b k w r → QuietAccepted a b w r Q p1 → quietAccepted a b k w r Q p1 ≡ true
+pub keeps-quiet : (a b k w r Q p1 : ℕ) → Accepted a b k w r → QuietAccepted a b w r Q p1
+    → quietAccepted a b k w r Q p1 ≡ true
 unfolding quietAccepted
 keeps-quiet a b k w r Q p1 h q =
     rw (keeps-accepted a b k w r h, m4-met a b Q w r ∙ le-leb _ _ (q .M4), m5-met p1 Q w r ∙ le-leb _ _ (q .M5))

@@ -27,7 +27,8 @@ ranged-bounded a b k w r e =
       r-most = between-most 1 65535 r (lengths .2);
     }
 
-pub quiet-bounded : (a b k w r Q p1 : ℕ) → inRange a b k w r && quiet Q && leb p1 padMost ≡ true → Bounded a b k w r × (Q ≤ 8191) × (p1 ≤ 65535)
+pub quiet-bounded : (a b k w r Q p1 : ℕ) → inRange a b k w r && quiet Q && leb p1 padMost ≡ true
+    → Bounded a b k w r × (Q ≤ 8191) × (p1 ≤ 65535)
 quiet-bounded a b k w r Q p1 e =
     let parts = both-3 (inRange a b k w r) (quiet Q) (leb p1 padMost) e in
     (ranged-bounded a b k w r (parts .0), between-most 2 8191 Q (parts .1), leb-true p1 65535 (parts .2))

@@ -1,4 +1,5 @@
--- A signed number that fits is read back as it was put down, and the code's test for less than zero is the opposite of zero or more.
+-- A signed number that fits is read back as it was put down, and the code's test for less than zero is the opposite of
+-- zero or more.
 use mathlib.Core.Path.{_≡_, refl, sym, _∙_}
 use mathlib.Core.Bool.{true, false, not}
 use Prim.Native.Nat.{_^_, _<_}

@@ -1,4 +1,5 @@
--- How far a signed number is from zero: a difference is at most as far as its two parts together, and a product as far as its two parts multiplied.
+-- How far a signed number is from zero: a difference is at most as far as its two parts together, and a product as far
+-- as its two parts multiplied.
 use mathlib.Core.Path.{_≡_, refl}
 use Prim.Native.Nat.{ℕ, zero, suc, _+_, _*_, _^_, _≤_, _<_}
 use native.Mathlib.Nat.{mul-le-mul}

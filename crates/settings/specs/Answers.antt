@@ -1,4 +1,5 @@
--- What the judge and the quiet judge answer, for all input (01, "Margins" and refusal 1), and what each case of the code says.
+-- What the judge and the quiet judge answer, for all input (01, "Margins" and refusal 1), and what each case of the
+-- code says.
 use Prim.Native.Nat.{ℕ}
 use mathlib.Core.Bool.{Bool, true, false, _&&_}
 use lib.Dec.{leb}
@@ -11,7 +12,8 @@ use Rattle.settings.specs.declared.QuietMargins.{QuietMargins}
 use Rattle.settings.specs.declared.Judged.{Judged}
 use Rattle.settings.specs.declared.Judged.the-variants.{Yes, No, Refused}
 use Rattle.settings.specs.declared.QuietJudged.{QuietJudged}
-use Rattle.settings.specs.declared.QuietJudged.the-variants.{Yes as QuietYes, No as QuietNo, Refused as QuietRefused}
+use Rattle.settings.specs.declared.QuietJudged.the-variants.{Yes as QuietYes, No as QuietNo}
+use Rattle.settings.specs.declared.QuietJudged.the-variants.{Refused as QuietRefused}
 
 -- the margins and yes or no; a "no" has its margins too
 pub record Judgement : Type 0 where
@@ -31,7 +33,11 @@ inRange a b k w r = subcell a && subcell b && sampling k && cycleLength w && cyc
 unfoldable pub judgement : ℕ → ℕ → ℕ → ℕ → ℕ → Answer Judgement
 judgement a b k w r =
     choose (inRange a b k w r)
-    (given (record { margins = record { m1 = m1 a w r; m2 = m2 a k w r; m3 = m3 a b k w r }; accepts = accepted a b k w r }))
+    (given (record {
+      margins = record { m1 = m1 a w r; m2 = m2 a k w r; m3 = m3 a b k w r };
+      accepts =
+          accepted a b k w r;
+    }))
     (refused 1 0)
 
 -- the quiet judge: all five margins

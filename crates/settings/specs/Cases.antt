@@ -13,13 +13,30 @@ says one two three verdict = given (record { margins = record { m1 = one; m2 = t
 
 -- P8: a 5, b 13, k 10, w 100 at four lengths of a read; of the last only M2 and the "no" are printed
 abbrev P8-141 : Case
-P8-141 = record { kind = Answer Judgement; gives = judgement 5 13 10 100 141; printed = says (pos 118) (pos 669) (pos 8) true }
+P8-141 =
+    record {
+      kind = Answer Judgement;
+      gives = judgement 5 13 10 100 141;
+      printed =
+          says (pos 118) (pos 669) (pos 8) true;
+    }
 
 abbrev P8-142 : Case
-P8-142 = record { kind = Answer Judgement; gives = judgement 5 13 10 100 142; printed = says (pos 116) (pos 678) (negsuc 3) false }
+P8-142 =
+    record {
+      kind = Answer Judgement;
+      gives = judgement 5 13 10 100 142;
+      printed =
+          says (pos 116) (pos 678) (negsuc 3) false;
+    }
 
 abbrev P8-67 : Case
-P8-67 = record { kind = Answer Judgement; gives = judgement 5 13 10 100 67; printed = says (pos 266) (pos 3) (pos 896) true }
+P8-67 = record {
+  kind = Answer Judgement;
+  gives = judgement 5 13 10 100 67;
+  printed =
+      says (pos 266) (pos 3) (pos 896) true;
+}
 
 abbrev P8-66 : Case
 P8-66 = record { kind = ℤ × Bool; gives = (m2 5 10 100 66, accepted 5 13 10 100 66); printed = (negsuc 5, false) }

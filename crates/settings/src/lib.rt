@@ -93,7 +93,8 @@ fn quiet_in_range(
     p1.0 <= PAD_MOST
 }
 
-// Gives a margin. Each of the five has this form: so many cycles of one clock less the spare ones, against so many of the other. Either clock may
+// Gives a margin. Each of the five has this form: so many cycles of one clock less the spare ones, against so many of
+// the other. Either clock may
 // come first, so these are bare numbers.
 fn margin(count: usize, spare: usize, cycle: usize, others: usize, other: usize) -> i64
     requires { ⌜ (count ≤ 65536) × (spare ≤ 65536) × (cycle ≤ 65536) × (others ≤ 65536) × (other ≤ 65536) ⌝ }
@@ -147,7 +148,12 @@ fn margin5(p1: WriterCycles, q: ReadCycles, w: TimeUnits, r: TimeUnits) -> i64
 
 // Answers yes or no by the signs of three margins.
 fn by_signs(m1: i64, m2: i64, m3: i64) -> Judged
-    ensures { λ x. ⌜ given (record { margins = record { m1 = m1; m2 = m2; m3 = m3 }; accepts = zeroOrMore m1 && zeroOrMore m2 && zeroOrMore m3 }) ≡ judgedSays x ⌝ }
+    ensures { λ x. ⌜ given
+        (record {
+          margins = record { m1 = m1; m2 = m2; m3 = m3 };
+          accepts =
+              zeroOrMore m1 && zeroOrMore m2 && zeroOrMore m3;
+        }) ≡ judgedSays x ⌝ }
 {
     let margins = Margins { m1, m2, m3 };
     if m1 < 0 {
@@ -164,7 +170,12 @@ fn by_signs(m1: i64, m2: i64, m3: i64) -> Judged
 
 // Answers yes or no by the signs of all five margins.
 fn quiet_by_signs(m1: i64, m2: i64, m3: i64, m4: i64, m5: i64) -> QuietJudged
-    ensures { λ x. ⌜ given (record { margins = record { m1 = m1; m2 = m2; m3 = m3; m4 = m4; m5 = m5 }; accepts = zeroOrMore m1 && zeroOrMore m2 && zeroOrMore m3 && zeroOrMore m4 && zeroOrMore m5 }) ≡ quietJudgedSays x ⌝ }
+    ensures { λ x. ⌜ given
+        (record {
+          margins = record { m1 = m1; m2 = m2; m3 = m3; m4 = m4; m5 = m5 };
+          accepts =
+              zeroOrMore m1 && zeroOrMore m2 && zeroOrMore m3 && zeroOrMore m4 && zeroOrMore m5;
+        }) ≡ quietJudgedSays x ⌝ }
 {
     let margins = QuietMargins { m1, m2, m3, m4, m5 };
     if m1 < 0 {
@@ -199,7 +210,8 @@ pub fn judge(a: WriterCycles, b: WriterCycles, k: ReadCycles, w: TimeUnits, r: T
     )
 }
 
-// The quiet judge. Gives all five margins, and yes exactly if all five are zero or more. Refuses with 1 a setting out of range.
+// The quiet judge. Gives all five margins, and yes exactly if all five are zero or more. Refuses with 1 a setting out
+// of range.
 pub fn judge_quiet(
     a: WriterCycles,
     b: WriterCycles,

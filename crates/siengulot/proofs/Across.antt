@@ -5,5 +5,7 @@ use mathlib.Core.List.{List}
 use Rattle.measure.specs.Refusals.{Answer}
 use Rattle.siengulot.specs.Crossing.{crossing}
 
-pub across : {A X : Type 0} (crosses : Answer A → X) {outcome : Answer A × List ℕ} {told : Answer A} {output : List ℕ} {x : X} → outcome ≡ (told, output) → crosses told ≡ x → crossing crosses outcome ≡ (x, output)
+pub across : {A X : Type 0}
+    (crosses : Answer A → X) {outcome : Answer A × List ℕ} {told : Answer A} {output : List ℕ} {x : X}
+    → outcome ≡ (told, output) → crosses told ≡ x → crossing crosses outcome ≡ (x, output)
 across crosses {output = output} outcome answer = rw outcome (ap (λ x. (x, output)) answer)

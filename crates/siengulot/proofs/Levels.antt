@@ -12,6 +12,7 @@ last-fails true true = refl
 last-fails true false = refl
 last-fails false other = refl
 
-pub no-level : (k n level : ℕ) (reads output : List ℕ) → 1 < level → countedBits k n level reads output ≡ (refused 1 0, output)
+pub no-level : (k n level : ℕ) (reads output : List ℕ) → 1 < level
+    → countedBits k n level reads output ≡ (refused 1 0, output)
 unfolding countedBits
 no-level k n level reads output high = simp (lt-leb level 1 high, last-fails)

@@ -1,4 +1,5 @@
--- A receiver is had back from the numbers and bytes that it crosses as: each number is one of its fields, and each mode has a number of its own. So a run of calls from C is a run of the operations.
+-- A receiver is had back from the numbers and bytes that it crosses as: each number is one of its fields, and each mode
+-- has a number of its own. So a run of calls from C is a run of the operations.
 use mathlib.Core.Path.{_≡_, refl}
 use mathlib.Core.Bool.{Bool, true, false, _&&_}
 use Prim.Native.Nat.{ℕ, _≤_}
@@ -36,4 +37,5 @@ second false other both = cc
 
 -- what is standing keeps a byte for its level
 pub level-byte : (numbers : List ℕ) → standing numbers ≡ true → getD numbers 6 0 ≤ 255
-level-byte numbers h = leb-true (getD numbers 6 0) 255 (second (leb (getD numbers 3 0) 3) (leb (getD numbers 6 0) 255) h)
+level-byte numbers h =
+    leb-true (getD numbers 6 0) 255 (second (leb (getD numbers 3 0) 3) (leb (getD numbers 6 0) 255) h)

@@ -1,4 +1,5 @@
--- What crosses to C of an operation's answer: numbers, in place of the cases of an enum. Place and count are written with every answer; a refusal leaves margins, summaries and lists as they were.
+-- What crosses to C of an operation's answer: numbers, in place of the cases of an enum. Place and count are written
+-- with every answer; a refusal leaves margins, summaries and lists as they were.
 use Prim.Native.Nat.{ℕ}
 use mathlib.Core.Bool.{Bool, true, false}
 use mathlib.Core.List.{List, [], _∷_}
@@ -7,7 +8,8 @@ use Rattle.measure.specs.Refusals.{Answer, given, refused, refusedAfter}
 use Rattle.settings.specs.Answers.{Judgement, QuietJudgement}
 use Rattle.capture.specs.declared.Summary.{Summary}
 
--- The refusal's number (0: none), its place, and a count: of a result its length, with refusal 5 the bits found, and with any other refusal 0.
+-- The refusal's number (0: none), its place, and a count: of a result its length, with refusal 5 the bits found, and
+-- with any other refusal 0.
 pub record Crossed : Type 0 where
   pub number : ℕ
   pub place : ℕ
@@ -34,7 +36,8 @@ three j = j .margins .m1 ∷ j .margins .m2 ∷ j .margins .m3 ∷ []
 abbrev pub five : QuietJudgement → List ℤ
 five j = j .margins .m1 ∷ j .margins .m2 ∷ j .margins .m3 ∷ j .margins .m4 ∷ j .margins .m5 ∷ []
 
--- What crosses of a judgement: the refusal's number, whether the settings are accepted, and the margins. A refusal leaves the lent margins and says no.
+-- What crosses of a judgement: the refusal's number, whether the settings are accepted, and the margins. A refusal
+-- leaves the lent margins and says no.
 abbrev pub judged : {A : Type 0} → (A → List ℤ) → (A → Bool) → Answer A → List ℤ → ℕ × ℕ × List ℤ
 judged margins accepts (given j) lent = (0, flag (accepts j), margins j)
 judged margins accepts (refused number place) lent = (number, 0, lent)
@@ -47,7 +50,8 @@ judgedThree answer lent = judged three (λ (j : Judgement). j .accepts) answer l
 abbrev pub judgedFive : Answer QuietJudgement → List ℤ → ℕ × ℕ × List ℤ
 judgedFive answer lent = judged five (λ (j : QuietJudgement). j .accepts) answer lent
 
--- What crosses of a capture's summary: the refusal's number, its place, and k, n, Q and the numbers of reads and runs one behind another. A refusal leaves the lent numbers.
+-- What crosses of a capture's summary: the refusal's number, its place, and k, n, Q and the numbers of reads and runs
+-- one behind another. A refusal leaves the lent numbers.
 abbrev pub summed : List ℕ → Answer Summary → ℕ × ℕ × List ℕ
 summed lent (given s) = (0, 0, s .k .0 ∷ s .n ∷ s .q .0 ∷ s .reads .0 ∷ s .runs ∷ [])
 summed lent (refused number place) = (number, place, lent)

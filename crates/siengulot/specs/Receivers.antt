@@ -38,7 +38,8 @@ numbersOf x =
     ∷ x .found
     ∷ []
 
--- Numbers stand for a receiver where the fourth names a mode and the level is a byte. Other numbers are a state that is not well formed.
+-- Numbers stand for a receiver where the fourth names a mode and the level is a byte. Other numbers are a state that is
+-- not well formed.
 abbrev pub standing : List ℕ → Bool
 standing numbers = leb (getD numbers 3 0) 3 && leb (getD numbers 6 0) 255
 
@@ -63,7 +64,8 @@ pub record Lent : Type 0 where
   pub bytes : List ℕ
   pub row : List ℕ
 
--- What crosses of reads: the refusal's number (0: none) and place; the event, 0 for nothing, 1 for a row, 2 for a broken one; and the number of bits of a broken row, otherwise 0.
+-- What crosses of reads: the refusal's number (0: none) and place; the event, 0 for nothing, 1 for a row, 2 for a
+-- broken one; and the number of bits of a broken row, otherwise 0.
 pub record Told : Type 0 where
   pub number : ℕ
   pub place : ℕ
@@ -74,7 +76,8 @@ pub record Told : Type 0 where
 abbrev pub keeping : Receiver → List ℕ → Lent
 keeping next delivered = record { numbers = numbersOf next; bytes = next .bits; row = delivered }
 
--- What crosses of an answer, and what is lent afterwards. The row's bytes are written where a row is delivered, all 128 of them, and are otherwise left. A refusal leaves all that is lent.
+-- What crosses of an answer, and what is lent afterwards. The row's bytes are written where a row is delivered, all 128
+-- of them, and are otherwise left. A refusal leaves all that is lent.
 abbrev pub answered : Lent → Receiver → List ℕ → Answer Event → Told × Lent
 answered lent next delivered (given nothing) =
     (record { number = 0; place = 0; event = 0; found = 0 }, keeping next (lent .row))
@@ -97,7 +100,8 @@ noState = record { number = 1; place = 0; event = 0; found = 0 }
 -- one read
 unfoldable pub steppedLent : Lent → ℕ → Told × Lent
 steppedLent lent read =
-    choose (standing (lent .numbers)) (brought lent (stepped (receiverOf (lent .numbers) (lent .bytes)) read)) (noState, lent)
+    choose (standing (lent .numbers)) (brought lent (stepped (receiverOf (lent .numbers) (lent .bytes)) read))
+    (noState, lent)
 
 -- reads up to and with the first that brings an event, and how many were used: none with a refusal
 abbrev pub broughtBy : Lent → Outcome × ℕ → (Told × Lent) × ℕ

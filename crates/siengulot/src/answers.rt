@@ -18,7 +18,8 @@ const RAN_OUT: usize = 5;
 
 // A result of so many entries.
 fn gives(length: usize, place: &mut usize, count: &mut usize) -> usize
-    ensures { λ x. ⌜ crossed (given length) ≡ record { number = x; place = now (place .exit); count = now (count .exit) } ⌝ }
+    ensures { λ x. ⌜ crossed (given length)
+        ≡ record { number = x; place = now (place .exit); count = now (count .exit) } ⌝ }
 {
     *place = 0;
     *count = length;
@@ -27,7 +28,8 @@ fn gives(length: usize, place: &mut usize, count: &mut usize) -> usize
 
 // A refusal.
 pub fn refuses(refusal: Refusal, place: &mut usize, count: &mut usize) -> usize
-    ensures { λ x. ⌜ crossed (denied refusal) ≡ record { number = x; place = now (place .exit); count = now (count .exit) } ⌝ }
+    ensures { λ x. ⌜ crossed (denied refusal)
+        ≡ record { number = x; place = now (place .exit); count = now (count .exit) } ⌝ }
 {
     *place = measure::place(refusal);
     *count = 0;
@@ -36,7 +38,8 @@ pub fn refuses(refusal: Refusal, place: &mut usize, count: &mut usize) -> usize
 
 // What sending answers.
 pub fn of_sent(answer: Sent, place: &mut usize, count: &mut usize) -> usize
-    ensures { λ x. ⌜ crossed (sentSays answer) ≡ record { number = x; place = now (place .exit); count = now (count .exit) } ⌝ }
+    ensures { λ x. ⌜ crossed (sentSays answer)
+        ≡ record { number = x; place = now (place .exit); count = now (count .exit) } ⌝ }
 {
     match answer {
         Sent::Wave(cycles) => gives(cycles.0, place, count),
@@ -46,7 +49,8 @@ pub fn of_sent(answer: Sent, place: &mut usize, count: &mut usize) -> usize
 
 // What smooth answers.
 pub fn of_smoothed(answer: Smoothed, place: &mut usize, count: &mut usize) -> usize
-    ensures { λ x. ⌜ crossed (smoothedSays answer) ≡ record { number = x; place = now (place .exit); count = now (count .exit) } ⌝ }
+    ensures { λ x. ⌜ crossed (smoothedSays answer)
+        ≡ record { number = x; place = now (place .exit); count = now (count .exit) } ⌝ }
 {
     match answer {
         Smoothed::Wave(cycles) => gives(cycles.0, place, count),
@@ -56,7 +60,8 @@ pub fn of_smoothed(answer: Smoothed, place: &mut usize, count: &mut usize) -> us
 
 // What warp and settle answer.
 pub fn of_read(answer: Read, place: &mut usize, count: &mut usize) -> usize
-    ensures { λ x. ⌜ crossed (readSays answer) ≡ record { number = x; place = now (place .exit); count = now (count .exit) } ⌝ }
+    ensures { λ x. ⌜ crossed (readSays answer)
+        ≡ record { number = x; place = now (place .exit); count = now (count .exit) } ⌝ }
 {
     match answer {
         Read::Reads(reads) => gives(reads.0, place, count),
@@ -66,7 +71,8 @@ pub fn of_read(answer: Read, place: &mut usize, count: &mut usize) -> usize
 
 // What the counted receiver answers: also after refusal 5 the count is of the bits found.
 pub fn of_counted(answer: Counted, place: &mut usize, count: &mut usize) -> usize
-    ensures { λ x. ⌜ crossed (countedSays answer) ≡ record { number = x; place = now (place .exit); count = now (count .exit) } ⌝ }
+    ensures { λ x. ⌜ crossed (countedSays answer)
+        ≡ record { number = x; place = now (place .exit); count = now (count .exit) } ⌝ }
 {
     match answer {
         Counted::Bits(found) => gives(found, place, count),
@@ -81,7 +87,8 @@ pub fn of_counted(answer: Counted, place: &mut usize, count: &mut usize) -> usiz
 
 // What writing a capture answers.
 pub fn of_written(answer: Written, place: &mut usize, count: &mut usize) -> usize
-    ensures { λ x. ⌜ crossed (writtenSays answer) ≡ record { number = x; place = now (place .exit); count = now (count .exit) } ⌝ }
+    ensures { λ x. ⌜ crossed (writtenSays answer)
+        ≡ record { number = x; place = now (place .exit); count = now (count .exit) } ⌝ }
 {
     match answer {
         Written::Bytes(length) => gives(length, place, count),

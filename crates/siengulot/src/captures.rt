@@ -8,7 +8,8 @@ use measure::ReadCycles;
 
 // What checking and reading answer: the summary is put behind the lent numbers, and a refusal leaves these.
 fn of_checked(answer: Checked, summary: &mut [usize; 5], place: &mut usize) -> usize
-    ensures { λ x. ⌜ summed (now (summary .entry)) (checkedSays answer) ≡ (x, now (place .exit), now (summary .exit)) ⌝ }
+    ensures { λ x. ⌜ summed (now (summary .entry)) (checkedSays answer)
+        ≡ (x, now (place .exit), now (summary .exit)) ⌝ }
 {
     match answer {
         Checked::Capture(s) => {
@@ -31,7 +32,8 @@ pub extern "C" fn siengulot_capture_check(
     summary: &mut [usize; 5],
     place: &mut usize,
 ) -> usize
-    ensures { λ x. ⌜ summed (now (summary .entry)) (checked (now (bytes .entry))) ≡ (x, now (place .exit), now (summary .exit)) ⌝ }
+    ensures { λ x. ⌜ summed (now (summary .entry)) (checked (now (bytes .entry)))
+        ≡ (x, now (place .exit), now (summary .exit)) ⌝ }
 {
     let answer = capture::check(bytes);
     of_checked(answer, summary, place)
@@ -46,14 +48,17 @@ pub extern "C" fn siengulot_capture_read(
     summary: &mut [usize; 5],
     place: &mut usize,
 ) -> usize
-    ensures { λ x. ⌜ crossing (summed (now (summary .entry))) (readBack (now (bytes .entry)) (now (out .entry))) ≡ ((x, now (place .exit), now (summary .exit)), now (out .exit)) ⌝ }
+    ensures { λ x. ⌜ crossing (summed (now (summary .entry))) (readBack (now (bytes .entry)) (now (out .entry)))
+        ≡ ((x, now (place .exit), now (summary .exit)), now (out .exit)) ⌝ }
 {
     let answer = capture::read_capture(bytes, out);
     of_checked(answer, summary, place)
 }
 
-// Writes reads as a capture. Gives in `count` its number of bytes, which stand at the output's front; the rest is untouched.
-// Refuses with 1 (k, n or Q), 3 (more than 1,048,576 reads), 2 (the place of the first entry that is no level), 4: the output is left, and `count` is 0.
+// Writes reads as a capture. Gives in `count` its number of bytes, which stand at the output's front; the rest is
+// untouched.
+// Refuses with 1 (k, n or Q), 3 (more than 1,048,576 reads), 2 (the place of the first entry that is no level), 4: the
+// output is left, and `count` is 0.
 #[no_mangle]
 pub extern "C" fn siengulot_capture_write(
     k: usize,
@@ -64,7 +69,8 @@ pub extern "C" fn siengulot_capture_write(
     place: &mut usize,
     count: &mut usize,
 ) -> usize
-    ensures { λ x. ⌜ crossing crossed (written k n q (now (reads .entry)) (now (out .entry))) ≡ (record { number = x; place = now (place .exit); count = now (count .exit) }, now (out .exit)) ⌝ }
+    ensures { λ x. ⌜ crossing crossed (written k n q (now (reads .entry)) (now (out .entry)))
+        ≡ (record { number = x; place = now (place .exit); count = now (count .exit) }, now (out .exit)) ⌝ }
 {
     let answer = capture::write_capture(ReadCycles(k), n, ReadCycles(q), reads, out);
     of_written(answer, place, count)

@@ -37,7 +37,8 @@ pub extern "C" fn siengulot_judge(
     margins: &mut [i64; 3],
     accepted: &mut usize,
 ) -> usize
-    ensures { λ x. ⌜ judgedThree (judgement a b k w r) (now (margins .entry)) ≡ (x, now (accepted .exit), now (margins .exit)) ⌝ }
+    ensures { λ x. ⌜ judgedThree (judgement a b k w r) (now (margins .entry))
+        ≡ (x, now (accepted .exit), now (margins .exit)) ⌝ }
 {
     let answer = settings::judge(
         WriterCycles(a),
@@ -78,7 +79,8 @@ pub extern "C" fn siengulot_judge_quiet(
     margins: &mut [i64; 5],
     accepted: &mut usize,
 ) -> usize
-    ensures { λ x. ⌜ judgedFive (quietJudgement a b k w r q p1) (now (margins .entry)) ≡ (x, now (accepted .exit), now (margins .exit)) ⌝ }
+    ensures { λ x. ⌜ judgedFive (quietJudgement a b k w r q p1) (now (margins .entry))
+        ≡ (x, now (accepted .exit), now (margins .exit)) ⌝ }
 {
     let answer = settings::judge_quiet(
         WriterCycles(a),

@@ -1,7 +1,8 @@
 // The row receiver: starting, one read, and reads up to the first event, on a receiver that C lends.
 ghost use mathlib.Core.Path.{_≡_};
 ghost use Rattle.board.specs.Answers.{begun, eventSays};
-ghost use Rattle.siengulot.specs.Receivers.{answered, noState, steppedLent, listenedLent, wellFormedLent, begunLent};
+ghost use Rattle.siengulot.specs.Receivers.{answered, noState, steppedLent, listenedLent, wellFormedLent};
+ghost use Rattle.siengulot.specs.Receivers.{begunLent};
 use crate::state::keep;
 use crate::state::receiver_of;
 use crate::state::stands;
@@ -18,7 +19,8 @@ const ROW: usize = 1;
 
 const BROKEN: usize = 2;
 
-// Hands over what reads brought: the next receiver, and a row where one is delivered. A refusal leaves the receiver and the row's bytes as they are lent.
+// Hands over what reads brought: the next receiver, and a row where one is delivered. A refusal leaves the receiver and
+// the row's bytes as they are lent.
 fn hand_over(
     next: Receiver,
     happened: Event,
@@ -30,8 +32,13 @@ fn hand_over(
     found: &mut usize,
     place: &mut usize,
 ) -> usize
-    ensures { λ x. ⌜ answered (record { numbers = now (numbers .entry); bytes = now (bytes .entry); row = now (row .entry) }) next delivered (eventSays (next .n) delivered happened)
-        ≡ (record { number = x; place = now (place .exit); event = now (event .exit); found = now (found .exit) }, record { numbers = now (numbers .exit); bytes = now (bytes .exit); row = now (row .exit) }) ⌝ }
+    ensures { λ x. ⌜ answered
+        (record { numbers = now (numbers .entry); bytes = now (bytes .entry); row = now (row .entry) }) next delivered
+        (eventSays (next .n) delivered happened)
+        ≡ (
+          record { number = x; place = now (place .exit); event = now (event .exit); found = now (found .exit) },
+          record { numbers = now (numbers .exit); bytes = now (bytes .exit); row = now (row .exit) },
+        ) ⌝ }
 {
     *event = NOTHING;
     *found = 0;
@@ -62,7 +69,8 @@ fn hand_over(
 
 // Hands over refusal 1 of numbers that stand for no receiver.
 fn refuse_state(event: &mut usize, found: &mut usize, place: &mut usize) -> usize
-    ensures { λ x. ⌜ noState ≡ record { number = x; place = now (place .exit); event = now (event .exit); found = now (found .exit) } ⌝ }
+    ensures { λ x. ⌜ noState
+        ≡ record { number = x; place = now (place .exit); event = now (event .exit); found = now (found .exit) } ⌝ }
 {
     *event = NOTHING;
     *found = 0;
@@ -104,8 +112,10 @@ pub extern "C" fn siengulot_well_formed(numbers: &[usize; 8], bytes: &[u8; 128])
     if receiver.well_formed() { 1 } else { 0 }
 }
 
-// Gives a receiver one read, and in `event` what it brings: 0 nothing, 1 a row, whose bits stand in `row`, 2 a broken row, of so many bits in `found`.
-// Refuses with 1 a state that is not well formed, with 2 a read that is no level, with place 0: receiver and row are left, and `event` and `found` are 0.
+// Gives a receiver one read, and in `event` what it brings: 0 nothing, 1 a row, whose bits stand in `row`, 2 a broken
+// row, of so many bits in `found`.
+// Refuses with 1 a state that is not well formed, with 2 a read that is no level, with place 0: receiver and row are
+// left, and `event` and `found` are 0.
 #[no_mangle]
 pub extern "C" fn siengulot_step(
     numbers: &mut [usize; 8],
@@ -116,8 +126,12 @@ pub extern "C" fn siengulot_step(
     found: &mut usize,
     place: &mut usize,
 ) -> usize
-    ensures { λ x. ⌜ steppedLent (record { numbers = now (numbers .entry); bytes = now (bytes .entry); row = now (row .entry) }) read
-        ≡ (record { number = x; place = now (place .exit); event = now (event .exit); found = now (found .exit) }, record { numbers = now (numbers .exit); bytes = now (bytes .exit); row = now (row .exit) }) ⌝ }
+    ensures { λ x. ⌜ steppedLent
+        (record { numbers = now (numbers .entry); bytes = now (bytes .entry); row = now (row .entry) }) read
+        ≡ (
+          record { number = x; place = now (place .exit); event = now (event .exit); found = now (found .exit) },
+          record { numbers = now (numbers .exit); bytes = now (bytes .exit); row = now (row .exit) },
+        ) ⌝ }
 {
     if !stands(numbers) {
         return refuse_state(event, found, place);
@@ -140,8 +154,10 @@ pub extern "C" fn siengulot_step(
     )
 }
 
-// Gives a receiver reads up to and with the first that brings an event, or all: `event`, `row` and `found` as above, and in `used` how many reads that took.
-// Refuses with 1 a state that is not well formed, 3 (more than 1,048,576 reads), 2 (the place of the first read that is no level where no event comes
+// Gives a receiver reads up to and with the first that brings an event, or all: `event`, `row` and `found` as above,
+// and in `used` how many reads that took.
+// Refuses with 1 a state that is not well formed, 3 (more than 1,048,576 reads), 2 (the place of the first read that is
+// no level where no event comes
 // before it): receiver and row are left, and `event`, `found` and `used` are 0.
 #[no_mangle]
 pub extern "C" fn siengulot_listen(
@@ -154,8 +170,16 @@ pub extern "C" fn siengulot_listen(
     used: &mut usize,
     place: &mut usize,
 ) -> usize
-    ensures { λ x. ⌜ listenedLent (record { numbers = now (numbers .entry); bytes = now (bytes .entry); row = now (row .entry) }) (now (reads .entry))
-        ≡ ((record { number = x; place = now (place .exit); event = now (event .exit); found = now (found .exit) }, record { numbers = now (numbers .exit); bytes = now (bytes .exit); row = now (row .exit) }), now (used .exit)) ⌝ }
+    ensures { λ x. ⌜ listenedLent
+        (record { numbers = now (numbers .entry); bytes = now (bytes .entry); row = now (row .entry) })
+        (now (reads .entry))
+        ≡ (
+          (
+            record { number = x; place = now (place .exit); event = now (event .exit); found = now (found .exit) },
+            record { numbers = now (numbers .exit); bytes = now (bytes .exit); row = now (row .exit) },
+          ),
+          now (used .exit),
+        ) ⌝ }
 {
     if !stands(numbers) {
         *used = 0;

@@ -18,19 +18,22 @@ fits1 c = sym (c .before .settings-fit .ensures) ∙ not-false _ (c .if1 .left)
 abbrev start2 : tie.Else2 → tie.Start
 start2 c = start1 (c .before .before)
 
-fits2 : (c : tie.Else2) → runFits (start2 c .args .numbers .mode) (start2 c .args .numbers .run) (start2 c .args .q) ≡ true
+fits2 : (c : tie.Else2)
+    → runFits (start2 c .args .numbers .mode) (start2 c .args .numbers .run) (start2 c .args .q) ≡ true
 fits2 c = c .before .run-fits .ensures ∙ not-false _ (c .if2 .left)
 
 abbrev start3 : tie.Else3 → tie.Start
 start3 c = start2 (c .before .before)
 
-fits3 : (c : tie.Else3) → leftFits (start3 c .args .numbers .mode) (start3 c .args .numbers .left) (start3 c .args .k) ≡ true
+fits3 : (c : tie.Else3)
+    → leftFits (start3 c .args .numbers .mode) (start3 c .args .numbers .left) (start3 c .args .k) ≡ true
 fits3 c = c .before .left-fits .ensures ∙ not-false _ (c .if3 .left)
 
 abbrev start4 : tie.Else4 → tie.Start
 start4 c = start3 (c .before .before)
 
-fits4 : (c : tie.Else4) → foundFits (start4 c .args .numbers .mode) (start4 c .args .numbers .found) (start4 c .args .n) ≡ true
+fits4 : (c : tie.Else4)
+    → foundFits (start4 c .args .numbers .mode) (start4 c .args .numbers .found) (start4 c .args .n) ≡ true
 fits4 c = c .before .found-fits .ensures ∙ not-false _ (c .if4 .left)
 
 abbrev start5 : tie.Else5 → tie.Start
@@ -58,7 +61,8 @@ left-fits-requires c κs = search needs
 
 returns-3 : tie.Need-returns-3
 unfolding wellFormed
-returns-3 c = let d = c .before .before in simp (fits1 (d .before .before), fits2 d, c .before .left-fits .ensures ∙ not-true _ (c .if3 .taken))
+returns-3 c = let d = c .before .before in
+    simp (fits1 (d .before .before), fits2 d, c .before .left-fits .ensures ∙ not-true _ (c .if3 .taken))
 
 found-fits-requires : tie.Need-found-fits-requires
 found-fits-requires c κs = search needs
@@ -79,14 +83,22 @@ returns-5 c =
     let d = c .before .before in
     let e = d .before .before in
     let f = e .before .before in
-    simp (fits1 (f .before .before), fits2 f, fits3 e, fits4 d, c .before .level-fits .ensures ∙ not-true _ (c .if5 .taken))
+    simp (
+      fits1 (f .before .before),
+      fits2 f,
+      fits3 e,
+      fits4 d,
+      c .before .level-fits .ensures
+          ∙ not-true _ (c .if5 .taken),
+    )
 
 unused-zero-requires : tie.Need-unused-zero-requires
 unused-zero-requires c κs =
     let b = c .before in
     let d = b .before .before in
     let a = start5 b .args in
-    found-fits-most (a .numbers .mode) (a .k) (a .n) (a .q) (a .numbers .found) (fits1 (d .before .before .before .before .before .before)) (fits4 d)
+    found-fits-most (a .numbers .mode) (a .k) (a .n) (a .q) (a .numbers .found)
+    (fits1 (d .before .before .before .before .before .before)) (fits4 d)
 
 returns-6 : tie.Need-returns-6
 unfolding wellFormed

@@ -1,4 +1,5 @@
--- `from_counting` meets its contract: a turn takes a cell, from its mark to the next, and the outcome from the start is the outcome from there.
+-- `from_counting` meets its contract: a turn takes a cell, from its mark to the next, and the outcome from the start is
+-- the outcome from there.
 use Prim.Native.Nat.{ℕ, _+_, _-_, _<_, _≤_}
 use mathlib.Core.Path.{_≡_, refl, sym, _∙_, ap}
 use mathlib.Core.List.{List, [], _∷_, _++_}
@@ -17,7 +18,8 @@ use Rattle.board.specs.Answers.{Outcome}
 use Rattle.board.specs.Listening.{settings, keeping, Keeps, heardFrom, soughtSays, Lands}
 use Rattle.board.proofs.PackedBits.{Binary}
 use Rattle.board.proofs.RowRules.{Ranged, Fitting, bit-most}
-use Rattle.board.proofs.KeepingLaws.{bitsIn, kept-valid, kept-length, kept-bytes, counting-kept, counting-fits, kept-room, kept-more, more-length, more-binary}
+use Rattle.board.proofs.KeepingLaws.{bitsIn, kept-valid, kept-length, kept-bytes, counting-kept, counting-fits}
+use Rattle.board.proofs.KeepingLaws.{kept-room, kept-more, more-length, more-binary}
 use Rattle.board.proofs.CellLaws.{row-full, row-on, Marked, mark-keeps, mark-heard}
 use Rattle.board.proofs.from_counting.Statement.{statement}
 use Rattle.board.proofs.from_counting.Tie as tie
@@ -25,7 +27,8 @@ use Rattle.board.proofs.from_counting.Tie as tie
 abbrev Inv-loop : tie.InvT-loop
 Inv-loop reads from bits₀ k n q i₀ numbers₀ bits i numbers =
     (i ≤ length reads) × (numbers .mode ≡ Counting) × Keeps (settings k n q) numbers bits
-    × ((x : Receiver) → heardFrom x (settings k n q) (stateOf (keeping (settings k n q) numbers₀ bits₀)) from (drop from reads)
+    × ((x : Receiver)
+    → heardFrom x (settings k n q) (stateOf (keeping (settings k n q) numbers₀ bits₀)) from (drop from reads)
     ≡ heardFrom x (settings k n q) (stateOf (keeping (settings k n q) numbers bits)) i (drop i reads))
 
 abbrev μ-loop : tie.MeasureT-loop
@@ -37,7 +40,8 @@ g s = settings (s .args .k) (s .args .n) (s .args .q)
 -- the outcome that the contract asks for
 abbrev asked : tie.Start Inv-loop μ-loop → Receiver → Outcome × ℕ
 asked s x =
-    heardFrom x (g s) (stateOf (keeping (g s) (s .args .start) (now (s .args .bits)))) (s .args .from) (drop (s .args .from) (now (s .args .reads)))
+    heardFrom x (g s) (stateOf (keeping (g s) (s .args .start) (now (s .args .bits)))) (s .args .from)
+    (drop (s .args .from) (now (s .args .reads)))
 
 -- at the head of a turn, in counting
 
@@ -51,7 +55,8 @@ abbrev with-bit : tie.At-loop Inv-loop μ-loop → ℕ → List ℕ
 with-bit h read = so-far h ++ bitOf (h .loop .numbers .level) read ∷ []
 
 fits : (h : tie.At-loop Inv-loop μ-loop)
-    → Fitting Counting (g (start h)) (h .loop .numbers .run) (h .loop .numbers .left) (h .loop .numbers .found) (h .loop .numbers .level)
+    → Fitting Counting (g (start h)) (h .loop .numbers .run) (h .loop .numbers .left) (h .loop .numbers .found)
+    (h .loop .numbers .level)
 fits h = counting-fits (g (start h)) (h .loop .numbers) (h .loop .bits) (h .loop .inv .2) (h .loop .inv .1)
 
 range : (h : tie.At-loop Inv-loop μ-loop) → Ranged (g (start h))
@@ -70,16 +75,19 @@ to-sample-requires c κs = (c .loop .inv .0, fits c .0, fits c .1)
 
 abbrev sample-told : tie.At-loop Inv-loop μ-loop → Receiver → Sought → Outcome × ℕ
 sample-told h x sought =
-    soughtSays x (g (start h)) (λ run read. collected (g (start h)) run read (with-bit h read)) (so-far h) (now (start h .args .reads)) sought
+    soughtSays x (g (start h)) (λ run read. collected (g (start h)) run read (with-bit h read)) (so-far h)
+    (now (start h .args .reads)) sought
 
-sampled : (c : tie.After-to-sample Inv-loop μ-loop) (x : Receiver) → asked (start (c .before)) x ≡ sample-told (c .before) x (c .to-sample .result)
+sampled : (c : tie.After-to-sample Inv-loop μ-loop) (x : Receiver)
+    → asked (start (c .before)) x ≡ sample-told (c .before) x (c .to-sample .result)
 sampled c x =
     let h = c .before in
     let s = start h in
     h .loop .inv .3 x
     ∙ ap (λ (t : State). heardFrom x (g s) t (h .loop .i) (drop (h .loop .i) (now (s .args .reads))))
     (counting-kept (g s) (h .loop .numbers) (h .loop .bits) (h .loop .inv .2) (h .loop .inv .1))
-    ∙ c .to-sample .ensures .1 x (s .args .k) (s .args .n) (so-far h) (kept-length (g s) (h .loop .numbers) (h .loop .bits) (h .loop .inv .2))
+    ∙ c .to-sample .ensures .1 x (s .args .k) (s .args .n) (so-far h)
+    (kept-length (g s) (h .loop .numbers) (h .loop .bits) (h .loop .inv .2))
 
 enum-known-sampled : tie.Need-enum-known-sampled Inv-loop μ-loop
 enum-known-sampled c = search needs
@@ -88,7 +96,8 @@ returns : tie.Need-returns Inv-loop μ-loop
 returns c = λ x.
     let t = c .before .before .before in
     let h = t .before in
-    sampled t x ∙ ap (sample-told h x) (c .before .sampled .given .1) ∙ rw (kept-bytes (g (start h)) (h .loop .numbers) (h .loop .bits) (h .loop .inv .2))
+    sampled t x ∙ ap (sample-told h x) (c .before .sampled .given .1)
+    ∙ rw (kept-bytes (g (start h)) (h .loop .numbers) (h .loop .bits) (h .loop .inv .2))
 
 enum-known-sampled-2 : tie.Need-enum-known-sampled-2 Inv-loop μ-loop
 enum-known-sampled-2 c = search needs
@@ -118,20 +127,27 @@ more p = with-bit (head p) (read p)
 more-kept : (p : tie.After-put Inv-loop μ-loop) → kept (more p) ≡ p .put .last .0
 more-kept p =
     let h = head p in
-    kept-more (g (start h)) (h .loop .numbers) (h .loop .bits) (h .loop .inv .2) (bitOf (h .loop .numbers .level) (read p)) (room h) ∙ p .put .ensures
+    kept-more (g (start h)) (h .loop .numbers) (h .loop .bits) (h .loop .inv .2)
+    (bitOf (h .loop .numbers .level) (read p)) (room h) ∙ p .put .ensures
 
 more-found : (p : tie.After-put Inv-loop μ-loop) → length (more p) ≡ head p .loop .numbers .found + 1
-more-found p = let h = head p in more-length (g (start h)) (h .loop .numbers) (h .loop .bits) (h .loop .inv .2) (bitOf (h .loop .numbers .level) (read p))
+more-found p = let h = head p in
+    more-length (g (start h)) (h .loop .numbers) (h .loop .bits) (h .loop .inv .2)
+    (bitOf (h .loop .numbers .level) (read p))
 
 more-bits : (p : tie.After-put Inv-loop μ-loop) → Binary (more p)
 more-bits p =
     let h = head p in
-    more-binary (g (start h)) (h .loop .numbers) (h .loop .bits) (h .loop .inv .2) (bitOf (h .loop .numbers .level) (read p))
+    more-binary (g (start h)) (h .loop .numbers) (h .loop .bits) (h .loop .inv .2)
+    (bitOf (h .loop .numbers .level) (read p))
     (bit-most (h .loop .numbers .level) (read p))
 
 landed : (p : tie.After-put Inv-loop μ-loop)
-    → Lands (head p .loop .i) (length (now (start (head p) .args .reads))) (start (head p) .args .q) (Found (used p) (run p) (read p))
-landed p = rw (p .before .before .before .sampled2 .given .1) at (p .before .before .before .before .before .to-sample .ensures .0)
+    → Lands (head p .loop .i) (length (now (start (head p) .args .reads))) (start (head p) .args .q)
+    (Found (used p) (run p) (read p))
+landed p =
+    rw (p .before .before .before .sampled2 .given .1) at
+    (p .before .before .before .before .before .to-sample .ensures .0)
 
 add-found : tie.Need-add-found Inv-loop μ-loop
 add-found c = omega (arith, room (head (c .before)))
@@ -142,7 +158,8 @@ returns-2 c = λ x.
     let h = head p in
     sampled (p .before .before .before .before .before) x
     ∙ ap (sample-told h x) (p .before .before .before .sampled2 .given .1)
-    ∙ row-full x (g (start h)) (run p) (read p) (used p) (length (now (start h .args .reads))) (more p) _ _ (more-bits p) (more-found p ∙ c .if1 .taken)
+    ∙ row-full x (g (start h)) (run p) (read p) (used p) (length (now (start h .args .reads))) (more p) _ _
+    (more-bits p) (more-found p ∙ c .if1 .taken)
     (range h .n-most) (more-kept p)
 
 -- on to the mark
@@ -155,10 +172,12 @@ put-of c = c .before .before .before
 
 abbrev mark-told : tie.After-put Inv-loop μ-loop → Receiver → Sought → Outcome × ℕ
 mark-told p x sought =
-    soughtSays x (g (start (head p))) (λ then level. marked (g (start (head p))) (waiting (read p) (run p) (more p)) then level) (more p)
+    soughtSays x (g (start (head p)))
+    (λ then level. marked (g (start (head p))) (waiting (read p) (run p) (more p)) then level) (more p)
     (now (start (head p) .args .reads)) sought
 
-waited : (c : tie.After-to-mark Inv-loop μ-loop) (x : Receiver) → asked (start (head (put-of c))) x ≡ mark-told (put-of c) x (c .to-mark .result)
+waited : (c : tie.After-to-mark Inv-loop μ-loop) (x : Receiver)
+    → asked (start (head (put-of c))) x ≡ mark-told (put-of c) x (c .to-mark .result)
 waited c x =
     let p = put-of c in
     let s = start (head p) in
@@ -182,12 +201,14 @@ abbrev put-before : tie.After-marked2 Inv-loop μ-loop → tie.After-put Inv-loo
 put-before m = put-of (m .before .before)
 
 mark-landed : (m : tie.After-marked2 Inv-loop μ-loop)
-    → Lands (used (put-before m)) (length (now (start (head (put-before m)) .args .reads))) (start (head (put-before m)) .args .q)
+    → Lands (used (put-before m)) (length (now (start (head (put-before m)) .args .reads)))
+    (start (head (put-before m)) .args .q)
     (Found (m .marked2 .given .0 .0) (m .marked2 .given .0 .1 .0) (m .marked2 .given .0 .1 .1 .0))
 mark-landed m = rw (m .marked2 .given .1) at (m .before .before .to-mark .ensures .0)
 
 at-mark : (m : tie.After-marked2 Inv-loop μ-loop)
-    → Marked (g (start (head (put-before m)))) (m .marked2 .given .0 .1 .0) (m .marked2 .given .0 .1 .1 .0) (head (put-before m) .loop .numbers .found + 1)
+    → Marked (g (start (head (put-before m)))) (m .marked2 .given .0 .1 .0) (m .marked2 .given .0 .1 .1 .0)
+    (head (put-before m) .loop .numbers .found + 1)
     (more (put-before m)) (put-before m .put .last .0)
 at-mark m =
     let p = put-before m in
@@ -210,7 +231,8 @@ loop-again c =
       mark-landed m .1,
       refl,
       mark-keeps (at-mark m),
-      λ x. waited (m .before .before) x ∙ ap (mark-told (put-before m) x) (m .marked2 .given .1) ∙ mark-heard (at-mark m) x _ _,
+      λ x. waited (m .before .before) x ∙ ap (mark-told (put-before m) x) (m .marked2 .given .1)
+          ∙ mark-heard (at-mark m) x _ _,
     )
 
 pub from-counting-spec : {M : Type 1} → statement M

@@ -1,4 +1,5 @@
--- `from_hunting` meets its contract: until the run is q a read changes the run alone, and with that read the mode is ready.
+-- `from_hunting` meets its contract: until the run is q a read changes the run alone, and with that read the mode is
+-- ready.
 use Prim.Native.Nat.{_-_, _<_, _≤_}
 use mathlib.Core.Path.{_≡_, refl, sym, _∙_}
 use mathlib.Core.List.{[]}
@@ -18,7 +19,9 @@ use Rattle.board.proofs.from_hunting.Tie as tie
 abbrev Inv-loop : tie.InvT-loop
 Inv-loop reads bits₀ run k n q i₀ high₀ bits i high =
     (i ≤ length reads) × (high < q) × (kept [] ≡ bits)
-    × ((x : Receiver) → heardFrom x (settings k n q) (hunting run) 0 reads ≡ heardFrom x (settings k n q) (hunting high) i (drop i reads))
+    × ((x : Receiver)
+    → heardFrom x (settings k n q) (hunting run) 0 reads
+    ≡ heardFrom x (settings k n q) (hunting high) i (drop i reads))
 
 abbrev μ-loop : tie.MeasureT-loop
 μ-loop reads bits₀ run k n q i₀ high₀ bits i high = length reads - i
@@ -39,7 +42,8 @@ returns : tie.Need-returns Inv-loop μ-loop
 returns c = λ x.
     let s = c .before .before .before .before .before in
     let l = c .before .before .before .loop in
-    l .inv .3 x ∙ heard-bad x (g s) _ (l .i) (now (s .args .reads)) (c .before .before .loop-test .taken) (c .if1 .taken)
+    l .inv .3 x
+    ∙ heard-bad x (g s) _ (l .i) (now (s .args .reads)) (c .before .before .loop-test .taken) (c .if1 .taken)
 
 add-i : tie.Need-add-i Inv-loop μ-loop
 add-i c = omega arith
@@ -59,8 +63,11 @@ returns-2 c = λ x.
     let s = c .before .before .before .before .before .before .before .before .before in
     let l = c .before .before .before .before .before .before .before .loop in
     l .inv .3 x
-    ∙ heard-move x (g s) _ _ (l .i) (now (s .args .reads)) (c .before .before .before .before .before .before .loop-test .taken) (c .before .before .before .before .if1 .left)
-    (next-quiet (g s) (hunting (l .high)) _ (l .inv .1) (c .before .before .before .longer .ensures ∙ c .before .before .if2 .taken))
+    ∙ heard-move x (g s) _ _ (l .i) (now (s .args .reads))
+    (c .before .before .before .before .before .before .loop-test .taken)
+    (c .before .before .before .before .if1 .left)
+    (next-quiet (g s) (hunting (l .high)) _ (l .inv .1)
+    (c .before .before .before .longer .ensures ∙ c .before .before .if2 .taken))
     ∙ c .from-ready .ensures x
 
 loop-less : tie.Need-loop-less Inv-loop μ-loop
@@ -78,7 +85,8 @@ loop-again c =
       omega (arith, longer-most (s .args .q) (l .high) read (l .inv .1), on),
       l .inv .2,
       λ x. l .inv .3 x
-          ∙ heard-move x (g s) _ _ (l .i) (now (s .args .reads)) (c .before .before .before .before .loop-test .taken) (c .before .before .if1 .left)
+          ∙ heard-move x (g s) _ _ (l .i) (now (s .args .reads)) (c .before .before .before .before .loop-test .taken)
+          (c .before .before .if1 .left)
           (next-on (g s) (hunting (l .high)) read (l .inv .1) on),
     )
 

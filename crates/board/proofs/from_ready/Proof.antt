@@ -1,4 +1,5 @@
--- `from_ready` meets its contract: a high read leaves ready as it is, and a low one is the mark from which counting goes on.
+-- `from_ready` meets its contract: a high read leaves ready as it is, and a low one is the mark from which counting
+-- goes on.
 use Prim.Native.Nat.{_-_, _≤_}
 use mathlib.Core.Path.{_≡_, refl, _∙_}
 use mathlib.Core.List.{[]}
@@ -20,7 +21,9 @@ use Rattle.board.proofs.from_ready.Tie as tie
 abbrev Inv-loop : tie.InvT-loop
 Inv-loop reads from bits₀ k n q i₀ bits i =
     (i ≤ length reads) × (kept [] ≡ bits)
-    × ((x : Receiver) → heardFrom x (settings k n q) (ready q) from (drop from reads) ≡ heardFrom x (settings k n q) (ready q) i (drop i reads))
+    × ((x : Receiver)
+    → heardFrom x (settings k n q) (ready q) from (drop from reads)
+    ≡ heardFrom x (settings k n q) (ready q) i (drop i reads))
 
 abbrev μ-loop : tie.MeasureT-loop
 μ-loop reads from bits₀ k n q i₀ bits i = length reads - i
@@ -54,7 +57,8 @@ returns : tie.Need-returns Inv-loop μ-loop
 returns c = λ x.
     let s = c .before .before .before .before .before in
     let l = c .before .before .before .loop in
-    l .inv .2 x ∙ heard-bad x (g s) _ (l .i) (now (s .args .reads)) (c .before .before .loop-test .taken) (c .if1 .taken)
+    l .inv .2 x
+    ∙ heard-bad x (g s) _ (l .i) (now (s .args .reads)) (c .before .before .loop-test .taken) (c .if1 .taken)
 
 add-i : tie.Need-add-i Inv-loop μ-loop
 add-i c = omega arith
@@ -67,7 +71,8 @@ returns-2 c = λ x.
     let s = c .before .before .before .before .before .before .before .before in
     let l = c .before .before .before .before .before .before in
     l .loop .inv .2 x
-    ∙ heard-move x (g s) _ _ (l .loop .i) (now (s .args .reads)) (c .before .before .before .before .before .loop-test .taken) (c .before .before .before .if1 .left)
+    ∙ heard-move x (g s) _ _ (l .loop .i) (now (s .args .reads))
+    (c .before .before .before .before .before .loop-test .taken) (c .before .before .before .if1 .left)
     (ready-low (g s) _ (omega (arith, range s .Q-least)) (c .before .before .if2 .taken))
     ∙ mark-heard (mark l) x _ _
     ∙ c .from-counting .ensures x
@@ -82,7 +87,8 @@ loop-again c =
       omega arith,
       l .inv .1,
       λ x. l .inv .2 x
-          ∙ heard-move x (g s) _ _ (l .i) (now (s .args .reads)) (c .before .before .before .loop-test .taken) (c .before .if1 .left)
+          ∙ heard-move x (g s) _ _ (l .i) (now (s .args .reads)) (c .before .before .before .loop-test .taken)
+          (c .before .if1 .left)
           (ready-high (g s) _ (omega (arith, c .before .if1 .left, c .if2 .left))),
     )
 

@@ -23,7 +23,8 @@ use Rattle.board.proofs.from_waiting.Tie as tie
 abbrev g : tie.Start → Settings
 g c = settings (c .args .k) (c .args .n) (c .args .q)
 
-fits : (c : tie.Start) → Fitting Waiting (g c) (c .args .start .run) (c .args .start .left) (c .args .start .found) (c .args .start .level)
+fits : (c : tie.Start)
+    → Fitting Waiting (g c) (c .args .start .run) (c .args .start .left) (c .args .start .found) (c .args .start .level)
 fits c = waiting-fits (g c) (c .args .start) (now (c .args .bits)) (c .pre .0) (c .pre .1)
 
 range : (c : tie.Start) → Ranged (g c)
@@ -37,18 +38,26 @@ so-far s = bitsIn (s .args .start) (now (s .args .bits))
 
 abbrev mark-told : tie.Start → Receiver → Sought → Outcome × ℕ
 mark-told s x sought =
-    soughtSays x (g s) (λ run read. marked (g s) (waiting (s .args .start .level) (s .args .start .run) (so-far s)) run read) (so-far s) (now (s .args .reads)) sought
+    soughtSays x (g s)
+    (λ run read. marked (g s) (waiting (s .args .start .level) (s .args .start .run) (so-far s)) run read)
+    (so-far s) (now (s .args .reads)) sought
 
 waited : (c : tie.After-to-mark) (x : Receiver)
-    → heardFrom x (g (c .before .before)) (stateOf (keeping (g (c .before .before)) (c .before .before .args .start) (now (c .before .before .args .bits)))) 0 (now (c .before .before .args .reads))
+    → heardFrom x (g (c .before .before))
+    (stateOf
+    (keeping (g (c .before .before)) (c .before .before .args .start) (now (c .before .before .args .bits)))) 0
+    (now (c .before .before .args .reads))
     ≡ mark-told (c .before .before) x (c .to-mark .result)
 waited c x =
     let s = c .before .before in
-    ap (λ (t : State). heardFrom x (g s) t 0 (now (s .args .reads))) (waiting-kept (g s) (s .args .start) (now (s .args .bits)) (s .pre .0) (s .pre .1))
-    ∙ c .to-mark .ensures .1 x (s .args .k) (s .args .n) (so-far s) (kept-length (g s) (s .args .start) (now (s .args .bits)) (s .pre .0))
+    ap (λ (t : State). heardFrom x (g s) t 0 (now (s .args .reads)))
+    (waiting-kept (g s) (s .args .start) (now (s .args .bits)) (s .pre .0) (s .pre .1))
+    ∙ c .to-mark .ensures .1 x (s .args .k) (s .args .n) (so-far s)
+    (kept-length (g s) (s .args .start) (now (s .args .bits)) (s .pre .0))
 
 landed : (c : tie.After-marked2)
-    → Lands 0 (length (now (c .before .before .before .before .args .reads))) (c .before .before .before .before .args .q)
+    → Lands 0 (length (now (c .before .before .before .before .args .reads)))
+    (c .before .before .before .before .args .q)
     (Found (c .marked2 .given .0 .0) (c .marked2 .given .0 .1 .0) (c .marked2 .given .0 .1 .1 .0))
 landed c = rw (c .marked2 .given .1) at (c .before .before .to-mark .ensures .0)
 
@@ -56,7 +65,8 @@ abbrev start : tie.After-marked2 → tie.Start
 start m = m .before .before .before .before
 
 at-mark : (m : tie.After-marked2)
-    → Marked (g (start m)) (m .marked2 .given .0 .1 .0) (m .marked2 .given .0 .1 .1 .0) (start m .args .start .found) (so-far (start m)) (now (start m .args .bits))
+    → Marked (g (start m)) (m .marked2 .given .0 .1 .0) (m .marked2 .given .0 .1 .1 .0) (start m .args .start .found)
+    (so-far (start m)) (now (start m .args .bits))
 at-mark m =
     let s = start m in
     let n = s .args .start in
@@ -84,12 +94,14 @@ returns : tie.Need-returns
 returns c = λ x.
     let t = c .before .before .before in
     let s = t .before .before in
-    waited t x ∙ ap (mark-told s x) (c .before .marked .given .1) ∙ rw (kept-bytes (g s) (s .args .start) (now (s .args .bits)) (s .pre .0))
+    waited t x ∙ ap (mark-told s x) (c .before .marked .given .1)
+    ∙ rw (kept-bytes (g s) (s .args .start) (now (s .args .bits)) (s .pre .0))
 
 returns-2 : tie.Need-returns-2
 returns-2 c = λ x.
     let m = c .before .before .before in
-    waited (m .before .before) x ∙ ap (mark-told (start m) x) (m .marked2 .given .1) ∙ mark-heard (at-mark m) x _ _ ∙ c .from-counting .ensures x
+    waited (m .before .before) x ∙ ap (mark-told (start m) x) (m .marked2 .given .1) ∙ mark-heard (at-mark m) x _ _
+    ∙ c .from-counting .ensures x
 
 pub from-waiting-spec : {M : Type 1} → statement M
 from-waiting-spec =

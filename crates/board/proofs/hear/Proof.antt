@@ -51,13 +51,15 @@ from-waiting-requires c κs = search needs
 returns : tie.Need-returns
 returns c = λ x.
     let s = c .before .before .before .before .before in
-    ap (λ (t : State). heardFrom x (g s) t 0 (now (s .args .reads))) (hunting-kept (g s) (s .args .start) (now (s .args .bits)) (s .pre) (c .before .before .enum-told .given .1) .0)
+    ap (λ (t : State). heardFrom x (g s) t 0 (now (s .args .reads)))
+    (hunting-kept (g s) (s .args .start) (now (s .args .bits)) (s .pre) (c .before .before .enum-told .given .1) .0)
     ∙ c .from-hunting .ensures x
 
 returns-2 : tie.Need-returns-2
 returns-2 c = λ x.
     let s = c .before .before .before .before .before in
-    ap (λ (t : State). heardFrom x (g s) t 0 (now (s .args .reads))) (ready-kept (g s) (s .args .start) (now (s .args .bits)) (s .pre) (c .before .before .enum-told2 .given .1) .0)
+    ap (λ (t : State). heardFrom x (g s) t 0 (now (s .args .reads)))
+    (ready-kept (g s) (s .args .start) (now (s .args .bits)) (s .pre) (c .before .before .enum-told2 .given .1) .0)
     ∙ c .from-ready .ensures x
 
 returns-3 : tie.Need-returns-3

@@ -26,7 +26,9 @@ returns : tie.Need-returns
 returns c = simp (ne-eqb _ _ (c .before .before .if1 .taken), one-mul, c .weight .ensures)
 
 returns-2 : tie.Need-returns-2
-returns-2 c = simp (eq-eqb _ _ (c .if1 .left), zero-mul, add-zero) (set-getD (now (c .before .args .bits)) (c .before .args .at / 8) 0)
+returns-2 c =
+    simp (eq-eqb _ _ (c .if1 .left), zero-mul, add-zero)
+    (set-getD (now (c .before .args .bits)) (c .before .args .at / 8) 0)
 
 pub put-spec : {M : Type 1} → statement M
 put-spec =

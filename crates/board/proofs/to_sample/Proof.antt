@@ -1,4 +1,5 @@
--- `to_sample` meets its contract: before the sample each read is one fewer left, so the outcome from the start is the outcome from the place reached.
+-- `to_sample` meets its contract: before the sample each read is one fewer left, so the outcome from the start is the
+-- outcome from the place reached.
 use Prim.Native.Nat.{ℕ, _+_, _-_, _<_, _≤_}
 use mathlib.Core.Path.{_≡_, refl, sym, _∙_, ap}
 use mathlib.Core.List.{List}
@@ -9,14 +10,16 @@ use Rattle.board.specs.declared.Receiver.{Receiver}
 use Rattle.board.specs.Rows.{counting, ready, broken}
 use Rattle.board.specs.Answers.{reached}
 use Rattle.board.specs.Listening.{settings, longer, heardFrom}
-use Rattle.board.proofs.ListeningLaws.{heard-end, heard-bad, heard-move, longer-most, next-quiet, counting-on, counting-sample}
+use Rattle.board.proofs.ListeningLaws.{heard-end, heard-bad, heard-move, longer-most, next-quiet, counting-on}
+use Rattle.board.proofs.ListeningLaws.{counting-sample}
 use Rattle.board.proofs.to_sample.Statement.{statement}
 use Rattle.board.proofs.to_sample.Tie as tie
 
 abbrev Inv-loop : tie.InvT-loop
 Inv-loop reads from q level found run₀ left₀ i₀ run left i =
     (from ≤ i) × (i ≤ length reads) × (run < q) × (1 ≤ left)
-    × ((x : Receiver) (k n : ℕ) (l : List ℕ) → heardFrom x (settings k n q) (counting left₀ level run₀ l) from (drop from reads)
+    × ((x : Receiver) (k n : ℕ) (l : List ℕ)
+    → heardFrom x (settings k n q) (counting left₀ level run₀ l) from (drop from reads)
     ≡ heardFrom x (settings k n q) (counting left level run l) i (drop i reads))
 
 abbrev μ-loop : tie.MeasureT-loop
@@ -31,8 +34,11 @@ shared-slice-read-read c = omega arith
 returns : tie.Need-returns Inv-loop μ-loop
 returns c =
     let a = c .before .before .before .before .before .args in
-    let at-loop = c .before .before .before .loop in
-    (tt, λ x k n l e. at-loop .inv .4 x k n l ∙ heard-bad x _ _ (at-loop .i) (now (a .reads)) (c .before .before .loop-test .taken) (c .if1 .taken))
+    let at-loop = c .before .before .before .loop in (
+      tt,
+      λ x k n l e. at-loop .inv .4 x k n l
+          ∙ heard-bad x _ _ (at-loop .i) (now (a .reads)) (c .before .before .loop-test .taken) (c .if1 .taken),
+    )
 
 add-i : tie.Need-add-i Inv-loop μ-loop
 add-i c = omega arith
@@ -46,8 +52,10 @@ returns-2 c =
     let at-loop = c .before .before .before .before .before .loop in (
       tt,
       λ x k n l e. at-loop .inv .4 x k n l
-          ∙ heard-move x _ _ _ (at-loop .i) (now (a .reads)) (c .before .before .before .before .loop-test .taken) (c .before .before .if1 .left)
-          (next-quiet (settings k n (a .q)) (counting (at-loop .left) (a .start .level) (at-loop .run) l) _ (at-loop .inv .2) (c .before .longer .ensures ∙ c .if2 .taken))
+          ∙ heard-move x _ _ _ (at-loop .i) (now (a .reads)) (c .before .before .before .before .loop-test .taken)
+          (c .before .before .if1 .left)
+          (next-quiet (settings k n (a .q)) (counting (at-loop .left) (a .start .level) (at-loop .run) l) _
+          (at-loop .inv .2) (c .before .longer .ensures ∙ c .if2 .taken))
           ∙ ap (λ (found : ℕ). (reached (settings k n (a .q)) (ready (a .q)) (broken found), at-loop .i + 1)) e,
     )
 
@@ -62,10 +70,17 @@ returns-3 c =
     let e = c .before .before .longer .ensures in
     let on : longer (at-loop .run) read ≡ a .q → ⊥ = λ d. c .before .if2 .left (sym e ∙ d) in
     rw (← e) (
-      (omega arith, omega arith, omega (arith, longer-most (a .q) (at-loop .run) read (at-loop .inv .2), on), c .before .before .before .if1 .left),
+      (
+        omega arith,
+        omega arith,
+        omega (arith, longer-most (a .q) (at-loop .run) read (at-loop .inv .2), on),
+        c .before .before .before .if1 .left,
+      ),
       λ x k n l d. at-loop .inv .4 x k n l
-          ∙ heard-move x _ _ _ (at-loop .i) (now (a .reads)) (c .before .before .before .before .before .loop-test .taken) (c .before .before .before .if1 .left)
-          (counting-sample (settings k n (a .q)) (at-loop .left) (a .start .level) (at-loop .run) l read (at-loop .inv .2) on (c .if3 .taken)),
+          ∙ heard-move x _ _ _ (at-loop .i) (now (a .reads))
+          (c .before .before .before .before .before .loop-test .taken) (c .before .before .before .if1 .left)
+          (counting-sample (settings k n (a .q)) (at-loop .left) (a .start .level) (at-loop .run) l read
+          (at-loop .inv .2) on (c .if3 .taken)),
     )
 
 loop-less : tie.Need-loop-less Inv-loop μ-loop
@@ -84,15 +99,20 @@ loop-again c =
       omega (arith, longer-most (a .q) (at-loop .run) read (at-loop .inv .2), on),
       omega (arith, c .if3 .left),
       λ x k n l. at-loop .inv .4 x k n l
-          ∙ heard-move x _ _ _ (at-loop .i) (now (a .reads)) (c .before .before .before .before .before .loop-test .taken) (c .before .before .before .if1 .left)
-          (counting-on (settings k n (a .q)) (at-loop .left) (a .start .level) (at-loop .run) l read (at-loop .inv .2) on (c .if3 .left)),
+          ∙ heard-move x _ _ _ (at-loop .i) (now (a .reads))
+          (c .before .before .before .before .before .loop-test .taken) (c .before .before .before .if1 .left)
+          (counting-on (settings k n (a .q)) (at-loop .left) (a .start .level) (at-loop .run) l read
+          (at-loop .inv .2) on (c .if3 .left)),
     )
 
 returns-4 : tie.Need-returns-4 Inv-loop μ-loop
 returns-4 c =
     let a = c .before .before .before .args in
-    let at-loop = c .before .loop in
-    (tt, λ x k n l e. at-loop .inv .4 x k n l ∙ heard-end x _ _ (at-loop .i) (now (a .reads)) (at-loop .inv .1) (c .loop-test .left) ∙ rw e)
+    let at-loop = c .before .loop in (
+      tt,
+      λ x k n l e. at-loop .inv .4 x k n l
+          ∙ heard-end x _ _ (at-loop .i) (now (a .reads)) (at-loop .inv .1) (c .loop-test .left) ∙ rw e,
+    )
 
 pub to-sample-spec : {M : Type 1} → statement M
 to-sample-spec =

@@ -1,4 +1,5 @@
--- `unused_zero` meets its contract: the byte in which the next bit falls is below that bit's weight, and no later byte is above 0.
+-- `unused_zero` meets its contract: the byte in which the next bit falls is below that bit's weight, and no later byte
+-- is above 0.
 use Prim.Native.Nat.{ℕ, suc, _/_}
 use mathlib.Core.Path.{_≡_, sym, _∙_, ap}
 use mathlib.Core.List.{List}
@@ -20,10 +21,13 @@ bytes : (c : tie.Start) → Words 8 (c .args .bits)
 bytes c i = let f : Fits w8 (getD (c .args .bits) i 0) = search needs in f .fits
 
 -- the byte that is read is as it came
-byte : (c : tie.After-cleared) → getD (c .cleared .result) (c .before .args .found / 8) 0 ≡ getD (c .before .args .bits) (c .before .args .found / 8) 0
+byte : (c : tie.After-cleared)
+    → getD (c .cleared .result) (c .before .args .found / 8) 0
+    ≡ getD (c .before .args .bits) (c .before .args .found / 8) 0
 byte c =
     let a = c .before .args in
-    ap (λ (l : List ℕ). getD l (a .found / 8) 0) (sym (c .cleared .ensures)) ∙ cleared-next (a .bits) (a .found / 8) (omega (arith, long (c .before)))
+    ap (λ (l : List ℕ). getD l (a .found / 8) 0) (sym (c .cleared .ensures))
+    ∙ cleared-next (a .bits) (a .found / 8) (omega (arith, long (c .before)))
 
 cleared-requires : tie.Need-cleared-requires
 cleared-requires c κs = search needs
@@ -38,7 +42,8 @@ returns : tie.Need-returns
 returns c =
     let d = c .before .before in
     let s = d .before in
-    unused-over (s .args .bits) (s .args .found) (omega (arith, long s)) (bytes s) (rw (c .before .weight .ensures, ← byte d) (c .if1 .taken))
+    unused-over (s .args .bits) (s .args .found) (omega (arith, long s)) (bytes s)
+    (rw (c .before .weight .ensures, ← byte d) (c .if1 .taken))
 
 array-write-rest : tie.Need-array-write-rest
 array-write-rest c = search needs
@@ -58,7 +63,8 @@ returns-2 c =
     let at = s .args .found / 8 in
     let rest = set (d .cleared .result) at 0 in
     let size : length rest ≡ 128 = search needs in
-    unused-rest b (s .args .found) (omega (arith, long s)) (bytes s) (rw (e .before .weight .ensures, ← byte d) (e .if1 .left))
+    unused-rest b (s .args .found) (omega (arith, long s)) (bytes s)
+    (rw (e .before .weight .ensures, ← byte d) (e .if1 .left))
     ∙ sym (zero-behind (suc at) (drop (suc at) b))
     ∙ ap allZero (sym (clear-one b at (omega (arith, long s))) ∙ ap (λ (l : List ℕ). set l at 0) (d .cleared .ensures))
     ∙ zero-above rest

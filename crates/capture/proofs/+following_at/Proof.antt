@@ -1,11 +1,13 @@
--- `following_at` meets its contract, by recursion on how many bytes may follow: each way out is one case of `following` at the byte read.
+-- `following_at` meets its contract, by recursion on how many bytes may follow: each way out is one case of `following`
+-- at the byte read.
 use Prim.Native.Nat.{ℕ, _+_, _-_, _<_}
 use mathlib.Core.Path.{ap, _∙_}
 use native.Mathlib.Omega.{arith}
 use borrow.Author.Needs.{needs}
 use lib.ListN.{drop-of-length-le}
 use Rattle.capture.specs.Numbers.{before}
-use Rattle.capture.proofs.Groups.{Bytes, from-byte, following-none, following-zero, following-last, following-over, following-one, following-on}
+use Rattle.capture.proofs.Groups.{Bytes, from-byte, following-none, following-zero, following-last}
+use Rattle.capture.proofs.Groups.{following-over, following-one, following-on}
 use Rattle.capture.proofs.Places.{following-small}
 use borrow.Fn.Kinds.{In}
 use borrow.Fn.PlainCycle.{Measures, is, falls, and}
@@ -40,7 +42,8 @@ following-at-returns : (t : ℕ) → following-at-lts.Need-returns (
   prefixed-reads.Asked,
   prefixed-reads.Learnt,
 ) (following-at-at t) following-at.Post
-following-at-returns t c = rw (drop-of-length-le (c .before .before .args .bytes .now) (c .if1 .taken)) (following-none _)
+following-at-returns t c =
+    rw (drop-of-length-le (c .before .before .args .bytes .now) (c .if1 .taken)) (following-none _)
 
 following-at-shared-slice-read-wide : (t : ℕ) → following-at-lts.Need-shared-slice-read-wide (
   wide-reads.Asked,
@@ -70,7 +73,9 @@ following-at-returns-2 : (t : ℕ) → following-at-lts.Need-returns-2 (
   prefixed-reads.Asked,
   prefixed-reads.Learnt,
 ) (following-at-at t) following-at.Post
-following-at-returns-2 t c = rw (from-byte (c .before .before .before .before .before .args .bytes .now) _ _ (c .before .before .before .if1 .left) (c .before .wide .ensures)) (following-zero _ _ _ (c .if2 .taken))
+following-at-returns-2 t c =
+    rw (from-byte (c .before .before .before .before .before .args .bytes .now) _ _
+    (c .before .before .before .if1 .left) (c .before .wide .ensures)) (following-zero _ _ _ (c .if2 .taken))
 
 following-at-returns-3 : (t : ℕ) → following-at-lts.Need-returns-3 (
   wide-reads.Asked,
@@ -80,7 +85,10 @@ following-at-returns-3 : (t : ℕ) → following-at-lts.Need-returns-3 (
   prefixed-reads.Asked,
   prefixed-reads.Learnt,
 ) (following-at-at t) following-at.Post
-following-at-returns-3 t c = rw (from-byte (c .before .before .before .before .before .before .before .args .bytes .now) _ _ (c .before .before .before .before .before .if1 .left) (c .before .before .before .wide .ensures)) (following-last _ _ _ (c .before .if3 .taken) (c .before .before .if2 .left) (c .if4 .taken))
+following-at-returns-3 t c =
+    rw (from-byte (c .before .before .before .before .before .before .before .args .bytes .now) _ _
+    (c .before .before .before .before .before .if1 .left) (c .before .before .before .wide .ensures))
+    (following-last _ _ _ (c .before .if3 .taken) (c .before .before .if2 .left) (c .if4 .taken))
 
 following-at-returns-4 : (t : ℕ) → following-at-lts.Need-returns-4 (
   wide-reads.Asked,
@@ -90,7 +98,10 @@ following-at-returns-4 : (t : ℕ) → following-at-lts.Need-returns-4 (
   prefixed-reads.Asked,
   prefixed-reads.Learnt,
 ) (following-at-at t) following-at.Post
-following-at-returns-4 t c = rw (from-byte (c .before .before .before .before .before .before .before .args .bytes .now) _ _ (c .before .before .before .before .before .if1 .left) (c .before .before .before .wide .ensures)) (following-over _ _ _ (c .before .if3 .taken) (c .before .before .if2 .left) (c .if4 .left))
+following-at-returns-4 t c =
+    rw (from-byte (c .before .before .before .before .before .before .before .args .bytes .now) _ _
+    (c .before .before .before .before .before .if1 .left) (c .before .before .before .wide .ensures))
+    (following-over _ _ _ (c .before .if3 .taken) (c .before .before .if2 .left) (c .if4 .left))
 
 following-at-returns-5 : (t : ℕ) → following-at-lts.Need-returns-5 (
   wide-reads.Asked,
@@ -100,7 +111,10 @@ following-at-returns-5 : (t : ℕ) → following-at-lts.Need-returns-5 (
   prefixed-reads.Asked,
   prefixed-reads.Learnt,
 ) (following-at-at t) following-at.Post
-following-at-returns-5 t c = rw (from-byte (c .before .before .before .before .before .before .before .args .bytes .now) _ _ (c .before .before .before .before .before .if1 .left) (c .before .before .before .wide .ensures)) (following-one _ _ _ (c .before .if3 .left) (c .before .before .if2 .left) (c .if5 .taken))
+following-at-returns-5 t c =
+    rw (from-byte (c .before .before .before .before .before .before .before .args .bytes .now) _ _
+    (c .before .before .before .before .before .if1 .left) (c .before .before .before .wide .ensures))
+    (following-one _ _ _ (c .before .if3 .left) (c .before .before .if2 .left) (c .if5 .taken))
 
 following-at-add-next : (t : ℕ) → following-at-lts.Need-add-next (
   wide-reads.Asked,
@@ -142,8 +156,11 @@ following-at-prefixed-requires : (t : ℕ) → following-at-lts.Need-prefixed-re
 ) (following-at-at t) following-at.Post
 following-at-prefixed-requires t c κs =
     let a = c .before .before .before .before .before .before .before .before .args in
-    let b : Bytes (a .bytes .now) = λ i. omega (arith, c .before .before .before .before .before .before .before .shared-slice-known .given i) in
-    ((c .before .if5 .left, omega (arith, b (a .at), c .before .before .before .before .wide .ensures)), following-small (a .bytes .now) (a .at + 1) (a .more - 1) _ b (omega arith) (c .following-at .ensures))
+    let b : Bytes (a .bytes .now) =
+    λ i. omega (arith, c .before .before .before .before .before .before .before .shared-slice-known .given i) in (
+      (c .before .if5 .left, omega (arith, b (a .at), c .before .before .before .before .wide .ensures)),
+      following-small (a .bytes .now) (a .at + 1) (a .more - 1) _ b (omega arith) (c .following-at .ensures),
+    )
 
 following-at-returns-6 : (t : ℕ) → following-at-lts.Need-returns-6 (
   wide-reads.Asked,
@@ -154,8 +171,11 @@ following-at-returns-6 : (t : ℕ) → following-at-lts.Need-returns-6 (
   prefixed-reads.Learnt,
 ) (following-at-at t) following-at.Post
 following-at-returns-6 t c =
-    rw (from-byte (c .before .before .before .before .before .before .before .before .before .args .bytes .now) _ _ (c .before .before .before .before .before .before .before .if1 .left) (c .before .before .before .before .before .wide .ensures))
-    (following-on _ _ _ (c .before .before .before .if3 .left) (c .before .before .if5 .left) ∙ ap (before _) (c .before .following-at .ensures) ∙ c .prefixed .ensures)
+    rw (from-byte (c .before .before .before .before .before .before .before .before .before .args .bytes .now) _ _
+    (c .before .before .before .before .before .before .before .if1 .left)
+    (c .before .before .before .before .before .wide .ensures))
+    (following-on _ _ _ (c .before .before .before .if3 .left) (c .before .before .if5 .left)
+    ∙ ap (before _) (c .before .following-at .ensures) ∙ c .prefixed .ensures)
 
 pub +following-at-spec : {M : Type 1} → statement M
 +following-at-spec = close μ-following-at λ t. following-at-lts.spec (

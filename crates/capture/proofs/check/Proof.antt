@@ -23,7 +23,10 @@ returns : tie.Need-returns
 unfolding checked
 returns c =
     let e = c .before .enum-told .given .1 in
-    ap summed (capture-refused (c .before .before .before .before .before .args .bytes .now) _ _ (c .before .before .before .read-header .ensures ∙ ap headSays e)) ∙ ap denied (sym (c .head-refusal .ensures _ e))
+    ap summed
+    (capture-refused (c .before .before .before .before .before .args .bytes .now) _ _
+    (c .before .before .before .read-header .ensures ∙ ap headSays e))
+    ∙ ap denied (sym (c .head-refusal .ensures _ e))
 
 check-runs-requires : tie.Need-check-runs-requires
 check-runs-requires c κs = search needs
@@ -31,7 +34,10 @@ check-runs-requires c κs = search needs
 returns-2 : tie.Need-returns-2
 unfolding checked
 returns-2 c =
-    ap summed (capture-found (c .before .before .before .before .before .before .args .bytes .now) _ (c .before .before .before .before .read-header .ensures ∙ ap headSays (c .before .before .head .given .1))) ∙ c .check-runs .ensures
+    ap summed
+    (capture-found (c .before .before .before .before .before .before .args .bytes .now) _
+    (c .before .before .before .before .read-header .ensures ∙ ap headSays (c .before .before .head .given .1)))
+    ∙ c .check-runs .ensures
 
 pub check-spec : {M : Type 1} → statement M
 check-spec =

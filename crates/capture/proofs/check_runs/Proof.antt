@@ -1,4 +1,5 @@
--- `check_runs` meets its contract: what is counted and what is still to come give the summary, and a run that is refused is the refusal.
+-- `check_runs` meets its contract: what is counted and what is still to come give the summary, and a run that is
+-- refused is the refusal.
 use Prim.Native.Nat.{_-_}
 use mathlib.Core.Path.{sym, ap, _∙_}
 use native.Mathlib.Omega.{arith}
@@ -24,10 +25,15 @@ all-bytes : (c : tie.At-loop Inv-loop μ-loop) → Bytes (c .before .before .bef
 all-bytes c i = omega (arith, c .before .before .before .shared-slice-known .given i)
 
 -- the number that was read
-here : (c : tie.After-number Inv-loop μ-loop) → Placed (c .before .before .before .before .before .before .before .before .args .bytes .now) (c .before .before .before .before .loop .at) (record { value = c .number .given .0 .0; after = c .number .given .0 .1 .0 })
+here : (c : tie.After-number Inv-loop μ-loop)
+    → Placed (c .before .before .before .before .before .before .before .before .args .bytes .now)
+    (c .before .before .before .before .loop .at)
+    (record { value = c .number .given .0 .0; after = c .number .given .0 .1 .0 })
 here c =
-    number-placed (c .before .before .before .before .before .before .before .before .args .bytes .now) (c .before .before .before .before .loop .at) _
-    (all-bytes (c .before .before .before .before)) (c .before .before .number-at .ensures ∙ ap numberSays (c .number .given .1))
+    number-placed (c .before .before .before .before .before .before .before .before .args .bytes .now)
+    (c .before .before .before .before .loop .at) _
+    (all-bytes (c .before .before .before .before))
+    (c .before .before .number-at .ensures ∙ ap numberSays (c .number .given .1))
 
 loop-holds : tie.Need-loop-holds Inv-loop μ-loop
 loop-holds c = tally-none _ _
@@ -47,13 +53,20 @@ number-refusal-requires c κs = search needs
 returns : tie.Need-returns Inv-loop μ-loop
 returns c =
     let e = c .before .enum-told .given .1 in
-    tally-refused (c .before .before .before .before .before .loop .inv) _ _ (runs-refused (c .before .before .before .before .before .before .before .before .before .args .bytes .now) _ _ (c .before .before .before .before .loop-test .taken) _ _ (c .before .before .before .number-at .ensures ∙ ap numberSays e))
+    tally-refused (c .before .before .before .before .before .loop .inv) _ _
+    (runs-refused (c .before .before .before .before .before .before .before .before .before .args .bytes .now) _ _
+    (c .before .before .before .before .loop-test .taken) _ _
+    (c .before .before .before .number-at .ensures ∙ ap numberSays e))
     ∙ ap denied (sym (c .number-refusal .ensures _ e))
 
 returns-2 : tie.Need-returns-2 Inv-loop μ-loop
 returns-2 c =
     tally-refused (c .before .before .before .before .before .before .loop .inv) _ _
-    (runs-none (c .before .before .before .before .before .before .before .before .before .before .args .bytes .now) _ _ (c .before .before .before .before .before .loop-test .taken) _ (c .before .before .before .before .number-at .ensures ∙ ap numberSays (c .before .before .number .given .1)) (c .if1 .taken))
+    (runs-none
+    (c .before .before .before .before .before .before .before .before .before .before .args .bytes .now) _ _
+    (c .before .before .before .before .before .loop-test .taken) _
+    (c .before .before .before .before .number-at .ensures ∙ ap numberSays (c .before .before .number .given .1))
+    (c .if1 .taken))
 
 add-total : tie.Need-add-total Inv-loop μ-loop
 add-total c = omega (arith, here (c .before .before) .small)
@@ -61,24 +74,37 @@ add-total c = omega (arith, here (c .before .before) .small)
 returns-3 : tie.Need-returns-3 Inv-loop μ-loop
 returns-3 c =
     tally-refused (c .before .before .before .before .before .before .before .loop .inv) _ _
-    (runs-over (c .before .before .before .before .before .before .before .before .before .before .before .args .bytes .now) _ _ (c .before .before .before .before .before .before .loop-test .taken) _ (c .before .before .before .before .before .number-at .ensures ∙ ap numberSays (c .before .before .before .number .given .1)) (c .before .if1 .left) (c .if2 .taken))
+    (runs-over
+    (c .before .before .before .before .before .before .before .before .before .before .before .args .bytes .now) _ _ (c .before .before .before .before .before .before .loop-test .taken) _ (c .before .before .before .before .before .number-at .ensures ∙ ap numberSays (c .before .before .before .number .given .1)) (c .before .if1 .left) (c .if2 .taken))
 
 add-runs : tie.Need-add-runs Inv-loop μ-loop
 add-runs c = omega arith
 
 loop-less : tie.Need-loop-less Inv-loop μ-loop
-loop-less c = omega (arith, here (c .before .before .before) .further-on, c .before .before .before .before .before .before .loop-test .taken)
+loop-less c =
+    omega (
+      arith,
+      here (c .before .before .before) .further-on,
+      c .before .before .before .before .before .before .loop-test .taken,
+    )
 
 loop-again : tie.Need-loop-again Inv-loop μ-loop
 loop-again c =
-    tally-one (c .before .before .before .before .before .before .before .loop .inv) _ (all-bytes (c .before .before .before .before .before .before .before)) (c .before .before .before .before .before .before .loop-test .taken)
-    (c .before .before .before .before .before .number-at .ensures ∙ ap numberSays (c .before .before .before .number .given .1)) (c .before .if1 .left) (c .if2 .left)
+    tally-one (c .before .before .before .before .before .before .before .loop .inv) _
+    (all-bytes (c .before .before .before .before .before .before .before))
+    (c .before .before .before .before .before .before .loop-test .taken)
+    (c .before .before .before .before .before .number-at .ensures
+    ∙ ap numberSays (c .before .before .before .number .given .1)) (c .before .if1 .left) (c .if2 .left)
 
 returns-4 : tie.Need-returns-4 Inv-loop μ-loop
-returns-4 c = tally-low (c .before .before .before .before .loop .inv) (c .before .before .before .loop-test .left) (c .before .if3 .taken) (c .if4 .taken)
+returns-4 c =
+    tally-low (c .before .before .before .before .loop .inv) (c .before .before .before .loop-test .left)
+    (c .before .if3 .taken) (c .if4 .taken)
 
 returns-5 : tie.Need-returns-5 Inv-loop μ-loop
-returns-5 c = tally-some (c .before .before .before .before .loop .inv) (c .before .before .before .loop-test .left) (c .before .if3 .taken) (c .if4 .left)
+returns-5 c =
+    tally-some (c .before .before .before .before .loop .inv) (c .before .before .before .loop-test .left)
+    (c .before .if3 .taken) (c .if4 .left)
 
 returns-6 : tie.Need-returns-6 Inv-loop μ-loop
 returns-6 c = tally-high (c .before .before .before .loop .inv) (c .before .before .loop-test .left) (c .if3 .left)

@@ -27,7 +27,11 @@ wide-requires : tie.Need-wide-requires
 wide-requires c κs = search needs
 
 returns-2 : tie.Need-returns-2
-returns-2 c = (c .wide .ensures ∙ some (c .before .before .before .before .args .reads .now) (c .before .before .if1 .left), omega (arith, c .wide .ensures, c .before .shared-slice-known2 .given 0))
+returns-2 c = (
+  c .wide .ensures
+      ∙ some (c .before .before .before .before .args .reads .now) (c .before .before .if1 .left),
+  omega (arith, c .wide .ensures, c .before .shared-slice-known2 .given 0),
+)
 
 pub first-level-spec : {M : Type 1} → statement M
 first-level-spec = tie.close (tie.spec returns shared-slice-read-wide wide-requires returns-2)

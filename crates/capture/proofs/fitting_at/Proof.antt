@@ -20,7 +20,8 @@ returns : tie.Need-returns
 returns c =
     let a = c .before .before .before .before .args in
     let e = ap numberSays (c .enum-told .given .1) in
-    fitting-refused (between (a .least) (a .most)) (a .bytes .now) (a .at) _ _ (c .before .before .number-at .ensures ∙ e) ∙ sym e
+    fitting-refused (between (a .least) (a .most)) (a .bytes .now) (a .at) _ _
+    (c .before .before .number-at .ensures ∙ e) ∙ sym e
 
 between-requires : tie.Need-between-requires
 between-requires c κs = search needs
@@ -29,13 +30,17 @@ returns-2 : tie.Need-returns-2
 returns-2 c =
     let a = c .before .before .before .before .before .before .before .args in
     let e = ap numberSays (c .before .before .before .number .given .1) in
-    fitting-in (between (a .least) (a .most)) (a .bytes .now) (a .at) _ (c .before .before .before .before .before .number-at .ensures ∙ e) (sym (c .before .between .ensures) ∙ c .if1 .taken)
+    fitting-in (between (a .least) (a .most)) (a .bytes .now) (a .at) _
+    (c .before .before .before .before .before .number-at .ensures ∙ e)
+    (sym (c .before .between .ensures) ∙ c .if1 .taken)
 
 returns-3 : tie.Need-returns-3
 returns-3 c =
     let a = c .before .before .before .before .before .before .before .args in
     let e = ap numberSays (c .before .before .before .number .given .1) in
-    fitting-out (between (a .least) (a .most)) (a .bytes .now) (a .at) _ (c .before .before .before .before .before .number-at .ensures ∙ e) (sym (c .before .between .ensures) ∙ c .if1 .left)
+    fitting-out (between (a .least) (a .most)) (a .bytes .now) (a .at) _
+    (c .before .before .before .before .before .number-at .ensures ∙ e)
+    (sym (c .before .between .ensures) ∙ c .if1 .left)
 
 pub fitting-at-spec : {M : Type 1} → statement M
 fitting-at-spec =

@@ -21,7 +21,8 @@ number-refusal-requires c κs = search needs
 
 returns : tie.Need-returns
 returns c =
-    heading-no-k (c .before .before .before .before .before .args .bytes .now) _ _ (c .before .before .before .fitting-at .ensures ∙ ap numberSays (c .before .enum-told .given .1))
+    heading-no-k (c .before .before .before .before .before .args .bytes .now) _ _
+    (c .before .before .before .fitting-at .ensures ∙ ap numberSays (c .before .enum-told .given .1))
     ∙ ap denied (sym (c .number-refusal .ensures _ (c .before .enum-told .given .1)))
 
 fitting-at-requires-2 : tie.Need-fitting-at-requires-2
@@ -39,7 +40,8 @@ number-refusal-requires-2 c κs = search needs
 returns-2 : tie.Need-returns-2
 returns-2 c =
     let first = c .before .before .before .before .before in
-    heading-no-n (c .before .before .before .before .before .before .before .before .before .args .bytes .now) _ _ (first .before .before .fitting-at .ensures ∙ ap numberSays (first .first .given .1))
+    heading-no-n (c .before .before .before .before .before .before .before .before .before .args .bytes .now) _ _
+    (first .before .before .fitting-at .ensures ∙ ap numberSays (first .first .given .1))
     (c .before .before .before .fitting-at2 .ensures ∙ ap numberSays (c .before .enum-told2 .given .1))
     ∙ ap denied (sym (c .number-refusal2 .ensures _ (c .before .enum-told2 .given .1)))
 
@@ -59,7 +61,8 @@ returns-3 : tie.Need-returns-3
 returns-3 c =
     let second = c .before .before .before .before .before in
     let first = second .before .before .before .before in
-    heading-no-Q (c .before .before .before .before .before .before .before .before .before .before .before .before .before .args .bytes .now) _ _ (first .before .before .fitting-at .ensures ∙ ap numberSays (first .first .given .1))
+    heading-no-Q
+    (c .before .before .before .before .before .before .before .before .before .before .before .before .before .args .bytes .now) _ _ (first .before .before .fitting-at .ensures ∙ ap numberSays (first .first .given .1))
     (second .before .before .fitting-at2 .ensures ∙ ap numberSays (second .second .given .1))
     (c .before .before .before .fitting-at3 .ensures ∙ ap numberSays (c .before .enum-told3 .given .1))
     ∙ ap denied (sym (c .number-refusal3 .ensures _ (c .before .enum-told3 .given .1)))
@@ -81,7 +84,8 @@ returns-4 c =
     let third = c .before .before .before .before .before in
     let second = third .before .before .before .before in
     let first = second .before .before .before .before in
-    heading-no-level (c .before .before .before .before .before .before .before .before .before .before .before .before .before .before .before .before .before .args .bytes .now) _ _ (first .before .before .fitting-at .ensures ∙ ap numberSays (first .first .given .1))
+    heading-no-level
+    (c .before .before .before .before .before .before .before .before .before .before .before .before .before .before .before .before .before .args .bytes .now) _ _ (first .before .before .fitting-at .ensures ∙ ap numberSays (first .first .given .1))
     (second .before .before .fitting-at2 .ensures ∙ ap numberSays (second .second .given .1))
     (third .before .before .fitting-at3 .ensures ∙ ap numberSays (third .third .given .1))
     (c .before .before .before .fitting-at4 .ensures ∙ ap numberSays (c .before .enum-told4 .given .1))
@@ -93,7 +97,8 @@ returns-5 c =
     let third = fourth .before .before .before .before in
     let second = third .before .before .before .before in
     let first = second .before .before .before .before in
-    heading-is (c .before .before .before .before .before .before .before .before .before .before .before .before .before .before .before .before .before .args .bytes .now) (first .before .before .fitting-at .ensures ∙ ap numberSays (first .first .given .1))
+    heading-is
+    (c .before .before .before .before .before .before .before .before .before .before .before .before .before .before .before .before .before .args .bytes .now) (first .before .before .fitting-at .ensures ∙ ap numberSays (first .first .given .1))
     (second .before .before .fitting-at2 .ensures ∙ ap numberSays (second .second .given .1))
     (third .before .before .fitting-at3 .ensures ∙ ap numberSays (third .third .given .1))
     (fourth .before .before .fitting-at4 .ensures ∙ ap numberSays (fourth .fourth .given .1))

@@ -21,7 +21,8 @@ wide-requires c κs = search needs
 
 returns-2 : tie.Need-returns-2
 returns-2 c =
-    rw (from-byte (c .before .before .before .before .before .args .bytes .now) _ _ (c .before .before .before .if1 .left) (c .before .wide .ensures))
+    rw (from-byte (c .before .before .before .before .before .args .bytes .now) _ _
+    (c .before .before .before .if1 .left) (c .before .wide .ensures))
     (group-one further _ _ (λ e. omega arith) (c .if2 .taken))
 
 add-next : tie.Need-add-next
@@ -36,13 +37,18 @@ following-at-requires c κs = search needs
 prefixed-requires : tie.Need-prefixed-requires
 prefixed-requires c κs =
     let a = c .before .before .before .before .before .before .args in
-    let b : Bytes (a .bytes .now) = λ i. omega (arith, c .before .before .before .before .before .shared-slice-known .given i) in
-    ((c .before .if2 .left, omega (arith, b (a .at), c .before .before .wide .ensures)), following-small (a .bytes .now) (a .at + 1) (further - 1) _ b (omega arith) (c .following-at .ensures))
+    let b : Bytes (a .bytes .now) =
+    λ i. omega (arith, c .before .before .before .before .before .shared-slice-known .given i) in (
+      (c .before .if2 .left, omega (arith, b (a .at), c .before .before .wide .ensures)),
+      following-small (a .bytes .now) (a .at + 1) (further - 1) _ b (omega arith) (c .following-at .ensures),
+    )
 
 returns-3 : tie.Need-returns-3
 returns-3 c =
-    rw (from-byte (c .before .before .before .before .before .before .before .args .bytes .now) _ _ (c .before .before .before .before .before .if1 .left) (c .before .before .before .wide .ensures))
-    (group-on further _ _ (λ e. omega arith) (c .before .before .if2 .left) ∙ ap (before _) (c .before .following-at .ensures) ∙ c .prefixed .ensures)
+    rw (from-byte (c .before .before .before .before .before .before .before .args .bytes .now) _ _
+    (c .before .before .before .before .before .if1 .left) (c .before .before .before .wide .ensures))
+    (group-on further _ _ (λ e. omega arith) (c .before .before .if2 .left)
+    ∙ ap (before _) (c .before .following-at .ensures) ∙ c .prefixed .ensures)
 
 pub front-at-spec : {M : Type 1} → statement M
 front-at-spec =

@@ -1,4 +1,5 @@
--- `number_at` meets its contract: what stands at the front of the bytes from the place on says the number or the refusal.
+-- `number_at` meets its contract: what stands at the front of the bytes from the place on says the number or the
+-- refusal.
 use mathlib.Core.Path.{ap, _∙_}
 use native.Mathlib.Omega.{arith}
 use borrow.Author.Needs.{needs}
@@ -18,8 +19,13 @@ enum-known-front c = search needs
 add-after : tie.Need-add-after
 add-after c =
     let a = c .before .before .before .before .before .args in
-    let b : Bytes (a .bytes .now) = λ i. omega (arith, c .before .before .before .before .shared-slice-known .given i) in
-    omega (arith, front-small (a .bytes .now) (a .at) _ b (c .before .before .before .front-at .ensures) _ _ (c .before .front .given .1))
+    let b : Bytes (a .bytes .now) =
+    λ i. omega (arith, c .before .before .before .before .shared-slice-known .given i) in
+    omega (
+      arith,
+      front-small (a .bytes .now) (a .at) _ b (c .before .before .before .front-at .ensures) _ _
+          (c .before .front .given .1),
+    )
 
 enum-told : tie.Need-enum-told
 enum-told c = search needs

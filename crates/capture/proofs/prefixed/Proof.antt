@@ -17,7 +17,8 @@ use Rattle.capture.proofs.prefixed.Statement.{statement}
 use Rattle.capture.proofs.prefixed.Tie as tie
 
 -- what is no number stays what it is
-kept : (byte : ℕ) (rest : Front) → OneOf (1 ∷ 2 ∷ []) (tagOf the-type rest) → before byte (frontSays rest) ≡ frontSays rest
+kept : (byte : ℕ) (rest : Front) → OneOf (1 ∷ 2 ∷ []) (tagOf the-type rest)
+    → before byte (frontSays rest) ≡ frontSays rest
 kept byte (Value v size) (inl e) = absurd (omega arith)
 kept byte (Value v size) (inr e) = absurd (omega arith)
 kept byte Cut e = refl

@@ -21,7 +21,8 @@ cast-out : tie.Need-cast-out Inv-loop μ-loop
 cast-out c = omega arith
 
 slice-write-out : tie.Need-slice-write-out Inv-loop μ-loop
-slice-write-out c = omega (arith, c .before .loop .inv .stored .size, put-room (c .before .loop .inv) (c .before .before .pre .1))
+slice-write-out c =
+    omega (arith, c .before .loop .inv .stored .size, put-room (c .before .loop .inv) (c .before .before .pre .1))
 
 add-to : tie.Need-add-to Inv-loop μ-loop
 add-to c = omega (arith, c .before .before .good, put-room (c .before .loop .inv) (c .before .before .pre .1))
@@ -36,7 +37,8 @@ cast-out-2 : tie.Need-cast-out-2 Inv-loop μ-loop
 cast-out-2 c = omega arith
 
 slice-write-out-2 : tie.Need-slice-write-out-2 Inv-loop μ-loop
-slice-write-out-2 c = omega (arith, c .before .loop .inv .stored .size, put-room (c .before .loop .inv) (c .before .before .pre .1))
+slice-write-out-2 c =
+    omega (arith, c .before .loop .inv .stored .size, put-room (c .before .loop .inv) (c .before .before .pre .1))
 
 add-result : tie.Need-add-result Inv-loop μ-loop
 add-result c = omega (arith, c .before .before .good, put-room (c .before .loop .inv) (c .before .before .pre .1))

@@ -22,13 +22,22 @@ sub-run : tie.Need-sub-run Inv-loop μ-loop
 sub-run c = omega arith
 
 put-number-requires : tie.Need-put-number-requires Inv-loop μ-loop
-put-number-requires c κs = omega (arith, c .before .before .before .loop .inv .stored .size, laid-room (c .before .before .before .loop .inv) _ (c .before .run-end .ensures .1 .1))
+put-number-requires c κs =
+    omega (
+      arith,
+      c .before .before .before .loop .inv .stored .size,
+      laid-room (c .before .before .before .loop .inv) _ (c .before .run-end .ensures .1 .1),
+    )
 
 loop-less : tie.Need-loop-less Inv-loop μ-loop
 loop-less c = omega arith
 
 loop-again : tie.Need-loop-again Inv-loop μ-loop
-loop-again c = laid-one (c .before .before .before .before .before .before .loop .inv) _ (c .before .before .before .before .run-end .ensures .1 .1) (c .before .before .before .before .run-end .ensures .1 .0) _ _ (c .before .before .put-number .ensures .0) (c .before .before .put-number .ensures .1)
+loop-again c =
+    laid-one (c .before .before .before .before .before .before .loop .inv) _
+    (c .before .before .before .before .run-end .ensures .1 .1)
+    (c .before .before .before .before .run-end .ensures .1 .0) _ _ (c .before .before .put-number .ensures .0)
+    (c .before .before .put-number .ensures .1)
 
 same-length : tie.Need-same-length Inv-loop μ-loop
 same-length c = c .before .loop .inv .stored .size

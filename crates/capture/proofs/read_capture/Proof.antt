@@ -26,7 +26,8 @@ returns : tie.Need-returns
 returns c =
     let a = c .before .before .before .before .before .before .args in
     let e = c .before .enum-told .given .1 in
-    read-refused (a .bytes .now) (a .out .now) _ _ (capture-refused (a .bytes .now) _ _ (c .before .before .before .read-header .ensures ∙ ap headSays e))
+    read-refused (a .bytes .now) (a .out .now) _ _
+    (capture-refused (a .bytes .now) _ _ (c .before .before .before .read-header .ensures ∙ ap headSays e))
     ∙ ap (λ refusal. (denied refusal, a .out .now)) (sym (c .head-refusal .ensures _ e))
 
 check-runs-requires : tie.Need-check-runs-requires
@@ -42,23 +43,47 @@ returns-2 : tie.Need-returns-2
 returns-2 c =
     let a = c .before .before .before .before .before .before .before .before .before .args in
     let e = ap checkedSays (c .enum-told2 .given .1) in
-    read-runs-refused (a .bytes .now) (a .out .now) (headed (c .before .before .before .before .head .given .0 .0)) (capture-found (a .bytes .now) _ (c .before .before .before .before .before .before .read-header .ensures ∙ ap headSays (c .before .before .before .before .head .given .1))) _ _ (c .before .before .check-runs .ensures ∙ e)
+    read-runs-refused (a .bytes .now) (a .out .now) (headed (c .before .before .before .before .head .given .0 .0))
+    (capture-found (a .bytes .now) _
+    (c .before .before .before .before .before .before .read-header .ensures
+    ∙ ap headSays (c .before .before .before .before .head .given .1))) _ _
+    (c .before .before .check-runs .ensures ∙ e)
     ∙ ap (λ answer. (answer, a .out .now)) (sym e)
 
 returns-3 : tie.Need-returns-3
 returns-3 c =
     let a = c .before .before .before .before .before .before .before .before .before .before .before .args in
-    read-short (a .bytes .now) (a .out .now) (headed (c .before .before .before .before .before .before .head .given .0 .0)) (capture-found (a .bytes .now) _ (c .before .before .before .before .before .before .before .before .read-header .ensures ∙ ap headSays (c .before .before .before .before .before .before .head .given .1))) _ (c .before .before .before .before .check-runs .ensures ∙ ap checkedSays (c .before .before .found .given .1)) (c .if1 .taken)
+    read-short (a .bytes .now) (a .out .now)
+    (headed (c .before .before .before .before .before .before .head .given .0 .0))
+    (capture-found (a .bytes .now) _
+    (c .before .before .before .before .before .before .before .before .read-header .ensures
+    ∙ ap headSays (c .before .before .before .before .before .before .head .given .1))) _
+    (c .before .before .before .before .check-runs .ensures ∙ ap checkedSays (c .before .before .found .given .1))
+    (c .if1 .taken)
 
 cast-level : tie.Need-cast-level
 cast-level c =
-    omega (arith, heading-level (c .before .before .before .before .before .before .before .before .before .before .before .args .bytes .now) _ (heading-found (c .before .before .before .before .before .before .before .before .before .before .before .args .bytes .now) _ (c .before .before .before .before .before .before .before .before .read-header .ensures ∙ ap headSays (c .before .before .before .before .before .before .head .given .1))))
+    omega (
+      arith,
+      heading-level
+          (c .before .before .before .before .before .before .before .before .before .before .before .args .bytes .now) _
+          (heading-found
+          (c .before .before .before .before .before .before .before .before .before .before .before .args .bytes .now) _
+          (c .before .before .before .before .before .before .before .before .read-header .ensures
+          ∙ ap headSays (c .before .before .before .before .before .before .head .given .1))),
+    )
 
 unroll-into-requires : tie.Need-unroll-into-requires
 unroll-into-requires c κs =
     let a = c .before .before .before .before .before .before .before .before .before .before .before .before .args in (
-      heading-level (c .before .before .before .before .before .before .before .before .before .before .before .before .args .bytes .now) _ (heading-found (c .before .before .before .before .before .before .before .before .before .before .before .before .args .bytes .now) _ (c .before .before .before .before .before .before .before .before .before .read-header .ensures ∙ ap headSays (c .before .before .before .before .before .before .before .head .given .1))),
-      read-roomy (a .bytes .now) (a .out .now) _ (capture-found (a .bytes .now) _ (c .before .before .before .before .before .before .before .before .before .read-header .ensures ∙ ap headSays (c .before .before .before .before .before .before .before .head .given .1))) _ (c .before .before .before .before .before .check-runs .ensures ∙ ap checkedSays (c .before .before .before .found .given .1)) (c .before .if1 .left),
+      heading-level
+          (c .before .before .before .before .before .before .before .before .before .before .before .before .args .bytes .now) _ (heading-found (c .before .before .before .before .before .before .before .before .before .before .before .before .args .bytes .now) _ (c .before .before .before .before .before .before .before .before .before .read-header .ensures ∙ ap headSays (c .before .before .before .before .before .before .before .head .given .1))),
+      read-roomy (a .bytes .now) (a .out .now) _
+          (capture-found (a .bytes .now) _
+          (c .before .before .before .before .before .before .before .before .before .read-header .ensures
+          ∙ ap headSays (c .before .before .before .before .before .before .before .head .given .1))) _
+          (c .before .before .before .before .before .check-runs .ensures
+          ∙ ap checkedSays (c .before .before .before .found .given .1)) (c .before .if1 .left),
     )
 
 same-length : tie.Need-same-length
@@ -67,7 +92,9 @@ same-length c = search needs
 returns-4 : tie.Need-returns-4
 returns-4 c =
     let a = c .before .before .before .before .before .before .before .before .before .before .before .before .before .before .before .args in
-    read-whole (a .bytes .now) (a .out .now) _ (capture-found (a .bytes .now) _ (c .before .before .before .before .before .before .before .before .before .before .before .before .read-header .ensures ∙ ap headSays (c .before .before .before .before .before .before .before .before .before .before .head .given .1))) _ (c .before .before .before .before .before .before .before .before .check-runs .ensures ∙ ap checkedSays (c .before .before .before .before .before .before .found .given .1)) (c .before .before .before .before .if1 .left)
+    read-whole (a .bytes .now) (a .out .now) _
+    (capture-found (a .bytes .now) _
+    (c .before .before .before .before .before .before .before .before .before .before .before .before .read-header .ensures ∙ ap headSays (c .before .before .before .before .before .before .before .before .before .before .head .given .1))) _ (c .before .before .before .before .before .before .before .before .check-runs .ensures ∙ ap checkedSays (c .before .before .before .before .before .before .found .given .1)) (c .before .before .before .before .if1 .left)
     _ (c .before .before .unroll-into .ensures)
 
 pub read-capture-spec : {M : Type 1} → statement M

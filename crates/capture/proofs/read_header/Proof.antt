@@ -12,7 +12,8 @@ four-numbers-requires : tie.Need-four-numbers-requires
 four-numbers-requires c κs = search needs
 
 returns-2 : tie.Need-returns-2
-returns-2 c = heading-short (c .before .before .before .args .bytes .now) (c .before .if1 .left) ∙ c .four-numbers .ensures
+returns-2 c = heading-short (c .before .before .before .args .bytes .now) (c .before .if1 .left)
+    ∙ c .four-numbers .ensures
 
 pub read-header-spec : {M : Type 1} → statement M
 read-header-spec = tie.close (tie.spec returns four-numbers-requires returns-2)

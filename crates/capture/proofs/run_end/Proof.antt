@@ -25,7 +25,13 @@ shared-slice-read-if1 : tie.Need-shared-slice-read-if1 Inv-loop μ-loop
 shared-slice-read-if1 c = omega arith
 
 returns : tie.Need-returns Inv-loop μ-loop
-returns c = (omega arith, (omega arith, same-end (c .before .before .before .loop .inv) (c .before .before .loop-test .taken) (c .if1 .taken)))
+returns c = (
+  omega arith,
+  (
+    omega arith,
+    same-end (c .before .before .before .loop .inv) (c .before .before .loop-test .taken) (c .if1 .taken),
+  ),
+)
 
 add-end-2 : tie.Need-add-end-2 Inv-loop μ-loop
 add-end-2 c = omega arith

@@ -27,16 +27,28 @@ spelled-size-requires : tie.Need-spelled-size-requires Inv-loop μ-loop
 spelled-size-requires c κs = omega arith
 
 add-size : tie.Need-add-size Inv-loop μ-loop
-add-size c = omega (arith, c .before .before .before .loop .inv .few, c .spelled-size .ensures, size-run further (c .before .run-end .result - c .before .before .before .loop .at) (omega arith))
+add-size c =
+    omega (
+      arith,
+      c .before .before .before .loop .inv .few,
+      c .spelled-size .ensures,
+      size-run further (c .before .run-end .result - c .before .before .before .loop .at) (omega arith),
+    )
 
 loop-less : tie.Need-loop-less Inv-loop μ-loop
 loop-less c = omega arith
 
 loop-again : tie.Need-loop-again Inv-loop μ-loop
-loop-again c = rw (c .spelled-size .ensures) (counted-one (c .before .before .before .loop .inv) _ (c .before .run-end .ensures .0) (c .before .run-end .ensures .1 .0) (c .before .run-end .ensures .1 .1))
+loop-again c =
+    rw (c .spelled-size .ensures)
+    (counted-one (c .before .before .before .loop .inv) _ (c .before .run-end .ensures .0)
+    (c .before .run-end .ensures .1 .0) (c .before .run-end .ensures .1 .1))
 
 returns : tie.Need-returns Inv-loop μ-loop
-returns c = (counted-all (c .before .loop .inv) (c .loop-test .left), omega (arith, c .before .loop .inv .few, c .before .loop .inv .within))
+returns c = (
+  counted-all (c .before .loop .inv) (c .loop-test .left),
+  omega (arith, c .before .loop .inv .few, c .before .loop .inv .within),
+)
 
 pub runs-size-spec : {M : Type 1} → statement M
 runs-size-spec =

@@ -7,12 +7,14 @@ use lib.ListN.{length}
 use Rattle.capture.specs.Answers.{numberSays}
 use Rattle.capture.proofs.Groups.{Bytes}
 use Rattle.capture.proofs.Places.{number-placed}
-use Rattle.capture.proofs.Unrolling.{Unrolled, unrolled-none, unrolled-refused, unrolled-room, unrolled-one, unrolled-all}
+use Rattle.capture.proofs.Unrolling.{Unrolled, unrolled-none, unrolled-refused, unrolled-room, unrolled-one}
+use Rattle.capture.proofs.Unrolling.{unrolled-all}
 use Rattle.capture.proofs.unroll_into.Statement.{statement}
 use Rattle.capture.proofs.unroll_into.Tie as tie
 
 abbrev Inv-loop : tie.InvT-loop
-Inv-loop bytes from level out₀ at₀ done₀ current₀ out at done current = Unrolled bytes from level out₀ out at done current
+Inv-loop bytes from level out₀ at₀ done₀ current₀ out at done current =
+    Unrolled bytes from level out₀ out at done current
 
 abbrev μ-loop : tie.MeasureT-loop
 μ-loop bytes from level out₀ at₀ done₀ current₀ out at done current = length bytes - at
@@ -37,27 +39,56 @@ same-length : tie.Need-same-length Inv-loop μ-loop
 same-length c = c .before .before .before .before .loop .inv .stored .size
 
 returns : tie.Need-returns Inv-loop μ-loop
-returns c = absurd (unrolled-refused (c .before .before .before .before .loop .inv) (c .before .before .before .loop-test .taken) _ _ (c .before .before .number-at .ensures ∙ ap numberSays (c .enum-told .given .1)))
+returns c =
+    absurd (unrolled-refused (c .before .before .before .before .loop .inv)
+    (c .before .before .before .loop-test .taken) _ _
+    (c .before .before .number-at .ensures ∙ ap numberSays (c .enum-told .given .1)))
 
 fill-requires : tie.Need-fill-requires Inv-loop μ-loop
 fill-requires c κs =
-    omega (arith, c .before .before .before .before .before .before .loop .inv .stored .size, unrolled-room (c .before .before .before .before .before .before .loop .inv) _ (all-bytes (c .before .before .before .before .before .before)) (c .before .before .before .before .before .loop-test .taken) (c .before .before .before .before .number-at .ensures ∙ ap numberSays (c .before .before .number .given .1)))
+    omega (
+      arith,
+      c .before .before .before .before .before .before .loop .inv .stored .size,
+      unrolled-room (c .before .before .before .before .before .before .loop .inv) _
+          (all-bytes (c .before .before .before .before .before .before))
+          (c .before .before .before .before .before .loop-test .taken)
+          (c .before .before .before .before .number-at .ensures ∙ ap numberSays (c .before .before .number .given .1)),
+    )
 
 add-done : tie.Need-add-done Inv-loop μ-loop
 add-done c =
-    omega (arith, c .before .before .before .before .before .before .before .before .before .before .before .before .good, unrolled-room (c .before .before .before .before .before .before .before .before .before .loop .inv) _ (all-bytes (c .before .before .before .before .before .before .before .before .before)) (c .before .before .before .before .before .before .before .before .loop-test .taken) (c .before .before .before .before .before .before .before .number-at .ensures ∙ ap numberSays (c .before .before .before .before .before .number .given .1)))
+    omega (
+      arith,
+      c .before .before .before .before .before .before .before .before .before .before .before .before .good,
+      unrolled-room (c .before .before .before .before .before .before .before .before .before .loop .inv) _
+          (all-bytes (c .before .before .before .before .before .before .before .before .before))
+          (c .before .before .before .before .before .before .before .before .loop-test .taken)
+          (c .before .before .before .before .before .before .before .number-at .ensures
+          ∙ ap numberSays (c .before .before .before .before .before .number .given .1)),
+    )
 
 sub-current : tie.Need-sub-current Inv-loop μ-loop
-sub-current c = omega (arith, c .before .before .before .before .before .before .before .before .before .loop .inv .bit, c .before .before .before .before .before .before .before .before .before .before .before .before .pre .0)
+sub-current c =
+    omega (
+      arith,
+      c .before .before .before .before .before .before .before .before .before .loop .inv .bit,
+      c .before .before .before .before .before .before .before .before .before .before .before .before .pre .0,
+    )
 
 loop-less : tie.Need-loop-less Inv-loop μ-loop
 loop-less c =
-    let p = number-placed (c .before .before .before .before .before .before .before .before .before .before .before .before .args .bytes .now) (c .before .before .before .before .before .before .before .before .before .loop .at) _ (all-bytes (c .before .before .before .before .before .before .before .before .before)) (c .before .before .before .before .before .before .before .number-at .ensures ∙ ap numberSays (c .before .before .before .before .before .number .given .1)) in
+    let p = number-placed
+    (c .before .before .before .before .before .before .before .before .before .before .before .before .args .bytes .now) (c .before .before .before .before .before .before .before .before .before .loop .at) _ (all-bytes (c .before .before .before .before .before .before .before .before .before)) (c .before .before .before .before .before .before .before .number-at .ensures ∙ ap numberSays (c .before .before .before .before .before .number .given .1)) in
     omega (arith, p .further-on, c .before .before .before .before .before .before .before .before .loop-test .taken)
 
 loop-again : tie.Need-loop-again Inv-loop μ-loop
 loop-again c =
-    unrolled-one (c .before .before .before .before .before .before .before .before .before .loop .inv) _ (all-bytes (c .before .before .before .before .before .before .before .before .before)) (c .before .before .before .before .before .before .before .before .loop-test .taken) (c .before .before .before .before .before .before .before .number-at .ensures ∙ ap numberSays (c .before .before .before .before .before .number .given .1)) _ (c .before .before .fill .ensures)
+    unrolled-one (c .before .before .before .before .before .before .before .before .before .loop .inv) _
+    (all-bytes (c .before .before .before .before .before .before .before .before .before))
+    (c .before .before .before .before .before .before .before .before .loop-test .taken)
+    (c .before .before .before .before .before .before .before .number-at .ensures
+    ∙ ap numberSays (c .before .before .before .before .before .number .given .1)) _
+    (c .before .before .fill .ensures)
 
 same-length-2 : tie.Need-same-length-2 Inv-loop μ-loop
 same-length-2 c = c .before .loop .inv .stored .size

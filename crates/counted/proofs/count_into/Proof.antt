@@ -1,4 +1,5 @@
--- `count_into` meets its contract: what is written, followed by what is found from the current read on, is all that is found.
+-- `count_into` meets its contract: what is written, followed by what is found from the current read on, is all that is
+-- found.
 use mathlib.Core.Path.{_≡_, ap, _∙_}
 use mathlib.Core.List.{List, [], append-nil}
 use Prim.Native.Nat.{ℕ, suc, _+_, _-_, _≤_, _<_}
@@ -33,7 +34,8 @@ less n i h = omega arith
 
 abbrev Inv-loop : tie.InvT-loop
 Inv-loop k n level reads out₀ held₀ current₀ i₀ out held current i =
-    (i ≤ n) × (current ≤ length reads) × Wrote (counted (k .0) n level reads) out₀ out (counted (k .0) (n - i) held (drop current reads)) i
+    (i ≤ n) × (current ≤ length reads)
+    × Wrote (counted (k .0) n level reads) out₀ out (counted (k .0) (n - i) held (drop current reads)) i
 
 abbrev μ-loop : tie.MeasureT-loop
 μ-loop k n level reads out₀ held₀ current₀ i₀ out held current i = n - i
@@ -55,9 +57,12 @@ returns c =
     let at-mark = c .before .before in
     let at-loop = at-mark .before .before in
     let args = at-loop .before .before .before .args in
-    let none = counted-unsampled (args .k .0) (args .n - at-loop .loop .i) (at-loop .loop .held) (args .reads .now) (at-loop .loop .current) (at-mark .find-mark .result)
+    let none =
+    counted-unsampled (args .k .0) (args .n - at-loop .loop .i) (at-loop .loop .held) (args .reads .now)
+    (at-loop .loop .current) (at-mark .find-mark .result)
     (at-mark .find-mark .ensures .1) (omega arith) in
-    found-fewer _ _ _ _ _ (rw none at (at-loop .loop .inv .2)) (omega arith) (omega arith) (at-mark .before .loop-test .taken)
+    found-fewer _ _ _ _ _ (rw none at (at-loop .loop .inv .2)) (omega arith) (omega arith)
+    (at-mark .before .loop-test .taken)
 
 sample-after-requires : tie.Need-sample-after-requires Inv-loop μ-loop
 sample-after-requires c κs = omega arith
@@ -88,9 +93,16 @@ loop-again c =
     let args = at-loop .before .before .before .args in
     let i = at-loop .loop .i in
     let fewer = less (args .n) i (at-mark .before .loop-test .taken) in
-    let step = counted-marked (args .k .0) (args .n - (i + 1)) (at-loop .loop .held) (args .reads .now) (at-loop .loop .current) (at-mark .find-mark .result) 0
-    (at-mark .find-mark .ensures .1) (omega arith) in
-    (omega arith, omega arith, wrote-more _ _ _ _ _ _ (rw (fewer, step, ← at-sample .sample-after .ensures, ← c .bit .ensures) at (at-loop .loop .inv .2)) (omega arith))
+    let step =
+    counted-marked (args .k .0) (args .n - (i + 1)) (at-loop .loop .held) (args .reads .now)
+    (at-loop .loop .current) (at-mark .find-mark .result) 0
+    (at-mark .find-mark .ensures .1) (omega arith) in (
+      omega arith,
+      omega arith,
+      wrote-more _ _ _ _ _ _
+          (rw (fewer, step, ← at-sample .sample-after .ensures, ← c .bit .ensures) at (at-loop .loop .inv .2))
+          (omega arith),
+    )
 
 same-length-2 : tie.Need-same-length-2 Inv-loop μ-loop
 same-length-2 c = c .before .loop .inv .2 .size

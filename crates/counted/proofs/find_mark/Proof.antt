@@ -9,7 +9,8 @@ use Rattle.counted.proofs.find_mark.Statement.{statement}
 use Rattle.counted.proofs.find_mark.Tie as tie
 
 abbrev Inv-loop : tie.InvT-loop
-Inv-loop reads current level i₀ i = (i ≤ length reads) × (fromMark level (drop current reads) ≡ fromMark level (drop i reads))
+Inv-loop reads current level i₀ i =
+    (i ≤ length reads) × (fromMark level (drop current reads) ≡ fromMark level (drop i reads))
 
 abbrev μ-loop : tie.MeasureT-loop
 μ-loop reads current level i₀ i = length reads - i
@@ -22,8 +23,11 @@ shared-slice-read-if1 c = omega arith
 
 returns : tie.Need-returns Inv-loop μ-loop
 returns c =
-    let at-loop = c .before .before .before in
-    (at-loop .loop .inv .0, at-loop .loop .inv .1 ∙ mark-here _ _ _ 0 (c .before .before .loop-test .taken) (c .if1 .taken))
+    let at-loop = c .before .before .before in (
+      at-loop .loop .inv .0,
+      at-loop .loop .inv .1
+          ∙ mark-here _ _ _ 0 (c .before .before .loop-test .taken) (c .if1 .taken),
+    )
 
 add-i : tie.Need-add-i Inv-loop μ-loop
 add-i c = omega arith

@@ -11,10 +11,20 @@ returns : tie.Need-returns
 returns c = simp (← c .before .between .ensures, not-true (c .before .between .result) (c .if1 .taken))
 
 returns-2 : tie.Need-returns-2
-returns-2 c = simp (← c .before .before .between .ensures, not-false (c .before .before .between .result) (c .before .if1 .left), lt-leb _ _ (c .if2 .taken))
+returns-2 c =
+    simp (
+      ← c .before .before .between .ensures,
+      not-false (c .before .before .between .result) (c .before .if1 .left),
+      lt-leb _ _ (c .if2 .taken),
+    )
 
 returns-3 : tie.Need-returns-3
-returns-3 c = simp (← c .before .before .between .ensures, not-false (c .before .before .between .result) (c .before .if1 .left), le-leb _ _ (c .if2 .left))
+returns-3 c =
+    simp (
+      ← c .before .before .between .ensures,
+      not-false (c .before .before .between .result) (c .before .if1 .left),
+      le-leb _ _ (c .if2 .left),
+    )
 
 pub in-range-spec : {M : Type 1} → statement M
 in-range-spec = tie.close (tie.spec between-requires returns returns-2 returns-3)

@@ -1,4 +1,5 @@
--- `reconcile` meets its contract: a read under way stays so over the block, and what is left of it is the call's. The measure is the number of
+-- `reconcile` meets its contract: a read under way stays so over the block, and what is left of it is the call's. The
+-- measure is the number of
 -- cycles left.
 use mathlib.Core.Path.{_≡_}
 use mathlib.Core.Logic.{⊎-elim}
@@ -38,7 +39,8 @@ called t = (look-on-reads.Asked, look-on-reads.Learnt, below t, reconcile.Post, 
 abbrev Inv-loop : reconcile-lts.InvT-loop
 Inv-loop wave w t from cycle until block stop at₀ at =
     (at .next .0 * w .0 ≡ at .end .0) × (at .end .0 ≤ block)
-    × UnderWay (cycleStart (w .0)) (t .0) wave (agree (at₀ .level) (look (cycleStart (w .0)) (t .0) from (drop from wave)))
+    × UnderWay (cycleStart (w .0)) (t .0) wave
+    (agree (at₀ .level) (look (cycleStart (w .0)) (t .0) from (drop from wave)))
     (from + dropped (cycleStart (w .0)) (t .0) from (drop from wave)) (at .level) (at .next .0)
 
 abbrev μ-loop : reconcile-lts.MeasureT-loop
@@ -48,7 +50,8 @@ module _ (t : ℕ) where
   -- a cycle that starts before the read's end is one of the wave's
   there : (s : reconcile-lts.Start (called t) (at-measure t) reconcile.Post Inv-loop μ-loop) (k start : ℕ)
       → k * s .args .w .0 ≡ start → start < s .args .t .0 → k < length (s .args .wave .now)
-  there s k start e begun = in-wave (s .args .w .0) (length (s .args .wave .now)) k (s .args .t .0) (omega arith) (s .pre .1 .4)
+  there s k start e begun =
+      in-wave (s .args .w .0) (length (s .args .wave .now)) k (s .args .t .0) (omega arith) (s .pre .1 .4)
 
   add-block : reconcile-lts.Need-add-block (called t) (at-measure t) reconcile.Post Inv-loop μ-loop
   add-block c = omega (arith, there (c .before) _ _ (c .before .pre .1 .2) (c .before .pre .1 .3))
@@ -71,7 +74,8 @@ module _ (t : ℕ) where
       (stop ≤ s .args .t .0) × (stop ≤ (s .args .looking .next .0 + block) * s .args .w .0)
       × (stop < s .args .t .0 → stop ≡ (s .args .looking .next .0 + block) * s .args .w .0)
 
-  stops : (c : reconcile-lts.Joined1 (called t) (at-measure t) reconcile.Post Inv-loop μ-loop) → Stops (c .before .before) (c .if1 .stop)
+  stops : (c : reconcile-lts.Joined1 (called t) (at-measure t) reconcile.Post Inv-loop μ-loop)
+      → Stops (c .before .before) (c .if1 .stop)
   stops c =
       ⊎-elim
       (λ came. (omega arith, omega arith, λ h. omega arith))
@@ -108,7 +112,8 @@ module _ (t : ℕ) where
         omega (
           arith,
           c .look-on .ensures .2,
-          ends-by (s .args .w .0) (d .loop .at .next .0) (s .args .looking .next .0 + block) (c .look-on .result .next .0) start
+          ends-by (s .args .w .0) (d .loop .at .next .0) (s .args .looking .next .0 + block)
+              (c .look-on .result .next .0) start
               (c .look-on .ensures .1),
         ),
         way-on _ _ _ _ _ _ _ _ _ _ (d .loop .inv .2) (there s _ _ (d .loop .inv .0) before) (d .loop .inv .0) before
@@ -120,7 +125,13 @@ module _ (t : ℕ) where
       → c .before .before .before .loop .at .end .0 < c .before .before .before .before .before .before .args .t .0
   goes-on c =
       let d = c .before .before .before in
-      omega (arith, c .before .if2 .left, c .if3 .taken, d .loop .inv .1, stops (d .before) .2 (omega (arith, c .if3 .taken)))
+      omega (
+        arith,
+        c .before .if2 .left,
+        c .if3 .taken,
+        d .loop .inv .1,
+        stops (d .before) .2 (omega (arith, c .if3 .taken)),
+      )
 
   further : (c : reconcile-lts.Then3 (called t) (at-measure t) reconcile.Post Inv-loop μ-loop)
       → c .before .before .before .before .before .before .args .looking .next .0 < c .before .before .before .loop .at .next .0
@@ -165,7 +176,8 @@ module _ (t : ℕ) where
   returns-2 c =
       let d = c .before .before .before .before in
       let s = d .before .before .before in
-      way-ends _ _ _ _ _ _ _ _ _ _ (d .loop .inv .2) (d .loop .inv .0) (omega (arith, c .before .before .if2 .left, c .before .if3 .left))
+      way-ends _ _ _ _ _ _ _ _ _ _ (d .loop .inv .2) (d .loop .inv .0)
+      (omega (arith, c .before .before .if2 .left, c .before .if3 .left))
       (omega (arith, cycle-least (s .args .w .0) (s .pre .1 .0))) (c .leave .ensures .0) (c .leave .ensures .1)
 
 pub +reconcile-spec : {M : Type 1} → statement M

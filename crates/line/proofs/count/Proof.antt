@@ -13,12 +13,19 @@ returns c = search needs
 mul-end : tie.Need-mul-end
 mul-end c =
     let a = c .before .args in
-    omega (arith, product-most (a .cycles .0) (a .w .0) (omega arith) (timed-w (a .w .0) (a .r .0) (a .p .0) (c .before .pre .0)))
+    omega (
+      arith,
+      product-most (a .cycles .0) (a .w .0) (omega arith) (timed-w (a .w .0) (a .r .0) (a .p .0) (c .before .pre .0)),
+    )
 
 sub-span : tie.Need-sub-span
 sub-span c =
     let a = c .before .args in
-    omega (arith, timed-p (a .w .0) (a .r .0) (a .p .0) (c .before .pre .0), mul-le-mul-right {m = 1} {n = a .cycles .0} (a .w .0) (omega arith))
+    omega (
+      arith,
+      timed-p (a .w .0) (a .r .0) (a .p .0) (c .before .pre .0),
+      mul-le-mul-right {m = 1} {n = a .cycles .0} (a .w .0) (omega arith),
+    )
 
 div-reads : tie.Need-div-reads
 div-reads c =

@@ -1,4 +1,5 @@
--- `one_read` meets its contract: a read under way stays so with each cycle looked at, and ends with the first that does not end before it.
+-- `one_read` meets its contract: a read under way stays so with each cycle looked at, and ends with the first that does
+-- not end before it.
 use mathlib.Core.Path.{_≡_, refl}
 use Prim.Native.Nat.{ℕ, suc, _+_, _*_, _<_}
 use native.Mathlib.Omega.{arith}
@@ -13,13 +14,17 @@ use Rattle.line.proofs.one_read.Tie as tie
 abbrev Way : tie.Start → ℕ → ℕ → Type 0
 Way s level next =
     UnderWay (cycleStart (s .args .w .0)) (s .args .t .0) (s .args .wave .now)
-    (look (cycleStart (s .args .w .0)) (s .args .t .0) (s .args .first .0) (drop (s .args .first .0) (s .args .wave .now)))
-    (s .args .first .0 + dropped (cycleStart (s .args .w .0)) (s .args .t .0) (s .args .first .0) (drop (s .args .first .0) (s .args .wave .now)))
+    (look (cycleStart (s .args .w .0)) (s .args .t .0) (s .args .first .0)
+    (drop (s .args .first .0) (s .args .wave .now)))
+    (s .args .first .0 + dropped (cycleStart (s .args .w .0)) (s .args .t .0) (s .args .first .0)
+    (drop (s .args .first .0) (s .args .wave .now)))
     level next
 
 -- a cycle that starts before the read's end is one of the wave's
-there : (s : tie.Start) (k start : ℕ) → k * s .args .w .0 ≡ start → start < s .args .t .0 → k < length (s .args .wave .now)
-there s k start e begun = in-wave (s .args .w .0) (length (s .args .wave .now)) k (s .args .t .0) (omega arith) (s .pre .3)
+there : (s : tie.Start) (k start : ℕ) → k * s .args .w .0 ≡ start → start < s .args .t .0
+    → k < length (s .args .wave .now)
+there s k start e begun =
+    in-wave (s .args .w .0) (length (s .args .wave .now)) k (s .args .t .0) (omega arith) (s .pre .3)
 
 takes : (s : tie.Start) (k : ℕ) → cycleStart (s .args .w .0) k < cycleStart (s .args .w .0) (suc k)
 takes s k = omega (arith, cycle-least (s .args .w .0) (s .pre .0))
@@ -43,7 +48,8 @@ leave-requires c κs = omega arith
 returns : tie.Need-returns
 returns c =
     let d = c .before .before .before in
-    way-ends _ _ _ _ _ _ _ _ _ _ (one d) (d .up-to .ensures .2) (omega (arith, c .before .if1 .taken)) (takes (d .before .before .before) _)
+    way-ends _ _ _ _ _ _ _ _ _ _ (one d) (d .up-to .ensures .2) (omega (arith, c .before .if1 .taken))
+    (takes (d .before .before .before) _)
     (c .leave .ensures .0) (c .leave .ensures .1)
 
 look-on-requires : tie.Need-look-on-requires
@@ -52,10 +58,12 @@ look-on-requires c κs =
     let s = d .before .before .before in
     (s .pre .0, s .pre .1, there s _ _ (d .up-to .ensures .2) (omega (arith, c .if1 .left)))
 
-two : (c : tie.After-look-on) → Way (c .before .before .before .before .before .before) (c .look-on .result .level) (c .look-on .result .next .0)
+two : (c : tie.After-look-on)
+    → Way (c .before .before .before .before .before .before) (c .look-on .result .level) (c .look-on .result .next .0)
 two c =
     let d = c .before .before .before in
-    way-on _ _ _ _ _ _ _ _ _ _ (one d) (there (d .before .before .before) _ _ (d .up-to .ensures .2) (omega (arith, c .before .if1 .left)))
+    way-on _ _ _ _ _ _ _ _ _ _ (one d)
+    (there (d .before .before .before) _ _ (d .up-to .ensures .2) (omega (arith, c .before .if1 .left)))
     (d .up-to .ensures .2) (omega (arith, c .before .if1 .left)) (c .look-on .ensures .0) (c .look-on .ensures .1)
 
 leave-requires-2 : tie.Need-leave-requires-2
@@ -75,11 +83,13 @@ look-on-requires-2 c κs =
     (s .pre .0, s .pre .1, there s _ _ (d .look-on .ensures .2) (omega (arith, c .if2 .left)))
 
 three : (c : tie.After-look-on2)
-    → Way (c .before .before .before .before .before .before .before .before .before) (c .look-on2 .result .level) (c .look-on2 .result .next .0)
+    → Way (c .before .before .before .before .before .before .before .before .before) (c .look-on2 .result .level)
+    (c .look-on2 .result .next .0)
 three c =
     let d = c .before .before .before in
     way-on _ _ _ _ _ _ _ _ _ _ (two d)
-    (there (d .before .before .before .before .before .before) _ _ (d .look-on .ensures .2) (omega (arith, c .before .if2 .left)))
+    (there (d .before .before .before .before .before .before) _ _ (d .look-on .ensures .2)
+    (omega (arith, c .before .if2 .left)))
     (d .look-on .ensures .2) (omega (arith, c .before .if2 .left)) (c .look-on2 .ensures .0) (c .look-on2 .ensures .1)
 
 leave-requires-3 : tie.Need-leave-requires-3
@@ -89,7 +99,8 @@ returns-3 : tie.Need-returns-3
 returns-3 c =
     let d = c .before .before .before in
     way-ends _ _ _ _ _ _ _ _ _ _ (three d) (d .look-on2 .ensures .2) (omega (arith, c .before .if3 .taken))
-    (takes (d .before .before .before .before .before .before .before .before .before) _) (c .leave3 .ensures .0) (c .leave3 .ensures .1)
+    (takes (d .before .before .before .before .before .before .before .before .before) _) (c .leave3 .ensures .0)
+    (c .leave3 .ensures .1)
 
 reconcile-requires : tie.Need-reconcile-requires
 reconcile-requires c κs =

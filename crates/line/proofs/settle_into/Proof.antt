@@ -1,4 +1,5 @@
--- `settle_into` meets its contract: what is written, followed by the reads left settled by the choices left, is the whole stream settled.
+-- `settle_into` meets its contract: what is written, followed by the reads left settled by the choices left, is the
+-- whole stream settled.
 use mathlib.Core.Path.{sym}
 use mathlib.Core.Logic.{⊎-elim}
 use Prim.Native.Nat.{_≤_, _-_}
@@ -13,7 +14,8 @@ use Rattle.line.proofs.settle_into.Tie as tie
 
 abbrev Inv-loop : tie.InvT-loop
 Inv-loop reads choices out₀ used₀ i₀ out used i =
-    (used ≤ i) × (i ≤ length reads) × Wrote (settle reads choices) out₀ out (settle (drop i reads) (drop used choices)) i
+    (used ≤ i) × (i ≤ length reads)
+    × Wrote (settle reads choices) out₀ out (settle (drop i reads) (drop used choices)) i
 
 abbrev μ-loop : tie.MeasureT-loop
 μ-loop reads choices out₀ used₀ i₀ out used i = length reads - i
@@ -48,7 +50,8 @@ loop-again c =
     rw (a .2, a .3) (
       omega arith,
       omega arith,
-      wrote-more _ _ _ _ _ _ (rw (settle-unknown _ _ _ _ here (a .0 .taken), a .1 .ensures) at (at-loop .loop .inv .2)) (omega arith),
+      wrote-more _ _ _ _ _ _ (rw (settle-unknown _ _ _ _ here (a .0 .taken), a .1 .ensures) at (at-loop .loop .inv .2))
+          (omega arith),
     ))
     (λ a.
     rw (a .1, a .2) (
@@ -62,7 +65,8 @@ same-length : tie.Need-same-length Inv-loop μ-loop
 same-length c = c .before .loop .inv .2 .size
 
 returns : tie.Need-returns Inv-loop μ-loop
-returns c = sym (wrote-all _ _ _ _ (rw (settle-end _ _ _ (c .loop-test .left)) at (c .before .loop .inv .2)) (omega arith))
+returns c =
+    sym (wrote-all _ _ _ _ (rw (settle-end _ _ _ (c .loop-test .left)) at (c .before .loop .inv .2)) (omega arith))
 
 pub settle-into-spec : {M : Type 1} → statement M
 settle-into-spec =

@@ -1,4 +1,5 @@
--- `smooth_into` meets its contract: what is written, followed by the smoothing of the cycles left, is the smoothing of the wave.
+-- `smooth_into` meets its contract: what is written, followed by the smoothing of the cycles left, is the smoothing of
+-- the wave.
 use mathlib.Core.Path.{sym}
 use Prim.Native.Nat.{_≤_, _-_}
 use native.Mathlib.Omega.{arith}
@@ -11,7 +12,8 @@ use Rattle.line.proofs.smooth_into.Statement.{statement}
 use Rattle.line.proofs.smooth_into.Tie as tie
 
 abbrev Inv-loop : tie.InvT-loop
-Inv-loop wave out₀ before₀ i₀ out before i = (i ≤ length wave) × Wrote (smooth wave) out₀ out (smoothFrom before (drop i wave)) i
+Inv-loop wave out₀ before₀ i₀ out before i =
+    (i ≤ length wave) × Wrote (smooth wave) out₀ out (smoothFrom before (drop i wave)) i
 
 abbrev μ-loop : tie.MeasureT-loop
 μ-loop wave out₀ before₀ i₀ out before i = length wave - i

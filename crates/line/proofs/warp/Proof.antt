@@ -1,4 +1,5 @@
--- `warp` meets its contract: each test that led to a return is one of the definition's, in its order, and the reads are as many as were counted.
+-- `warp` meets its contract: each test that led to a return is one of the definition's, in its order, and the reads are
+-- as many as were counted.
 use mathlib.Core.Path.{_≡_, _∙_}
 use mathlib.Core.Bool.{true}
 use Prim.Native.Nat.{ℕ}
@@ -105,7 +106,12 @@ returns-6 : tie.Need-returns-6
 returns-6 c =
     let e = c .before .before .before .before in
     let d = e .before .before in
-    judged d ∙ simp (← c .before .before .warp-into .ensures, counted (d .before .before .before .before), le-ltb _ _ (e .if5 .left))
+    judged d
+    ∙ simp (
+      ← c .before .before .warp-into .ensures,
+      counted (d .before .before .before .before),
+      le-ltb _ _ (e .if5 .left),
+    )
 
 pub warp-spec : {M : Type 1} → statement M
 warp-spec =

@@ -20,7 +20,8 @@ abbrev μ-loop : tie.MeasureT-loop
 some-r : (s : tie.Start Inv-loop μ-loop) → 0 < s .args .r .0
 some-r s = cycle-least (s .args .r .0) (timed-r (s .args .w .0) (s .args .r .0) (s .args .p .0) (s .pre .0))
 
-clocks : (s : tie.Start Inv-loop μ-loop) → Clocks (cycleStart (s .args .w .0)) (readStart (s .args .p .0) (s .args .r .0))
+clocks : (s : tie.Start Inv-loop μ-loop)
+    → Clocks (cycleStart (s .args .w .0)) (readStart (s .args .p .0) (s .args .r .0))
 clocks s =
     even-clocks (s .args .w .0) (s .args .r .0) (s .args .p .0) (some-r s)
     (timed-p (s .args .w .0) (s .args .r .0) (s .args .p .0) (s .pre .0))
@@ -31,7 +32,8 @@ ends : (s : tie.Start Inv-loop μ-loop) (j : ℕ) → j < s .args .n .0
 ends s j h =
     omega (
       arith,
-      counted-ends (s .args .w .0) (s .args .r .0) (s .args .p .0) (length (s .args .wave .now)) j (some-r s) (rw (s .pre .2) h),
+      counted-ends (s .args .w .0) (s .args .r .0) (s .args .p .0) (length (s .args .wave .now)) j (some-r s)
+          (rw (s .pre .2) h),
     )
 
 -- so that its end fits
@@ -81,7 +83,8 @@ loop-again c =
     let s = d .before .before .before in (
       omega arith,
       run-more (clocks s) _ _ _ _ _ _ _ _ (d .loop .inv .1) (omega arith) (omega arith)
-          (ends s (d .loop .j) (c .before .before .loop-test .taken)) (c .before .one-read .ensures .0) (c .before .one-read .ensures .1),
+          (ends s (d .loop .j) (c .before .before .loop-test .taken)) (c .before .one-read .ensures .0)
+          (c .before .one-read .ensures .1),
     )
 
 same-length : tie.Need-same-length Inv-loop μ-loop
@@ -93,7 +96,8 @@ returns c =
     let s = d .before .before .before in
     rw (warp-by (s .args .w .0) (s .args .r .0) (s .args .p .0) (s .args .wave .now))
     (run-all (clocks s) _ _ _ _ _ (d .loop .inv .1)
-    (uncounted-late (s .args .w .0) (s .args .r .0) (s .args .p .0) (length (s .args .wave .now)) (d .loop .j) (some-r s) (omega (arith, s .pre .2)))
+    (uncounted-late (s .args .w .0) (s .args .r .0) (s .args .p .0) (length (s .args .wave .now)) (d .loop .j)
+    (some-r s) (omega (arith, s .pre .2)))
     (omega arith))
 
 pub warp-into-spec : {M : Type 1} → statement M

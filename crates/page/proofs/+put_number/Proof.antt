@@ -28,7 +28,10 @@ put-number-returns :
     (put-number-below t, put-number.Post)
     (put-number-at t)
     put-number.Post
-put-number-returns t c = (omega (arith, size-none _ (c .before .before .args .n) (c .if1 .taken)), rw (decimal-none _ (c .before .before .args .n) (c .if1 .taken)))
+put-number-returns t c = (
+  omega (arith, size-none _ (c .before .before .args .n) (c .if1 .taken)),
+  rw (decimal-none _ (c .before .before .args .n) (c .if1 .taken)),
+)
 
 put-number-cast-out :
     (t : ℕ) →
@@ -68,7 +71,10 @@ put-number-returns-2 : (t : ℕ) → put-number-lts.Need-returns-2 (
   put-number-below t,
   put-number.Post,
 ) (put-number-at t) put-number.Post
-put-number-returns-2 t c = (omega (arith, size-one _ _ (c .before .if1 .left) (c .if2 .taken)), rw (decimal-one _ _ (c .before .if1 .left) (c .if2 .taken)))
+put-number-returns-2 t c = (
+  omega (arith, size-one _ _ (c .before .if1 .left) (c .if2 .taken)),
+  rw (decimal-one _ _ (c .before .if1 .left) (c .if2 .taken)),
+)
 
 put-number-sub-put-number : (t : ℕ) → put-number-lts.Need-sub-put-number (
   put-number-below t,
@@ -80,7 +86,8 @@ put-number-put-number-requires : (t : ℕ) → put-number-lts.Need-put-number-re
   put-number-below t,
   put-number.Post,
 ) (put-number-at t) put-number.Post
-put-number-put-number-requires t c κs = omega (arith, size-more _ _ (c .before .before .if1 .left) (c .before .if2 .left))
+put-number-put-number-requires t c κs =
+    omega (arith, size-more _ _ (c .before .before .if1 .left) (c .before .if2 .left))
 
 put-number-cast-out-2 : (t : ℕ) → put-number-lts.Need-cast-out-2 (
   put-number-below t,
@@ -98,13 +105,23 @@ put-number-slice-write-out-2 : (t : ℕ) → put-number-lts.Need-slice-write-out
   put-number-below t,
   put-number.Post,
 ) (put-number-at t) put-number.Post
-put-number-slice-write-out-2 t c = omega (arith, size-more _ _ (c .before .before .before .before .before .if1 .left) (c .before .before .before .before .if2 .left), c .before .before .put-number .kept .0)
+put-number-slice-write-out-2 t c =
+    omega (
+      arith,
+      size-more _ _ (c .before .before .before .before .before .if1 .left)
+          (c .before .before .before .before .if2 .left),
+      c .before .before .put-number .kept .0,
+    )
 
 put-number-add-result-2 : (t : ℕ) → put-number-lts.Need-add-result-2 (
   put-number-below t,
   put-number.Post,
 ) (put-number-at t) put-number.Post
-put-number-add-result-2 t c = omega (arith, size-more _ _ (c .before .before .before .before .before .if1 .left) (c .before .before .before .before .if2 .left))
+put-number-add-result-2 t c =
+    omega (
+      arith,
+      size-more _ _ (c .before .before .before .before .before .if1 .left) (c .before .before .before .before .if2 .left),
+    )
 
 put-number-same-length-2 : (t : ℕ) → put-number-lts.Need-same-length-2 (
   put-number-below t,
@@ -117,8 +134,14 @@ put-number-returns-3 : (t : ℕ) → put-number-lts.Need-returns-3 (
   put-number.Post,
 ) (put-number-at t) put-number.Post
 put-number-returns-3 t c = (
-  omega (arith, size-more _ _ (c .before .before .before .before .before .if1 .left) (c .before .before .before .before .if2 .left)),
-  more-stored _ _ _ _ _ _ (c .before .before .before .before .before .if1 .left) (c .before .before .before .before .if2 .left) (c .before .before .put-number .ensures .0) (c .before .before .put-number .ensures .1),
+  omega (
+    arith,
+    size-more _ _ (c .before .before .before .before .before .if1 .left)
+        (c .before .before .before .before .if2 .left),
+  ),
+  more-stored _ _ _ _ _ _ (c .before .before .before .before .before .if1 .left)
+      (c .before .before .before .before .if2 .left) (c .before .before .put-number .ensures .0)
+      (c .before .before .put-number .ensures .1),
 )
 
 pub +put-number-spec : {M : Type 1} → statement M

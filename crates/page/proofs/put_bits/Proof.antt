@@ -14,7 +14,8 @@ use Rattle.page.proofs.put_bits.Statement.{statement}
 use Rattle.page.proofs.put_bits.Tie as tie
 
 abbrev Inv-loop : tie.InvT-loop
-Inv-loop out₀ at bits count i₀ out i = (i ≤ count) × (length out ≡ length out₀) × (out ≡ sets out₀ at (take i (bitsText (unpacked 8 bits))))
+Inv-loop out₀ at bits count i₀ out i =
+    (i ≤ count) × (length out ≡ length out₀) × (out ≡ sets out₀ at (take i (bitsText (unpacked 8 bits))))
 
 abbrev μ-loop : tie.MeasureT-loop
 μ-loop out₀ at bits count i₀ out i = count - i
@@ -26,7 +27,12 @@ bit-at-requires : tie.Need-bit-at-requires Inv-loop μ-loop
 bit-at-requires c κs = omega (arith, length-unpacked 8 (now (c .before .before .before .before .args .bits)))
 
 add-out : tie.Need-add-out Inv-loop μ-loop
-add-out c = omega (arith, unpacked-binary 8 (now (c .before .before .before .before .before .args .bits)) (c .before .before .loop .i), c .bit-at .ensures)
+add-out c =
+    omega (
+      arith,
+      unpacked-binary 8 (now (c .before .before .before .before .before .args .bits)) (c .before .before .loop .i),
+      c .bit-at .ensures,
+    )
 
 add-out-2 : tie.Need-add-out-2 Inv-loop μ-loop
 add-out-2 c = omega arith
@@ -48,7 +54,8 @@ loop-again c =
       omega arith,
       simp length-set (c .before .before .loop .inv .1),
       rw (c .before .before .loop .inv .2)
-          (stored-more (now (a .out)) (bitsText bits) (a .at) i _ (omega (arith, text-length bits)) (ap digit (sym (c .bit-at .ensures)) ∙ sym (text-at bits i (omega arith)))),
+          (stored-more (now (a .out)) (bitsText bits) (a .at) i _ (omega (arith, text-length bits))
+          (ap digit (sym (c .bit-at .ensures)) ∙ sym (text-at bits i (omega arith)))),
     )
 
 add-result : tie.Need-add-result Inv-loop μ-loop

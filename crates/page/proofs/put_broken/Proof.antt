@@ -54,11 +54,16 @@ returns-2 : tie.Need-returns-2
 returns-2 c =
     let a = c .before .before .before .before .before .before .before .before .before .before .before .before .before .before .before .before .before .before .before .before .before .before .args in
     lent-whole (decimal (a .place .0) ++ brokenText ++ decimal (a .found) ++ feed) (now (a .out)) _ _
-    (omega (arith, c .before .before .before .before .before .before .before .before .before .before .before .before .before .before .before .before .before .before, length-four (decimal (a .place .0)) brokenText (decimal (a .found)) feed))
+    (omega (
+      arith,
+      c .before .before .before .before .before .before .before .before .before .before .before .before .before .before .before .before .before .before,
+      length-four (decimal (a .place .0)) brokenText (decimal (a .found)) feed,
+    ))
     (stands-more (decimal (a .place .0) ++ brokenText ++ decimal (a .found)) feed _ _ _ _ _
     (stands-more (decimal (a .place .0) ++ brokenText) (decimal (a .found)) _ _ _ _ _
     (stands-more (decimal (a .place .0)) brokenText _ _ _ _ _
-    (stands-first (decimal (a .place .0)) _ _ _ (c .before .before .before .before .before .before .before .before .before .before .before .before .before .before .before .before .put-number .ensures))
+    (stands-first (decimal (a .place .0)) _ _ _
+    (c .before .before .before .before .before .before .before .before .before .before .before .before .before .before .before .before .put-number .ensures))
     (c .before .before .before .before .before .before .before .before .before .before .before .put-text .ensures))
     (c .before .before .before .before .before .before .before .put-number2 .ensures))
     (c .before .before .put-text2 .ensures))

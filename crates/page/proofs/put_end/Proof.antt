@@ -63,12 +63,17 @@ returns-2 : tie.Need-returns-2
 returns-2 c =
     let a = c .before .before .before .before .before .before .before .before .before .before .before .before .before .before .before .before .before .before .before .before .before .before .before .before .before .before .before .args in
     lent-whole (endText ++ (decimal (a .reads .0)) ++ rowsText ++ (decimal (a .rows)) ++ feed) (now (a .out)) _ _
-    (omega (arith, c .before .before .before .before .before .before .before .before .before .before .before .before .before .before .before .before .before .before .before .before .before .before .before, length-five endText (decimal (a .reads .0)) rowsText (decimal (a .rows)) feed))
+    (omega (
+      arith,
+      c .before .before .before .before .before .before .before .before .before .before .before .before .before .before .before .before .before .before .before .before .before .before .before,
+      length-five endText (decimal (a .reads .0)) rowsText (decimal (a .rows)) feed,
+    ))
     (stands-more (endText ++ (decimal (a .reads .0)) ++ rowsText ++ (decimal (a .rows))) feed _ _ _ _ _
     (stands-more (endText ++ (decimal (a .reads .0)) ++ rowsText) (decimal (a .rows)) _ _ _ _ _
     (stands-more (endText ++ (decimal (a .reads .0))) rowsText _ _ _ _ _
     (stands-more endText (decimal (a .reads .0)) _ _ _ _ _
-    (stands-first endText _ _ _ (c .before .before .before .before .before .before .before .before .before .before .before .before .before .before .before .before .before .before .before .before .put-text .ensures))
+    (stands-first endText _ _ _
+    (c .before .before .before .before .before .before .before .before .before .before .before .before .before .before .before .before .before .before .before .before .put-text .ensures))
     (c .before .before .before .before .before .before .before .before .before .before .before .before .before .before .before .before .put-number .ensures))
     (c .before .before .before .before .before .before .before .before .before .before .before .put-text2 .ensures))
     (c .before .before .before .before .before .before .before .put-number2 .ensures))

@@ -20,7 +20,8 @@ same-length c = search needs
 
 returns-2 : tie.Need-returns-2
 returns-2 c =
-    lent-whole headingLine (now (c .before .before .before .before .before .before .before .args .out)) _ _ (c .before .before .before .before .before .if1 .left)
+    lent-whole headingLine (now (c .before .before .before .before .before .before .before .args .out)) _ _
+    (c .before .before .before .before .before .if1 .left)
     (stands-first headingLine _ _ _ (c .before .before .put-text .ensures))
 
 pub put-heading-spec : {M : Type 1} → statement M

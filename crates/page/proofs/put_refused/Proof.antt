@@ -40,7 +40,8 @@ returns c =
     let a = c .before .before .before .before .before .before .args in
     let n = c .before .before .before .before .number .result in
     let p = c .before .before .before .place .result in
-    ap (λ (line : List ℕ). lent line (now (a .out))) (refused-same (c .before .before .before .before .number .ensures) (c .before .before .before .place .ensures))
+    ap (λ (line : List ℕ). lent line (now (a .out)))
+    (refused-same (c .before .before .before .before .number .ensures) (c .before .before .before .place .ensures))
     ∙ (lent-short (refusedText ++ (decimal n) ++ atText ++ (decimal p) ++ feed) (now (a .out))
     (omega (arith, length-five refusedText (decimal n) atText (decimal p) feed)))
 
@@ -76,14 +77,21 @@ returns-2 c =
     let a = c .before .before .before .before .before .before .before .before .before .before .before .before .before .before .before .before .before .before .before .before .before .before .before .before .before .before .before .before .before .args in
     let n = c .before .before .before .before .before .before .before .before .before .before .before .before .before .before .before .before .before .before .before .before .before .before .before .before .before .before .before .number .result in
     let p = c .before .before .before .before .before .before .before .before .before .before .before .before .before .before .before .before .before .before .before .before .before .before .before .before .before .before .place .result in
-    ap (λ (line : List ℕ). lent line (now (a .out))) (refused-same (c .before .before .before .before .before .before .before .before .before .before .before .before .before .before .before .before .before .before .before .before .before .before .before .before .before .before .before .number .ensures) (c .before .before .before .before .before .before .before .before .before .before .before .before .before .before .before .before .before .before .before .before .before .before .before .before .before .before .place .ensures))
+    ap (λ (line : List ℕ). lent line (now (a .out)))
+    (refused-same
+    (c .before .before .before .before .before .before .before .before .before .before .before .before .before .before .before .before .before .before .before .before .before .before .before .before .before .before .before .number .ensures) (c .before .before .before .before .before .before .before .before .before .before .before .before .before .before .before .before .before .before .before .before .before .before .before .before .before .before .place .ensures))
     ∙ (lent-whole (refusedText ++ (decimal n) ++ atText ++ (decimal p) ++ feed) (now (a .out)) _ _
-    (omega (arith, c .before .before .before .before .before .before .before .before .before .before .before .before .before .before .before .before .before .before .before .before .before .before .before, length-five refusedText (decimal n) atText (decimal p) feed))
+    (omega (
+      arith,
+      c .before .before .before .before .before .before .before .before .before .before .before .before .before .before .before .before .before .before .before .before .before .before .before,
+      length-five refusedText (decimal n) atText (decimal p) feed,
+    ))
     (stands-more (refusedText ++ (decimal n) ++ atText ++ (decimal p)) feed _ _ _ _ _
     (stands-more (refusedText ++ (decimal n) ++ atText) (decimal p) _ _ _ _ _
     (stands-more (refusedText ++ (decimal n)) atText _ _ _ _ _
     (stands-more refusedText (decimal n) _ _ _ _ _
-    (stands-first refusedText _ _ _ (c .before .before .before .before .before .before .before .before .before .before .before .before .before .before .before .before .before .before .before .before .put-text .ensures))
+    (stands-first refusedText _ _ _
+    (c .before .before .before .before .before .before .before .before .before .before .before .before .before .before .before .before .before .before .before .before .put-text .ensures))
     (c .before .before .before .before .before .before .before .before .before .before .before .before .before .before .before .before .put-number .ensures))
     (c .before .before .before .before .before .before .before .before .before .before .before .put-text2 .ensures))
     (c .before .before .before .before .before .before .before .put-number2 .ensures))

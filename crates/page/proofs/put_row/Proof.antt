@@ -1,4 +1,5 @@
--- `put_row` meets its contract: the four pieces of its line stand one behind another, the bits among them that there are.
+-- `put_row` meets its contract: the four pieces of its line stand one behind another, the bits among them that there
+-- are.
 use denote.Ref.{now}
 use mathlib.Core.Path.{_≡_}
 use mathlib.Core.List.{_++_}
@@ -53,7 +54,11 @@ put-text-requires c κs = search needs
 put-bits-requires : tie.Need-put-bits-requires
 put-bits-requires c κs =
     let a = c .before .before .before .before .before .before .before .before .before .before .before .before .before .before .before .before .args in
-    omega (arith, taken-within (a .n) (unpacked 8 (now (a .bits))), c .before .before .before .before .before .before .before .before .before .before .if2 .left)
+    omega (
+      arith,
+      taken-within (a .n) (unpacked 8 (now (a .bits))),
+      c .before .before .before .before .before .before .before .before .before .before .if2 .left,
+    )
 
 slice-aggregate-put-text-2 : tie.Need-slice-aggregate-put-text-2
 slice-aggregate-put-text-2 c = search needs
@@ -68,16 +73,31 @@ returns-3 : tie.Need-returns-3
 returns-3 c =
     let a = c .before .before .before .before .before .before .before .before .before .before .before .before .before .before .before .before .before .before .before .before .before .before .before .before .args in
     let bits = take (a .n) (unpacked 8 (now (a .bits))) in
-    let count = c .before .before .before .before .before .before .before .before .before .before .before .before .before .before .before .before .before .before .before .before .before .held in
-    let e : take (count .result) (unpacked 8 (now (a .bits))) ≡ bits = rw (count .ensures) (taken-again (a .n) (unpacked 8 (now (a .bits)))) in
+    let count =
+    c .before .before .before .before .before .before .before .before .before .before .before .before .before .before .before .before .before .before .before .before .before .held in
+    let e : take (count .result) (unpacked 8 (now (a .bits))) ≡ bits =
+    rw (count .ensures) (taken-again (a .n) (unpacked 8 (now (a .bits)))) in
     lent-whole (decimal (a .place .0) ++ rowText ++ bitsText bits ++ feed) (now (a .out)) _ _
-    (omega (arith, c .before .before .before .before .before .before .before .before .before .before .before .before .before .before .before .before .before .before, length-four (decimal (a .place .0)) rowText (bitsText bits) feed, text-length bits))
+    (omega (
+      arith,
+      c .before .before .before .before .before .before .before .before .before .before .before .before .before .before .before .before .before .before,
+      length-four (decimal (a .place .0)) rowText (bitsText bits) feed,
+      text-length bits,
+    ))
     (stands-more (decimal (a .place .0) ++ rowText ++ bitsText bits) feed _ _ _ _ _
     (stands-more (decimal (a .place .0) ++ rowText) (bitsText bits) _ _ _ _ _
     (stands-more (decimal (a .place .0)) rowText _ _ _ _ _
-    (stands-first (decimal (a .place .0)) _ _ _ (c .before .before .before .before .before .before .before .before .before .before .before .before .before .before .before .before .put-number .ensures))
-    (c .before .before .before .before .before .before .before .before .before .before .before .put-text .ensures))
-    (omega (arith, c .before .before .before .before .before .before .before .put-bits .ensures .0, count .ensures, text-length bits), rw e at (c .before .before .before .before .before .before .before .put-bits .ensures .1)))
+    (stands-first (decimal (a .place .0)) _ _ _
+    (c .before .before .before .before .before .before .before .before .before .before .before .before .before .before .before .before .put-number .ensures))
+    (c .before .before .before .before .before .before .before .before .before .before .before .put-text .ensures)) (
+      omega (
+        arith,
+        c .before .before .before .before .before .before .before .put-bits .ensures .0,
+        count .ensures,
+        text-length bits,
+      ),
+      rw e at (c .before .before .before .before .before .before .before .put-bits .ensures .1),
+    ))
     (c .before .before .put-text2 .ensures))
 
 pub put-row-spec : {M : Type 1} → statement M

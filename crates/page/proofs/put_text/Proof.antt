@@ -37,7 +37,8 @@ loop-again c = (
   omega arith,
   simp length-set (c .before .before .loop .inv .1),
   rw (c .before .before .loop .inv .2)
-      (stored-more (c .before .before .before .args .out .now) (c .before .before .before .args .text .now) (c .before .before .before .args .at) (c .before .before .loop .i) _ (c .before .loop-test .taken) refl),
+      (stored-more (c .before .before .before .args .out .now) (c .before .before .before .args .text .now)
+      (c .before .before .before .args .at) (c .before .before .loop .i) _ (c .before .loop-test .taken) refl),
 )
 
 add-result : tie.Need-add-result Inv-loop μ-loop
@@ -48,7 +49,8 @@ same-length c = omega arith
 
 returns : tie.Need-returns Inv-loop μ-loop
 returns c =
-    let e : take (c .before .loop .i) (c .before .before .args .text .now) ≡ c .before .before .args .text .now = take-all (c .before .loop .i) (c .before .before .args .text .now) (omega arith) in
+    let e : take (c .before .loop .i) (c .before .before .args .text .now) ≡ c .before .before .args .text .now =
+    take-all (c .before .loop .i) (c .before .before .args .text .now) (omega arith) in
     (omega arith, c .before .loop .inv .2 ∙ rw e)
 
 pub put-text-spec : {M : Type 1} → statement M

@@ -11,7 +11,8 @@ enum-told : tie.Need-enum-told
 enum-told c = search needs
 
 returns : tie.Need-returns
-returns c n e = line-bytes (c .before .before .before .args .put) (c .before .put .given .0 .0) n (c .before .put .given .1) e
+returns c n e =
+    line-bytes (c .before .before .before .args .put) (c .before .put .given .0 .0) n (c .before .put .given .1) e
 
 returns-2 : tie.Need-returns-2
 returns-2 c n e = refused-bytes (c .before .before .args .put) _ n 0 (c .enum-told .given .1) e

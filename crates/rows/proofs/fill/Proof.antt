@@ -6,7 +6,8 @@ use native.Mathlib.Omega.{arith}
 use borrow.Author.Tests.{not-true, not-false}
 use lib.ListN.{length, length-drop}
 use Rattle.rows.specs.Page.{standing}
-use Rattle.rows.proofs.Filling.{Filling, filling-none, tail-all, ready-left, back-size, added-most, turn-further, filling-turn, filled-turn}
+use Rattle.rows.proofs.Filling.{Filling, filling-none, tail-all, ready-left, back-size, added-most, turn-further}
+use Rattle.rows.proofs.Filling.{filling-turn, filled-turn}
 use Rattle.rows.proofs.fill.Statement.{statement}
 use Rattle.rows.proofs.fill.Tie as tie
 
@@ -17,7 +18,9 @@ abbrev μ-loop : tie.MeasureT-loop
 μ-loop reads page₀ walk₀ bytes₀ page walk bytes = length reads - walk .place .0
 
 loop-holds : tie.Need-loop-holds Inv-loop μ-loop
-loop-holds c = filling-none (standing (c .before .before .args .start)) (now (c .before .before .args .reads)) (now (c .before .before .args .page)) (c .before .before .pre .0)
+loop-holds c =
+    filling-none (standing (c .before .before .args .start)) (now (c .before .before .args .reads))
+    (now (c .before .before .args .page)) (c .before .before .pre .0)
 
 sub-loop : tie.Need-sub-loop Inv-loop μ-loop
 sub-loop c = omega arith
@@ -43,22 +46,35 @@ part-turn-end-2 c = omega arith
 turn-requires : tie.Need-turn-requires Inv-loop μ-loop
 turn-requires c κs =
     let l = c .before .before .before .loop in
-    let a = c .before .before .before .before .before .before .args in
-    (ready-left (standing (l .walk)) (now (a .reads)) (l .inv .ready), omega (arith, ap length (tail-all (l .bytes) (l .page)), length-drop (l .bytes) (l .page), c .before .before .loop-test .taken))
+    let a = c .before .before .before .before .before .before .args in (
+      ready-left (standing (l .walk)) (now (a .reads)) (l .inv .ready),
+      omega (
+        arith,
+        ap length (tail-all (l .bytes) (l .page)),
+        length-drop (l .bytes) (l .page),
+        c .before .before .loop-test .taken,
+      ),
+    )
 
 add-bytes : tie.Need-add-bytes Inv-loop μ-loop
 add-bytes c =
     let l = c .before .before .before .before .before .before .before .before .loop in
     let a = c .before .before .before .before .before .before .before .before .before .before .before .args in
     let t = c .before .before .before .before .turn in
-    omega (arith, added-most (standing (a .start)) (now (a .reads)) (now (a .page)) (l .page) (standing (l .walk)) (l .bytes) (l .inv) _ _ _ _ (t .ensures) (t .kept .1 .1 .0), c .before .before .before .before .before .before .before .before .before .before .before .good .1 .1 .0 .0)
+    omega (
+      arith,
+      added-most (standing (a .start)) (now (a .reads)) (now (a .page)) (l .page) (standing (l .walk)) (l .bytes)
+          (l .inv) _ _ _ _ (t .ensures) (t .kept .1 .1 .0),
+      c .before .before .before .before .before .before .before .before .before .before .before .good .1 .1 .0 .0,
+    )
 
 same-length : tie.Need-same-length Inv-loop μ-loop
 same-length c =
     let l = c .before .before .before .before .before .before .before .before .before .before .loop in
     let a = c .before .before .before .before .before .before .before .before .before .before .before .before .before .args in
     let t = c .before .before .before .before .before .before .turn in
-    back-size (standing (a .start)) (now (a .reads)) (now (a .page)) (l .page) (standing (l .walk)) (l .bytes) (l .inv) _ _ _ _ (t .ensures) (t .kept .1 .1 .0)
+    back-size (standing (a .start)) (now (a .reads)) (now (a .page)) (l .page) (standing (l .walk)) (l .bytes)
+    (l .inv) _ _ _ _ (t .ensures) (t .kept .1 .1 .0)
 
 returns : tie.Need-returns Inv-loop μ-loop
 returns c =
@@ -66,7 +82,8 @@ returns c =
     let a = c .before .before .before .before .before .before .before .before .before .before .before .before .before .args in
     let t = c .before .before .before .before .before .before .turn in
     rw (not-true (t .result .more) (c .if1 .taken)) at
-    (filled-turn (standing (a .start)) (now (a .reads)) (now (a .page)) (l .page) (standing (l .walk)) (l .bytes) (l .inv) _ _ _ _ (t .ensures) (t .kept .1 .1 .0))
+    (filled-turn (standing (a .start)) (now (a .reads)) (now (a .page)) (l .page) (standing (l .walk)) (l .bytes)
+    (l .inv) _ _ _ _ (t .ensures) (t .kept .1 .1 .0))
 
 loop-less : tie.Need-loop-less Inv-loop μ-loop
 loop-less c =
@@ -74,14 +91,21 @@ loop-less c =
     let a = c .before .before .before .before .before .before .before .before .before .before .before .before .before .args in
     let t = c .before .before .before .before .before .before .turn in
     let on = (not-false (t .result .more) (c .if1 .left)) in
-    omega (arith, turn-further (standing (a .start)) (now (a .reads)) (now (a .page)) (l .page) (standing (l .walk)) (l .bytes) (l .inv) _ _ _ _ (t .ensures) (t .kept .1 .1 .0) on, filling-turn (standing (a .start)) (now (a .reads)) (now (a .page)) (l .page) (standing (l .walk)) (l .bytes) (l .inv) _ _ _ _ (t .ensures) (t .kept .1 .1 .0) on .ready .within)
+    omega (
+      arith,
+      turn-further (standing (a .start)) (now (a .reads)) (now (a .page)) (l .page) (standing (l .walk)) (l .bytes)
+          (l .inv) _ _ _ _ (t .ensures) (t .kept .1 .1 .0) on,
+      filling-turn (standing (a .start)) (now (a .reads)) (now (a .page)) (l .page) (standing (l .walk)) (l .bytes)
+          (l .inv) _ _ _ _ (t .ensures) (t .kept .1 .1 .0) on .ready .within,
+    )
 
 loop-again : tie.Need-loop-again Inv-loop μ-loop
 loop-again c =
     let l = c .before .before .before .before .before .before .before .before .before .before .loop in
     let a = c .before .before .before .before .before .before .before .before .before .before .before .before .before .args in
     let t = c .before .before .before .before .before .before .turn in
-    filling-turn (standing (a .start)) (now (a .reads)) (now (a .page)) (l .page) (standing (l .walk)) (l .bytes) (l .inv) _ _ _ _ (t .ensures) (t .kept .1 .1 .0) (not-false (t .result .more) (c .if1 .left))
+    filling-turn (standing (a .start)) (now (a .reads)) (now (a .page)) (l .page) (standing (l .walk)) (l .bytes)
+    (l .inv) _ _ _ _ (t .ensures) (t .kept .1 .1 .0) (not-false (t .result .more) (c .if1 .left))
 
 same-length-2 : tie.Need-same-length-2 Inv-loop μ-loop
 same-length-2 c = c .before .loop .inv .size
@@ -89,7 +113,13 @@ same-length-2 c = c .before .loop .inv .size
 returns-2 : tie.Need-returns-2 Inv-loop μ-loop
 returns-2 c =
     let f = c .before .loop .inv in
-    record { lines = f .lines; room = f .room; ready = f .ready; further = λ _. f .further (omega (arith, f .size, c .loop-test .left, c .before .before .before .before .pre .1)) }
+    record {
+      lines = f .lines;
+      room = f .room;
+      ready = f .ready;
+      further =
+          λ _. f .further (omega (arith, f .size, c .loop-test .left, c .before .before .before .before .pre .1));
+    }
 
 pub fill-spec : {M : Type 1} → statement M
 fill-spec =

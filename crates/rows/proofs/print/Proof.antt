@@ -20,13 +20,26 @@ enum-known-checked : tie.Need-enum-known-checked
 enum-known-checked c = search needs
 
 slice-reshare-prefix-print-rows : tie.Need-slice-reshare-prefix-print-rows
-slice-reshare-prefix-print-rows c = reads-fit _ _ _ (c .before .before .before .before .before .read-capture .result) (c .before .checked .given .0 .0) (c .before .before .before .before .before .read-capture .ensures) (c .before .checked .given .1) (c .before .before .before .before .before .read-capture .kept .1 .0)
+slice-reshare-prefix-print-rows c =
+    reads-fit _ _ _ (c .before .before .before .before .before .read-capture .result) (c .before .checked .given .0 .0)
+    (c .before .before .before .before .before .read-capture .ensures) (c .before .checked .given .1)
+    (c .before .before .before .before .before .read-capture .kept .1 .0)
 
 slice-aggregate-print-rows : tie.Need-slice-aggregate-print-rows
-slice-aggregate-print-rows c = sym (length-take-le (c .before .before .checked .given .0 .0 .reads .0) (c .before .before .before .before .before .before .read-capture .last .1 .0) (slice-reshare-prefix-print-rows (c .before)))
+slice-aggregate-print-rows c =
+    sym (length-take-le (c .before .before .checked .given .0 .0 .reads .0)
+    (c .before .before .before .before .before .before .read-capture .last .1 .0)
+    (slice-reshare-prefix-print-rows (c .before)))
 
 print-rows-requires : tie.Need-print-rows-requires
-print-rows-requires c κs = omega (arith, c .before .before .before .before .before .before .before .before .before .before .before .pre, slice-aggregate-print-rows c, slice-reshare-prefix-print-rows (c .before), c .before .before .before .before .before .before .read-capture .kept .1 .0)
+print-rows-requires c κs =
+    omega (
+      arith,
+      c .before .before .before .before .before .before .before .before .before .before .before .pre,
+      slice-aggregate-print-rows c,
+      slice-reshare-prefix-print-rows (c .before),
+      c .before .before .before .before .before .before .read-capture .kept .1 .0,
+    )
 
 enum-known-checked-2 : tie.Need-enum-known-checked-2
 enum-known-checked-2 c = search needs

@@ -24,11 +24,16 @@ bytes-of-requires c κs = search needs
 array-share-prefix-line : tie.Need-array-share-prefix-line
 array-share-prefix-line c =
     let put = c .before .before .put-refused in
-    put-within (refusedLine (numberOf (c .before .before .before .before .args .refusal)) (placeOf (c .before .before .before .before .args .refusal))) (replicate 1050 0) _ (put .result) _
-    (omega (arith, refused-most (c .before .before .before .before .args .refusal), length-replicate {A = ℕ} 1050 0)) (put .ensures) (c .bytes-of .ensures) (put .kept .1 .0)
+    put-within
+    (refusedLine (numberOf (c .before .before .before .before .args .refusal))
+    (placeOf (c .before .before .before .before .args .refusal))) (replicate 1050 0) _ (put .result) _
+    (omega (arith, refused-most (c .before .before .before .before .args .refusal), length-replicate {A = ℕ} 1050 0))
+    (put .ensures) (c .bytes-of .ensures) (put .kept .1 .0)
 
 slice-aggregate-write-all : tie.Need-slice-aggregate-write-all
-slice-aggregate-write-all c = sym (length-take-le (c .before .bytes-of .result) (c .before .before .before .put-refused .last .1 .0) (array-share-prefix-line (c .before)))
+slice-aggregate-write-all c =
+    sym (length-take-le (c .before .bytes-of .result) (c .before .before .before .put-refused .last .1 .0)
+    (array-share-prefix-line (c .before)))
 
 write-all-requires : tie.Need-write-all-requires
 write-all-requires c κs = search needs

@@ -32,10 +32,14 @@ bytes-of-requires c κs = search needs
 
 array-share-prefix-page : tie.Need-array-share-prefix-page Inv-loop μ-loop
 array-share-prefix-page c =
-    put-within headingLine (replicate 16384 0) _ (c .before .before .put-heading .result) _ (omega (arith, length-replicate {A = ℕ} 16384 0)) (c .before .before .put-heading .ensures) (c .bytes-of .ensures) (c .before .before .put-heading .kept .0)
+    put-within headingLine (replicate 16384 0) _ (c .before .before .put-heading .result) _
+    (omega (arith, length-replicate {A = ℕ} 16384 0)) (c .before .before .put-heading .ensures)
+    (c .bytes-of .ensures) (c .before .before .put-heading .kept .0)
 
 slice-aggregate-write-all : tie.Need-slice-aggregate-write-all Inv-loop μ-loop
-slice-aggregate-write-all c = sym (length-take-le (c .before .bytes-of .result) (c .before .before .before .put-heading .last .0) (array-share-prefix-page (c .before)))
+slice-aggregate-write-all c =
+    sym (length-take-le (c .before .bytes-of .result) (c .before .before .before .put-heading .last .0)
+    (array-share-prefix-page (c .before)))
 
 write-all-requires : tie.Need-write-all-requires Inv-loop μ-loop
 write-all-requires c κs = search needs
@@ -46,7 +50,12 @@ returns c = search needs
 loop-holds : tie.Need-loop-holds Inv-loop μ-loop
 loop-holds c = (
   c .before .before .before .before .before .put-heading .kept .0 ∙ length-replicate {A = ℕ} 16384 0,
-  record { within = omega arith; few = c .before .before .before .before .before .before .before .before .before .before .pre; fewer = omega arith },
+  record {
+    within = omega arith;
+    few =
+        c .before .before .before .before .before .before .before .before .before .before .pre;
+    fewer = omega arith;
+  },
 )
 
 slice-aggregate-fill : tie.Need-slice-aggregate-fill Inv-loop μ-loop
@@ -59,7 +68,9 @@ array-share-prefix-page-2 : tie.Need-array-share-prefix-page-2 Inv-loop μ-loop
 array-share-prefix-page-2 c = c .before .fill .ensures .room
 
 slice-aggregate-write-all-2 : tie.Need-slice-aggregate-write-all-2 Inv-loop μ-loop
-slice-aggregate-write-all-2 c = sym (length-take-le (c .before .before .fill .result .bytes) (c .before .before .fill .last .1 .1 .0) (c .before .before .fill .ensures .room))
+slice-aggregate-write-all-2 c =
+    sym (length-take-le (c .before .before .fill .result .bytes) (c .before .before .fill .last .1 .1 .0)
+    (c .before .before .fill .ensures .room))
 
 write-all-requires-2 : tie.Need-write-all-requires-2 Inv-loop μ-loop
 write-all-requires-2 c κs = search needs
@@ -73,12 +84,19 @@ returns-3 c = search needs
 loop-less : tie.Need-loop-less Inv-loop μ-loop
 loop-less c =
     let filled = c .before .before .before .before .before .before .before .fill in
-    omega (arith, filled .ensures .further (not-false (filled .result .more) (c .before .if3 .left)), filled .ensures .ready .within)
+    omega (
+      arith,
+      filled .ensures .further (not-false (filled .result .more) (c .before .if3 .left)),
+      filled .ensures .ready .within,
+    )
 
 loop-again : tie.Need-loop-again Inv-loop μ-loop
 loop-again c =
-    let filled = c .before .before .before .before .before .before .before .fill in
-    (filled .kept .1 .1 .0 ∙ c .before .before .before .before .before .before .before .before .before .loop .inv .0, filled .ensures .ready)
+    let filled = c .before .before .before .before .before .before .before .fill in (
+      filled .kept .1 .1 .0
+          ∙ c .before .before .before .before .before .before .before .before .before .loop .inv .0,
+      filled .ensures .ready,
+    )
 
 pub print-rows-spec : {M : Type 1} → statement M
 print-rows-spec =

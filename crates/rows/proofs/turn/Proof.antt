@@ -14,7 +14,13 @@ listen-requires : tie.Need-listen-requires
 listen-requires c κs = search needs
 
 add-place : tie.Need-add-place
-add-place c = omega (arith, known (standing (c .before .before .before .before .args .walk)) (now (c .before .before .before .before .args .left)) (c .listen .result) (c .listen .ensures) .most, c .before .before .before .before .pre .0)
+add-place c =
+    omega (
+      arith,
+      known (standing (c .before .before .before .before .args .walk))
+          (now (c .before .before .before .before .args .left)) (c .listen .result) (c .listen .ensures) .most,
+      c .before .before .before .before .pre .0,
+    )
 
 enum-told : tie.Need-enum-told
 enum-told c = search needs
@@ -29,7 +35,14 @@ enum-told-2 : tie.Need-enum-told-2
 enum-told-2 c = search needs
 
 sub-last : tie.Need-sub-last
-sub-last c = omega (arith, event-takes (standing (c .before .before .before .before .before .before .before .before .args .walk)) (now (c .before .before .before .before .before .before .before .before .args .left)) (c .before .before .before .before .listen .result) (c .before .before .before .before .listen .ensures) Row (c .before .enum-told2 .given .1) refl)
+sub-last c =
+    omega (
+      arith,
+      event-takes (standing (c .before .before .before .before .before .before .before .before .args .walk))
+          (now (c .before .before .before .before .before .before .before .before .args .left))
+          (c .before .before .before .before .listen .result) (c .before .before .before .before .listen .ensures) Row
+          (c .before .enum-told2 .given .1) refl,
+    )
 
 slice-aggregate-put-row : tie.Need-slice-aggregate-put-row
 slice-aggregate-put-row c = search needs
@@ -47,7 +60,14 @@ enum-known-event : tie.Need-enum-known-event
 enum-known-event c = search needs
 
 sub-last-2 : tie.Need-sub-last-2
-sub-last-2 c = omega (arith, event-takes (standing (c .before .before .before .before .before .before .before .before .args .walk)) (now (c .before .before .before .before .before .before .before .before .args .left)) (c .before .before .before .before .listen .result) (c .before .before .before .before .listen .ensures) (Broken (c .before .event .given .0 .0)) (c .before .event .given .1) refl)
+sub-last-2 c =
+    omega (
+      arith,
+      event-takes (standing (c .before .before .before .before .before .before .before .before .args .walk))
+          (now (c .before .before .before .before .before .before .before .before .args .left))
+          (c .before .before .before .before .listen .result) (c .before .before .before .before .listen .ensures)
+          (Broken (c .before .event .given .0 .0)) (c .before .event .given .1) refl,
+    )
 
 put-broken-requires : tie.Need-put-broken-requires
 put-broken-requires c κs = search needs
@@ -70,7 +90,13 @@ same-length c = search needs
 returns : tie.Need-returns
 returns c =
     let a = c .before .before .before .before .before .before .before .before .before .before .before .before .args in
-    turn-is (standing (a .walk)) (now (a .left)) (c .before .before .before .before .before .before .before .before .listen .result) (c .before .before .before .before .before .before .before .before .listen .ensures) Nothing (c .before .before .before .before .before .enum-told .given .1) (now (a .out)) _ (c .before .before .before .put-end .result) _ (c .before .before .before .before .before .before .before .before .before .before .before .before .pre .1) (c .before .before .before .put-end .ensures) (c .bytes-of .ensures)
+    turn-is (standing (a .walk)) (now (a .left))
+    (c .before .before .before .before .before .before .before .before .listen .result)
+    (c .before .before .before .before .before .before .before .before .listen .ensures) Nothing
+    (c .before .before .before .before .before .enum-told .given .1) (now (a .out)) _
+    (c .before .before .before .put-end .result) _
+    (c .before .before .before .before .before .before .before .before .before .before .before .before .pre .1)
+    (c .before .before .before .put-end .ensures) (c .bytes-of .ensures)
 
 same-length-2 : tie.Need-same-length-2
 same-length-2 c = search needs
@@ -79,7 +105,12 @@ returns-2 : tie.Need-returns-2
 returns-2 c =
     let a = c .before .before .before .before .before .before .before .before .before .before .before .before .before .before .args in
     rw (add-one (a .walk .rows))
-    (turn-is (standing (a .walk)) (now (a .left)) (c .before .before .before .before .before .before .before .before .before .before .listen .result) (c .before .before .before .before .before .before .before .before .before .before .listen .ensures) Row (c .before .before .before .before .before .before .before .enum-told2 .given .1) (now (a .out)) _ (c .before .before .before .put-row .result) _ (c .before .before .before .before .before .before .before .before .before .before .before .before .before .before .pre .1) (c .before .before .before .put-row .ensures) (c .bytes-of2 .ensures))
+    (turn-is (standing (a .walk)) (now (a .left))
+    (c .before .before .before .before .before .before .before .before .before .before .listen .result)
+    (c .before .before .before .before .before .before .before .before .before .before .listen .ensures) Row
+    (c .before .before .before .before .before .before .before .enum-told2 .given .1) (now (a .out)) _
+    (c .before .before .before .put-row .result) _
+    (c .before .before .before .before .before .before .before .before .before .before .before .before .before .before .pre .1) (c .before .before .before .put-row .ensures) (c .bytes-of2 .ensures))
 
 same-length-3 : tie.Need-same-length-3
 same-length-3 c = search needs
@@ -87,7 +118,13 @@ same-length-3 c = search needs
 returns-3 : tie.Need-returns-3
 returns-3 c =
     let a = c .before .before .before .before .before .before .before .before .before .before .before .before .before .args in
-    turn-is (standing (a .walk)) (now (a .left)) (c .before .before .before .before .before .before .before .before .before .listen .result) (c .before .before .before .before .before .before .before .before .before .listen .ensures) (Broken (c .before .before .before .before .before .before .event .given .0 .0)) (c .before .before .before .before .before .before .event .given .1) (now (a .out)) _ (c .before .before .before .put-broken .result) _ (c .before .before .before .before .before .before .before .before .before .before .before .before .before .pre .1) (c .before .before .before .put-broken .ensures) (c .bytes-of3 .ensures)
+    turn-is (standing (a .walk)) (now (a .left))
+    (c .before .before .before .before .before .before .before .before .before .listen .result)
+    (c .before .before .before .before .before .before .before .before .before .listen .ensures)
+    (Broken (c .before .before .before .before .before .before .event .given .0 .0))
+    (c .before .before .before .before .before .before .event .given .1) (now (a .out)) _
+    (c .before .before .before .put-broken .result) _
+    (c .before .before .before .before .before .before .before .before .before .before .before .before .before .pre .1) (c .before .before .before .put-broken .ensures) (c .bytes-of3 .ensures)
 
 same-length-4 : tie.Need-same-length-4
 same-length-4 c = search needs
@@ -95,7 +132,13 @@ same-length-4 c = search needs
 returns-4 : tie.Need-returns-4
 returns-4 c =
     let a = c .before .before .before .before .before .before .before .before .before .before .before .before .before .args in
-    turn-is (standing (a .walk)) (now (a .left)) (c .before .before .before .before .before .before .before .before .before .listen .result) (c .before .before .before .before .before .before .before .before .before .listen .ensures) (Refused (c .before .before .before .before .before .before .event2 .given .0 .0)) (c .before .before .before .before .before .before .event2 .given .1) (now (a .out)) _ (c .before .before .before .put-refused .result) _ (c .before .before .before .before .before .before .before .before .before .before .before .before .before .pre .1) (c .before .before .before .put-refused .ensures) (c .bytes-of4 .ensures)
+    turn-is (standing (a .walk)) (now (a .left))
+    (c .before .before .before .before .before .before .before .before .before .listen .result)
+    (c .before .before .before .before .before .before .before .before .before .listen .ensures)
+    (Refused (c .before .before .before .before .before .before .event2 .given .0 .0))
+    (c .before .before .before .before .before .before .event2 .given .1) (now (a .out)) _
+    (c .before .before .before .put-refused .result) _
+    (c .before .before .before .before .before .before .before .before .before .before .before .before .before .pre .1) (c .before .before .before .put-refused .ensures) (c .bytes-of4 .ensures)
 
 pub turn-spec : {M : Type 1} → statement M
 turn-spec =

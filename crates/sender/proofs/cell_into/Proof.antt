@@ -34,7 +34,8 @@ returns c =
     let level-is = after-level .code-level .ensures in
     let mark = replicate (args .a) (opposite (args .before)) in (
       level-is,
-      placed-next (args .out .now) (after-fill .fill .last .0) (args .at) (args .at + args .a) mark (replicate (args .b) (codeLevel (args .before) (args .bit)))
+      placed-next (args .out .now) (after-fill .fill .last .0) (args .at) (args .at + args .a) mark
+          (replicate (args .b) (codeLevel (args .before) (args .bit)))
           (after-fill .fill .ensures) (rw length-replicate)
           ∙ rw level-is at (c .before .before .fill2 .ensures),
     )

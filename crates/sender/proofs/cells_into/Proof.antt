@@ -1,4 +1,5 @@
--- `cells_into` meets its contract: the cells of the bits left, laid down on the output as it is, give the same as all cells at the start.
+-- `cells_into` meets its contract: the cells of the bits left, laid down on the output as it is, give the same as all
+-- cells at the start.
 use mathlib.Core.Path.{_≡_, refl, sym, ap, _∙_}
 use mathlib.Core.List.{List}
 use Prim.Native.Nat.{ℕ, _+_, _*_, _-_, _≤_, _<_}
@@ -33,12 +34,16 @@ cell-into-requires : tie.Need-cell-into-requires Inv-loop μ-loop
 cell-into-requires c κs =
     let at-loop = c .before .before .before in
     let args = at-loop .before .before .before .args in
-    omega (arith, within (at-loop .loop .i) (length (args .bits .now)) (args .a + args .b) (c .before .before .loop-test .taken))
+    omega (
+      arith,
+      within (at-loop .loop .i) (length (args .bits .now)) (args .a + args .b) (c .before .before .loop-test .taken),
+    )
 
 -- a turn's cell lies within the output
 room : (c : tie.After-slice-known2 Inv-loop μ-loop)
     → let at-loop = c .before .before .before .before .before .before in
-    at-loop .loop .place + at-loop .before .before .before .args .a + at-loop .before .before .before .args .b ≤ length (at-loop .loop .out)
+    at-loop .loop .place + at-loop .before .before .before .args .a + at-loop .before .before .before .args .b ≤ length
+    (at-loop .loop .out)
 room c =
     let at-test = c .before .before .before .before .before in
     let at-loop = at-test .before in
@@ -69,7 +74,9 @@ loop-again c =
       rw (written .ensures .0) (code-level-most (loop .before) (getD (args .bits .now) (loop .i) 0) (loop .inv .1)),
       omega arith,
       written .kept .1 .1 .1 .1 .0 ∙ loop .inv .3,
-      loop .inv .4 ∙ cells-placed (args .a) (args .b) (loop .before) (written .result) (args .bits .now) (loop .i) (loop .place) (loop .out) (written .last .1 .1 .1 .1 .0)
+      loop .inv .4
+          ∙ cells-placed (args .a) (args .b) (loop .before) (written .result) (args .bits .now) (loop .i) (loop .place)
+          (loop .out) (written .last .1 .1 .1 .1 .0)
           more (written .ensures .0) (written .ensures .1),
     )
 
@@ -82,7 +89,9 @@ returns c =
     let args = at-loop .before .before .before .args in
     let all : at-loop .loop .i ≡ length (args .bits .now) = omega arith in (
       rw (← all) (at-loop .loop .inv .2),
-      at-loop .loop .inv .4 ∙ ap (λ (l : List ℕ). sets (at-loop .loop .out) (at-loop .loop .place) l) (cells-end _ _ _ _ _ (c .loop-test .left)),
+      at-loop .loop .inv .4
+          ∙ ap (λ (l : List ℕ). sets (at-loop .loop .out) (at-loop .loop .place) l)
+          (cells-end _ _ _ _ _ (c .loop-test .left)),
     )
 
 pub cells-into-spec : {M : Type 1} → statement M

@@ -1,4 +1,5 @@
--- `lists_fit` meets its contract: so many bits are n for each row exactly if n goes into them as often as there are rows, and leaves none over.
+-- `lists_fit` meets its contract: so many bits are n for each row exactly if n goes into them as often as there are
+-- rows, and leaves none over.
 use mathlib.Core.Path.{_≡_}
 use Prim.Native.Nat.{_/_, _*_}
 use native.Mathlib.Nat.{div-eq-of-eq-mul-left, div-mul-le-self}

@@ -42,7 +42,11 @@ loop-less c = omega arith
 loop-again : tie.Need-loop-again Inv-loop μ-loop
 loop-again c =
     let at-loop = c .before .before .before in
-    omega (arith, above-past padMost (at-loop .before .args .pads .now) (at-loop .loop .i) (c .before .before .loop-test .taken) (c .if1 .left))
+    omega (
+      arith,
+      above-past padMost (at-loop .before .args .pads .now) (at-loop .loop .i) (c .before .before .loop-test .taken)
+          (c .if1 .left),
+    )
 
 returns-2 : tie.Need-returns-2 Inv-loop μ-loop
 returns-2 c =

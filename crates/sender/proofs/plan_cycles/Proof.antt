@@ -19,7 +19,8 @@ row-most a b n ha hb hn =
 
 abbrev Inv-loop : tie.InvT-loop
 Inv-loop a b n leads trails cell row cycles₀ i₀ cycles i =
-    (i ≤ length leads) × (cycles ≤ i * 653310) × (cycles + total (drop i leads) + total (drop i trails) ≡ i * row + total leads + total trails)
+    (i ≤ length leads) × (cycles ≤ i * 653310)
+    × (cycles + total (drop i leads) + total (drop i trails) ≡ i * row + total leads + total trails)
 
 abbrev μ-loop : tie.MeasureT-loop
 μ-loop a b n leads trails cell row cycles₀ i₀ cycles i = length leads - i
@@ -51,7 +52,8 @@ module _ (c : tie.In-loop Inv-loop μ-loop) where
   trail-most = pads-most (start .args .trails .now) (start .pre .6) (c .before .loop .i) (omega arith)
 
   cells-most : start .args .n * (start .args .a + start .args .b) ≤ 522240
-  cells-most = row-most (start .args .a) (start .args .b) (start .args .n) (start .pre .0) (start .pre .1) (start .pre .2)
+  cells-most =
+      row-most (start .args .a) (start .args .b) (start .args .n) (start .pre .0) (start .pre .1) (start .pre .2)
 
 add-cycles : tie.Need-add-cycles Inv-loop μ-loop
 add-cycles c = omega (arith, lead-most (c .before))
@@ -66,7 +68,8 @@ shared-slice-read-cycles-2 : tie.Need-shared-slice-read-cycles-2 Inv-loop μ-loo
 shared-slice-read-cycles-2 c = omega arith
 
 add-cycles-3 : tie.Need-add-cycles-3 Inv-loop μ-loop
-add-cycles-3 c = omega (arith, lead-most (c .before .before), cells-most (c .before .before), trail-most (c .before .before))
+add-cycles-3 c =
+    omega (arith, lead-most (c .before .before), cells-most (c .before .before), trail-most (c .before .before))
 
 add-i : tie.Need-add-i Inv-loop μ-loop
 add-i c = omega arith
@@ -97,7 +100,12 @@ returns c bits fit =
     let trails = args .trails .now in
     let all : i ≡ length leads = omega arith in
     let sum = rw all at (c .before .loop .inv .2) in
-    omega (arith, length-plan (args .a) (args .b) (args .n) leads trails bits (start .pre .4) fit, total-end leads (length leads) (omega arith), total-end trails (length leads) (omega arith))
+    omega (
+      arith,
+      length-plan (args .a) (args .b) (args .n) leads trails bits (start .pre .4) fit,
+      total-end leads (length leads) (omega arith),
+      total-end trails (length leads) (omega arith),
+    )
 
 pub plan-cycles-spec : {M : Type 1} → statement M
 plan-cycles-spec =

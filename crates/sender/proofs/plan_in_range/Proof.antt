@@ -21,7 +21,10 @@ between-requires-2 c κs = search needs
 returns-2 : tie.Need-returns-2
 returns-2 c =
     let first = c .before .before in
-    simp (passed (first .before .between .ensures) (first .if1 .left), failed (c .before .between2 .ensures) (c .if2 .taken))
+    simp (
+      passed (first .before .between .ensures) (first .if1 .left),
+      failed (c .before .between2 .ensures) (c .if2 .taken),
+    )
 
 between-requires-3 : tie.Need-between-requires-3
 between-requires-3 c κs = search needs

@@ -1,4 +1,5 @@
--- `plan_into` meets its contract: the waves of the rows left, laid down on the output as it is, give the same as the whole plan at the start.
+-- `plan_into` meets its contract: the waves of the rows left, laid down on the output as it is, give the same as the
+-- whole plan at the start.
 use mathlib.Core.Path.{_≡_, refl, sym, ap, _∙_}
 use mathlib.Core.List.{List, _++_}
 use Prim.Native.Nat.{ℕ, _+_, _*_, _-_, _≤_, _<_}
@@ -17,7 +18,8 @@ abbrev Inv-loop : tie.InvT-loop
 Inv-loop a b n leads trails bits out₀ at₀ start₀ i₀ out at start i =
     (i ≤ length leads) × (start ≡ i * n) × (length out ≡ length out₀)
     × (at + length (planWave a b (rowsOf n (drop i leads) (drop i trails) (drop start bits))) ≤ length out)
-    × (sets out₀ 0 (planWave a b (rowsOf n leads trails bits)) ≡ sets out at (planWave a b (rowsOf n (drop i leads) (drop i trails) (drop start bits))))
+    × (sets out₀ 0 (planWave a b (rowsOf n leads trails bits))
+    ≡ sets out at (planWave a b (rowsOf n (drop i leads) (drop i trails) (drop start bits))))
 
 abbrev μ-loop : tie.MeasureT-loop
 μ-loop a b n leads trails bits out₀ at₀ start₀ i₀ out at start i = length leads - i
@@ -36,7 +38,8 @@ module _ (c : tie.In-loop Inv-loop μ-loop) where
   abbrev row : List ℕ
   row = take (begin .args .n) (drop (c .before .loop .start) (begin .args .bits .now))
 
-  row-same : take (c .before .loop .start + begin .args .n - c .before .loop .start) (drop (c .before .loop .start) (begin .args .bits .now)) ≡ row
+  row-same : take (c .before .loop .start + begin .args .n - c .before .loop .start)
+      (drop (c .before .loop .start) (begin .args .bits .now)) ≡ row
   row-same =
       let e : c .before .loop .start + begin .args .n - c .before .loop .start ≡ begin .args .n = omega arith in
       rw e
@@ -54,19 +57,25 @@ module _ (c : tie.In-loop Inv-loop μ-loop) where
   this = wave (begin .args .a) (begin .args .b) lead trail row
 
   this-size : length this ≡ lead + begin .args .n * (begin .args .a + begin .args .b) + trail
-  this-size = length-row (begin .args .a) (begin .args .b) lead trail (begin .args .n) (drop (c .before .loop .start) (begin .args .bits .now)) row-within
+  this-size =
+      length-row (begin .args .a) (begin .args .b) lead trail (begin .args .n)
+      (drop (c .before .loop .start) (begin .args .bits .now)) row-within
 
   abbrev rest : List ℕ
   rest =
       planWave (begin .args .a) (begin .args .b)
-      (rowsOf (begin .args .n) (drop (c .before .loop .i + 1) (begin .args .leads .now)) (drop (c .before .loop .i + 1) (begin .args .trails .now))
+      (rowsOf (begin .args .n) (drop (c .before .loop .i + 1) (begin .args .leads .now))
+      (drop (c .before .loop .i + 1) (begin .args .trails .now))
       (drop (c .before .loop .start + begin .args .n) (begin .args .bits .now)))
 
   parts : planWave (begin .args .a) (begin .args .b)
-      (rowsOf (begin .args .n) (drop (c .before .loop .i) (begin .args .leads .now)) (drop (c .before .loop .i) (begin .args .trails .now)) (drop (c .before .loop .start) (begin .args .bits .now)))
+      (rowsOf (begin .args .n) (drop (c .before .loop .i) (begin .args .leads .now))
+      (drop (c .before .loop .i) (begin .args .trails .now))
+      (drop (c .before .loop .start) (begin .args .bits .now)))
       ≡ this ++ rest
   parts =
-      plan-step (begin .args .a) (begin .args .b) (begin .args .n) (begin .args .leads .now) (begin .args .trails .now) (begin .args .bits .now) (c .before .loop .i) (c .before .loop .start)
+      plan-step (begin .args .a) (begin .args .b) (begin .args .n) (begin .args .leads .now) (begin .args .trails .now)
+      (begin .args .bits .now) (c .before .loop .i) (c .before .loop .start)
       (c .loop-test .taken) (omega arith)
 
   room : c .before .loop .at + length this + length rest ≤ length (c .before .loop .out)
@@ -121,7 +130,8 @@ loop-again c =
       omega (arith, room turn),
       loop .inv .4
           ∙ ap (λ (l : List ℕ). sets (loop .out) (loop .at) l) (parts turn)
-          ∙ placed-next (loop .out) (written .last .1 .1 .1 .1 .1 .0) (loop .at) (written .result) (this turn) (rest turn) (rw (row-same turn) at (written .ensures .1)) after,
+          ∙ placed-next (loop .out) (written .last .1 .1 .1 .1 .1 .0) (loop .at) (written .result) (this turn)
+          (rest turn) (rw (row-same turn) at (written .ensures .1)) after,
     )
 
 same-length : tie.Need-same-length Inv-loop μ-loop
@@ -133,7 +143,8 @@ returns c =
     let args = c .before .before .before .before .before .before .args in
     loop .inv .4
     ∙ ap (λ (l : List ℕ). sets (loop .out) (loop .at) l)
-    (plan-end (args .a) (args .b) (args .n) (args .leads .now) (drop (loop .i) (args .trails .now)) (drop (loop .start) (args .bits .now)) (loop .i) (c .loop-test .left))
+    (plan-end (args .a) (args .b) (args .n) (args .leads .now) (drop (loop .i) (args .trails .now))
+    (drop (loop .start) (args .bits .now)) (loop .i) (c .loop-test .left))
 
 pub plan-into-spec : {M : Type 1} → statement M
 plan-into-spec =

@@ -1,4 +1,5 @@
--- `send` meets its contract: the tests that led to a return pick the definition's case, and the wave's own limit is never reached.
+-- `send` meets its contract: the tests that led to a return pick the definition's case, and the wave's own limit is
+-- never reached.
 use mathlib.Core.Path.{_≡_}
 use mathlib.Core.Bool.{true, false, _&&_}
 use mathlib.Core.List.{List}
@@ -27,7 +28,8 @@ returns c = simp (failed (c .before .in-range .ensures) (c .if1 .taken))
 
 -- past the first test the settings are in range
 accepts : (c : tie.Else1)
-    → let args = c .before .before .before .before .args in subcell (args .a .0) && subcell (args .b .0) && leb (args .p1 .0) padMost && leb (args .p2 .0) padMost ≡ true
+    → let args = c .before .before .before .before .args in
+    subcell (args .a .0) && subcell (args .b .0) && leb (args .p1 .0) padMost && leb (args .p2 .0) padMost ≡ true
 accepts c = passed (c .before .in-range .ensures) (c .if1 .left)
 
 returns-2 : tie.Need-returns-2
@@ -45,7 +47,8 @@ cycles : (c : tie.Else2)
     length (message c) ≡ args .p1 .0 + length (args .bits .now) * (args .a .0 + args .b .0) + args .p2 .0
 cycles c = length-wave _ _ _ _ _
 
-bounded : (c : tie.Else1) → let args = c .before .before .before .before .args in Message (args .a .0) (args .b .0) (args .p1 .0) (args .p2 .0)
+bounded : (c : tie.Else1) → let args = c .before .before .before .before .args in
+    Message (args .a .0) (args .b .0) (args .p1 .0) (args .p2 .0)
 bounded c = message-bounded _ _ _ _ (accepts c)
 
 most : (c : tie.Else2)
@@ -65,7 +68,13 @@ returns-3 : tie.Need-returns-3
 unfolding sentMessage
 returns-3 c =
     let second = c .before .before in
-    simp (accepts (second .before), le-ltb _ _ (second .if2 .left), limit second, ← c .before .first-above .ensures, lt-ltb _ _ (c .if3 .taken))
+    simp (
+      accepts (second .before),
+      le-ltb _ _ (second .if2 .left),
+      limit second,
+      ← c .before .first-above .ensures,
+      lt-ltb _ _ (c .if3 .taken),
+    )
 
 add-cell : tie.Need-add-cell
 add-cell c = omega (arith, bounded (c .before .before .before))
@@ -84,7 +93,13 @@ unfolding sentMessage
 returns-4 c =
     let third = c .before in
     let second = third .before .before in
-    simp (accepts (second .before), le-ltb _ _ (second .if2 .left), limit second, ← third .before .first-above .ensures, le-ltb _ _ (third .if3 .left))
+    simp (
+      accepts (second .before),
+      le-ltb _ _ (second .if2 .left),
+      limit second,
+      ← third .before .first-above .ensures,
+      le-ltb _ _ (third .if3 .left),
+    )
     (lent-short (message second) _ _ (cycles second) (c .if4 .taken))
 
 wave-into-requires : tie.Need-wave-into-requires
@@ -100,8 +115,15 @@ returns-5 c =
     let fourth = c .before .before .before .before in
     let third = fourth .before in
     let second = third .before .before in
-    simp (accepts (second .before), le-ltb _ _ (second .if2 .left), limit second, ← third .before .first-above .ensures, le-ltb _ _ (third .if3 .left))
-    (lent-placed (message second) _ _ (written .result) (omega (arith, cycles second)) (omega arith) (written .ensures .1))
+    simp (
+      accepts (second .before),
+      le-ltb _ _ (second .if2 .left),
+      limit second,
+      ← third .before .first-above .ensures,
+      le-ltb _ _ (third .if3 .left),
+    )
+    (lent-placed (message second) _ _ (written .result) (omega (arith, cycles second)) (omega arith)
+    (written .ensures .1))
 
 pub send-spec : {M : Type 1} → statement M
 send-spec =

@@ -38,7 +38,8 @@ module _ (c : tie.Else1) where
   abbrev bits : List ℕ
   bits = begin .args .bits .now
 
-  accepts : subcell (begin .args .a .0) && subcell (begin .args .b .0) && rowBits (begin .args .n) && fitting (begin .args .n) leads trails bits && padded leads && padded trails ≡ true
+  accepts : subcell (begin .args .a .0) && subcell (begin .args .b .0) && rowBits (begin .args .n)
+      && fitting (begin .args .n) leads trails bits && padded leads && padded trails ≡ true
   accepts = passed (c .before .plan-in-range .ensures) (c .if1 .left)
 
   bounded : Plan (begin .args .a .0) (begin .args .b .0) (begin .args .n) leads trails bits
@@ -64,7 +65,11 @@ returns-3 : tie.Need-returns-3
 unfolding sentPlan
 returns-3 c =
     let second = c .before .before in
-    simp (accepts (second .before), le-ltb _ _ (second .if2 .left), lt-ltb entriesMost (length (plan (second .before))) (omega (arith, cycles (c .before))))
+    simp (
+      accepts (second .before),
+      le-ltb _ _ (second .if2 .left),
+      lt-ltb entriesMost (length (plan (second .before))) (omega (arith, cycles (c .before))),
+    )
 
 -- past the third test the wave keeps to its limit
 limit : (c : tie.Else3) → ltb entriesMost (length (plan (c .before .before .before))) ≡ false
@@ -78,7 +83,13 @@ unfolding sentPlan
 returns-4 c =
     let third = c .before .before in
     let second = third .before .before in
-    simp (accepts (second .before), le-ltb _ _ (second .if2 .left), limit third, ← c .before .first-above .ensures, lt-ltb _ _ (c .if4 .taken))
+    simp (
+      accepts (second .before),
+      le-ltb _ _ (second .if2 .left),
+      limit third,
+      ← c .before .first-above .ensures,
+      lt-ltb _ _ (c .if4 .taken),
+    )
 
 returns-5 : tie.Need-returns-5
 unfolding sentPlan
@@ -86,7 +97,13 @@ returns-5 c =
     let fourth = c .before in
     let third = fourth .before .before in
     let second = third .before .before in
-    simp (accepts (second .before), le-ltb _ _ (second .if2 .left), limit third, ← fourth .before .first-above .ensures, le-ltb _ _ (fourth .if4 .left))
+    simp (
+      accepts (second .before),
+      le-ltb _ _ (second .if2 .left),
+      limit third,
+      ← fourth .before .first-above .ensures,
+      le-ltb _ _ (fourth .if4 .left),
+    )
     (lent-short (plan (second .before)) _ _ (cycles (third .before)) (c .if5 .taken))
 
 plan-into-requires : tie.Need-plan-into-requires
@@ -107,7 +124,13 @@ returns-6 c =
     let fourth = fifth .before in
     let third = fourth .before .before in
     let second = third .before .before in
-    simp (accepts (second .before), le-ltb _ _ (second .if2 .left), limit third, ← fourth .before .first-above .ensures, le-ltb _ _ (fourth .if4 .left))
+    simp (
+      accepts (second .before),
+      le-ltb _ _ (second .if2 .left),
+      limit third,
+      ← fourth .before .first-above .ensures,
+      le-ltb _ _ (fourth .if4 .left),
+    )
     (lent-placed (plan (second .before)) _ _ _ (cycles (third .before)) (fifth .if5 .left) (written .ensures))
 
 pub send-plan-spec : {M : Type 1} → statement M

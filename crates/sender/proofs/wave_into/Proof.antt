@@ -42,12 +42,14 @@ returns c =
     let bits = args .bits .now in
     let middle = cells (args .a) (args .b) 1 bits in
     let front : sets (args .out .now) (args .at) (lead ++ middle) ≡ celled .last .1 .1 .1 .0 =
-    placed-next (args .out .now) (led .last .0) (args .at) (args .at + args .p1) lead middle (led .ensures) (rw length-replicate)
+    placed-next (args .out .now) (led .last .0) (args .at) (args .at + args .p1) lead middle (led .ensures)
+    (rw length-replicate)
     ∙ celled .ensures .1 in
     let size : length (lead ++ middle) ≡ args .p1 + length bits * (args .a + args .b) =
     simp (length-append, length-replicate) (omega (arith, length-cells (args .a) (args .b) 1 bits)) in (
       omega arith,
-      placed-next (args .out .now) (celled .last .1 .1 .1 .0) (args .at) (celled .result) (lead ++ middle) (pad (args .p2)) front (omega arith)
+      placed-next (args .out .now) (celled .last .1 .1 .1 .0) (args .at) (celled .result) (lead ++ middle)
+          (pad (args .p2)) front (omega arith)
           ∙ trailed .ensures,
     )
 

@@ -1,4 +1,5 @@
--- `by_signs` meets its contract: each test settles the sign of one margin, and the first that is below zero settles the answer.
+-- `by_signs` meets its contract: each test settles the sign of one margin, and the first that is below zero settles the
+-- answer.
 use mir.Facts.{toZ-ofZ}
 use Rattle.settings.proofs.Signs.{below-zero, not-below-zero}
 use Rattle.settings.proofs.by_signs.Statement.{statement}

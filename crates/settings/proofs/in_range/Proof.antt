@@ -28,7 +28,8 @@ between-requires-3 c κs = search needs
 returns-3 : tie.Need-returns-3
 returns-3 c =
     simp (
-      passed (c .before .before .before .before .before .between .ensures) (c .before .before .before .before .if1 .left),
+      passed (c .before .before .before .before .before .between .ensures)
+          (c .before .before .before .before .if1 .left),
       passed (c .before .before .before .between2 .ensures) (c .before .before .if2 .left),
       failed (c .before .between3 .ensures) (c .if3 .taken),
     )
@@ -39,8 +40,10 @@ between-requires-4 c κs = search needs
 returns-4 : tie.Need-returns-4
 returns-4 c =
     simp (
-      passed (c .before .before .before .before .before .before .before .between .ensures) (c .before .before .before .before .before .before .if1 .left),
-      passed (c .before .before .before .before .before .between2 .ensures) (c .before .before .before .before .if2 .left),
+      passed (c .before .before .before .before .before .before .before .between .ensures)
+          (c .before .before .before .before .before .before .if1 .left),
+      passed (c .before .before .before .before .before .between2 .ensures)
+          (c .before .before .before .before .if2 .left),
       passed (c .before .before .before .between3 .ensures) (c .before .before .if3 .left),
       failed (c .before .between4 .ensures) (c .if4 .taken),
     )
@@ -51,12 +54,16 @@ between-requires-5 c κs = search needs
 returns-5 : tie.Need-returns-5
 returns-5 c =
     simp (
-      passed (c .before .before .before .before .before .before .before .before .between .ensures) (c .before .before .before .before .before .before .before .if1 .left),
-      passed (c .before .before .before .before .before .before .between2 .ensures) (c .before .before .before .before .before .if2 .left),
+      passed (c .before .before .before .before .before .before .before .before .between .ensures)
+          (c .before .before .before .before .before .before .before .if1 .left),
+      passed (c .before .before .before .before .before .before .between2 .ensures)
+          (c .before .before .before .before .before .if2 .left),
       passed (c .before .before .before .before .between3 .ensures) (c .before .before .before .if3 .left),
       passed (c .before .before .between4 .ensures) (c .before .if4 .left),
       ← c .between5 .ensures,
     )
 
 pub in-range-spec : {M : Type 1} → statement M
-in-range-spec = tie.close (tie.spec between-requires returns between-requires-2 returns-2 between-requires-3 returns-3 between-requires-4 returns-4 between-requires-5 returns-5)
+in-range-spec =
+    tie.close
+    (tie.spec between-requires returns between-requires-2 returns-2 between-requires-3 returns-3 between-requires-4 returns-4 between-requires-5 returns-5)

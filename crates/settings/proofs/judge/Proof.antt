@@ -19,10 +19,12 @@ unfolding judgement
 returns c = simp (failed (c .before .in-range .ensures) (c .if1 .taken))
 
 -- past the test the settings are in range
-accepts : (c : tie.Else1) → let args = c .before .before .args in inRange (args .a .0) (args .b .0) (args .k .0) (args .w .0) (args .r .0) ≡ true
+accepts : (c : tie.Else1) → let args = c .before .before .args in
+    inRange (args .a .0) (args .b .0) (args .k .0) (args .w .0) (args .r .0) ≡ true
 accepts c = passed (c .before .in-range .ensures) (c .if1 .left)
 
-bounded : (c : tie.Else1) → let args = c .before .before .args in Bounded (args .a .0) (args .b .0) (args .k .0) (args .w .0) (args .r .0)
+bounded : (c : tie.Else1) → let args = c .before .before .args in
+    Bounded (args .a .0) (args .b .0) (args .k .0) (args .w .0) (args .r .0)
 bounded c = ranged-bounded _ _ _ _ _ (accepts c)
 
 margin1-requires : tie.Need-margin1-requires
@@ -45,7 +47,11 @@ returns-2 c =
     let first = c .before .before .before .margin1 in
     simp
     (accepts (c .before .before .before .before), ← first .ensures, ← second .ensures, ← third .ensures)
-    (rw (read-back (first .result) (first .ok), read-back (second .result) (second .ok), read-back (third .result) (third .ok)) at (c .by-signs .ensures))
+    (rw (
+      read-back (first .result) (first .ok),
+      read-back (second .result) (second .ok),
+      read-back (third .result) (third .ok),
+    ) at (c .by-signs .ensures))
 
 pub judge-spec : {M : Type 1} → statement M
 judge-spec =

@@ -22,10 +22,14 @@ unfolding quietJudgement
 returns c = simp (failed (c .before .quiet-in-range .ensures) (c .if1 .taken))
 
 -- past the test the settings are in range
-accepts : (c : tie.Else1) → let args = c .before .before .args in inRange (args .a .0) (args .b .0) (args .k .0) (args .w .0) (args .r .0) && quiet (args .q .0) && leb (args .p1 .0) padMost ≡ true
+accepts : (c : tie.Else1) → let args = c .before .before .args in
+    inRange (args .a .0) (args .b .0) (args .k .0) (args .w .0) (args .r .0) && quiet (args .q .0)
+    && leb (args .p1 .0) padMost ≡ true
 accepts c = passed (c .before .quiet-in-range .ensures) (c .if1 .left)
 
-bounded : (c : tie.Else1) → let args = c .before .before .args in Bounded (args .a .0) (args .b .0) (args .k .0) (args .w .0) (args .r .0) × (args .q .0 ≤ 8191) × (args .p1 .0 ≤ 65535)
+bounded : (c : tie.Else1) → let args = c .before .before .args in
+    Bounded (args .a .0) (args .b .0) (args .k .0) (args .w .0) (args .r .0) × (args .q .0 ≤ 8191)
+    × (args .p1 .0 ≤ 65535)
 bounded c = quiet-bounded _ _ _ _ _ _ _ (accepts c)
 
 margin1-requires : tie.Need-margin1-requires
@@ -54,8 +58,14 @@ returns-2 c =
     let third = c .before .before .before .margin3 in
     let second = c .before .before .before .before .margin2 in
     let first = c .before .before .before .before .before .margin1 in
-    simp
-    (accepts (c .before .before .before .before .before .before), ← first .ensures, ← second .ensures, ← third .ensures, ← fourth .ensures, ← fifth .ensures)
+    simp (
+      accepts (c .before .before .before .before .before .before),
+      ← first .ensures,
+      ← second .ensures,
+      ← third .ensures,
+      ← fourth .ensures,
+      ← fifth .ensures,
+    )
     (rw (
       read-back (first .result) (first .ok),
       read-back (second .result) (second .ok),

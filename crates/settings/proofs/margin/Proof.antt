@@ -1,4 +1,5 @@
--- `margin` meets its contract: each step stays near enough to zero to fit, so the code's signed numbers are the definition's.
+-- `margin` meets its contract: each step stays near enough to zero to fit, so the code's signed numbers are the
+-- definition's.
 use mathlib.Core.Path.{_≡_}
 use Prim.Native.Nat.{ℕ, _+_, _*_, _≤_}
 use native.Mathlib.Omega.{arith}
@@ -16,7 +17,8 @@ small : (n : ℕ) → n ≤ 65536 → toZ w64 n ≡ pos n
 small n h = toZ-pos w64 (omega arith)
 
 -- each step fits
-module _ (count spare cycle others other : ℕ) (fits : (count ≤ 65536) × (spare ≤ 65536) × (cycle ≤ 65536) × (others ≤ 65536) × (other ≤ 65536)) where
+module _ (count spare cycle others other : ℕ)
+    (fits : (count ≤ 65536) × (spare ≤ 65536) × (cycle ≤ 65536) × (others ≤ 65536) × (other ≤ 65536)) where
   kept-size : natAbs (pos count -ℤ pos spare) ≤ 65536 + 65536
   kept-size = less-size (pos count) (pos spare) 65536 65536 (fits .0) (fits .1)
 
@@ -37,8 +39,10 @@ module _ (count spare cycle others other : ℕ) (fits : (count ≤ 65536) × (sp
 
   margin-fits : SFits w64 ((pos count -ℤ pos spare) *ℤ pos cycle -ℤ pos others *ℤ pos other)
   margin-fits =
-      size-fits ((pos count -ℤ pos spare) *ℤ pos cycle -ℤ pos others *ℤ pos other) ((65536 + 65536) * 65536 + 65536 * 65536)
-      (less-size ((pos count -ℤ pos spare) *ℤ pos cycle) (pos others *ℤ pos other) _ _ time-size other-size) (omega arith)
+      size-fits ((pos count -ℤ pos spare) *ℤ pos cycle -ℤ pos others *ℤ pos other)
+      ((65536 + 65536) * 65536 + 65536 * 65536)
+      (less-size ((pos count -ℤ pos spare) *ℤ pos cycle) (pos others *ℤ pos other) _ _ time-size other-size)
+      (omega arith)
 
   kept : SFits w64 (toZ w64 count -ℤ toZ w64 spare)
   kept = rw (small count (fits .0), small spare (fits .1)) kept-fits
@@ -49,7 +53,8 @@ module _ (count spare cycle others other : ℕ) (fits : (count ≤ 65536) × (sp
   time : SFits w64 (toZ w64 (ofZ w64 (toZ w64 count -ℤ toZ w64 spare)) *ℤ toZ w64 cycle)
   time = rw (kept-is, small cycle (fits .2)) time-fits
 
-  time-is : toZ w64 (ofZ w64 (toZ w64 (ofZ w64 (toZ w64 count -ℤ toZ w64 spare)) *ℤ toZ w64 cycle)) ≡ (pos count -ℤ pos spare) *ℤ pos cycle
+  time-is : toZ w64 (ofZ w64 (toZ w64 (ofZ w64 (toZ w64 count -ℤ toZ w64 spare)) *ℤ toZ w64 cycle))
+      ≡ (pos count -ℤ pos spare) *ℤ pos cycle
   time-is = rw (kept-is, small cycle (fits .2)) (toZ-ofZ time-fits)
 
   other-time : SFits w64 (toZ w64 others *ℤ toZ w64 other)

@@ -15,7 +15,10 @@ between-requires c κs = search needs
 
 returns-2 : tie.Need-returns-2
 returns-2 c =
-    simp (passed (c .before .before .before .in-range .ensures) (c .before .before .if1 .left), failed (c .before .between .ensures) (c .if2 .taken))
+    simp (
+      passed (c .before .before .before .in-range .ensures) (c .before .before .if1 .left),
+      failed (c .before .between .ensures) (c .if2 .taken),
+    )
 
 returns-3 : tie.Need-returns-3
 returns-3 c =

@@ -43,14 +43,17 @@ returns : tie.Need-returns
 returns c = ap (told (c .before .before .before .before)) (c .before .before .heard .given .1) ∙ c .refused .ensures
 
 returns-2 : tie.Need-returns-2
-returns-2 c = ap (told (c .before .before .before .before)) (c .before .before .heard2 .given .1) ∙ rw (← c .idle .ensures)
+returns-2 c = ap (told (c .before .before .before .before)) (c .before .before .heard2 .given .1)
+    ∙ rw (← c .idle .ensures)
 
 returns-3 : tie.Need-returns-3
 returns-3 c =
-    ap (told (c .before .before .before .before .before)) (c .before .before .before .heard3 .given .1) ∙ rw (c .before .idle2 .ensures, c .none .ensures)
+    ap (told (c .before .before .before .before .before)) (c .before .before .before .heard3 .given .1)
+    ∙ rw (c .before .idle2 .ensures, c .none .ensures)
 
 returns-4 : tie.Need-returns-4
-returns-4 c = ap (told (c .before .before .before .before)) (c .before .before .heard4 .given .1) ∙ rw (c .none2 .ensures)
+returns-4 c = ap (told (c .before .before .before .before)) (c .before .before .heard4 .given .1)
+    ∙ rw (c .none2 .ensures)
 
 pub answer-spec : {M : Type 1} → statement M
 answer-spec =

@@ -17,7 +17,8 @@ returns : tie.Need-returns
 unfolding begun
 returns c =
     let a = c .before .before .before .args in
-    let e : settingsFit (a .k .0) (a .n) (a .q .0) ≡ true = sym (c .before .before .settings-fit .ensures) ∙ c .before .if1 .taken in
+    let e : settingsFit (a .k .0) (a .n) (a .q .0) ≡ true = sym (c .before .before .settings-fit .ensures)
+    ∙ c .before .if1 .taken in
     rw (e, ← c .idle .ensures)
 
 idle-requires-2 : tie.Need-idle-requires-2
@@ -27,7 +28,8 @@ returns-2 : tie.Need-returns-2
 unfolding begun
 returns-2 c =
     let a = c .before .before .before .args in
-    let e : settingsFit (a .k .0) (a .n) (a .q .0) ≡ false = sym (c .before .before .settings-fit .ensures) ∙ c .before .if1 .left in
+    let e : settingsFit (a .k .0) (a .n) (a .q .0) ≡ false = sym (c .before .before .settings-fit .ensures)
+    ∙ c .before .if1 .left in
     rw (e, ← c .idle2 .ensures)
 
 pub fresh-spec : {M : Type 1} → statement M

@@ -1,4 +1,5 @@
--- `listen` meets its contract: the state and the length are judged in the definition's order, and the rest is what was heard read by read.
+-- `listen` meets its contract: the state and the length are judged in the definition's order, and the rest is what was
+-- heard read by read.
 use mathlib.Core.Path.{_≡_, sym, _∙_, ap}
 use mathlib.Core.Bool.{true, false}
 use borrow.Author.Needs.{needs}
@@ -43,10 +44,12 @@ came c = ap wellFormed (sym (same (c .before .before .before .before))) ∙ well
 -- the state and the length are good
 on : (c : tie.Else2)
     → let a = start (c .before .before .before .before .before) .args in
-    listened (a .self) (now (a .reads)) ≡ heardFrom (a .self) (settingsOf (a .self)) (stateOf (a .self)) 0 (now (a .reads))
+    listened (a .self) (now (a .reads))
+    ≡ heardFrom (a .self) (settingsOf (a .self)) (stateOf (a .self)) 0 (now (a .reads))
 on c =
     let a = start (c .before .before .before .before .before) .args in
-    listened-is (a .self) (now (a .reads)) ∙ rw (came (c .before), le-ltb 1048576 (length (now (a .reads))) (c .if2 .left))
+    listened-is (a .self) (now (a .reads))
+    ∙ rw (came (c .before), le-ltb 1048576 (length (now (a .reads))) (c .if2 .left))
 
 numbers-requires : tie.Need-numbers-requires
 numbers-requires c κs = search needs
@@ -62,7 +65,8 @@ returns c =
     let f = c .before .before in
     let g = f .before .before .before in
     let a = start g .args in
-    let e : wellFormed (a .self) ≡ false = ap wellFormed (sym (same g)) ∙ sym (f .fits2 .ensures) ∙ not-true _ (c .before .if1 .taken) in
+    let e : wellFormed (a .self) ≡ false = ap wellFormed (sym (same g)) ∙ sym (f .fits2 .ensures)
+    ∙ not-true _ (c .before .if1 .taken) in
     listened-is (a .self) (now (a .reads)) ∙ rw e (c .refused .ensures)
 
 refused-requires-2 : tie.Need-refused-requires-2
@@ -73,7 +77,8 @@ returns-2 c =
     let d = c .before .before in
     let g = d .before .before .before .before in
     let a = start g .args in
-    listened-is (a .self) (now (a .reads)) ∙ rw (came d, lt-ltb 1048576 (length (now (a .reads))) (c .before .if2 .taken)) (c .refused2 .ensures)
+    listened-is (a .self) (now (a .reads))
+    ∙ rw (came d, lt-ltb 1048576 (length (now (a .reads))) (c .before .if2 .taken)) (c .refused2 .ensures)
 
 hear-requires : tie.Need-hear-requires
 hear-requires c κs =

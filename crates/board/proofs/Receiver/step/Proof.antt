@@ -61,8 +61,10 @@ returns c =
     let f = c .before .before .before in
     let g = f .before .before .before in
     let a = g .before .args in
-    let e : wellFormed (a .self) ≡ false = ap wellFormed (sym (same g)) ∙ sym (f .fits2 .ensures) ∙ not-true _ (c .before .before .if1 .taken) in
-    stepped-is (a .self) (a .read) ∙ rw e (ap (λ (heard : Outcome × ℕ). heard .0) (c .before .refused .ensures) ∙ c .of-one .ensures)
+    let e : wellFormed (a .self) ≡ false = ap wellFormed (sym (same g)) ∙ sym (f .fits2 .ensures)
+    ∙ not-true _ (c .before .before .if1 .taken) in
+    stepped-is (a .self) (a .read)
+    ∙ rw e (ap (λ (heard : Outcome × ℕ). heard .0) (c .before .refused .ensures) ∙ c .of-one .ensures)
 
 slice-aggregate-hear : tie.Need-slice-aggregate-hear
 slice-aggregate-hear c = search needs
@@ -87,7 +89,8 @@ returns-2 c =
     let a = g .before .args in
     on d
     ∙ ap (λ (heard : Outcome × ℕ). heard .0)
-    (ap (λ (x : Receiver). heardFrom (a .self) (settingsOf (a .self)) (stateOf x) 0 (a .read ∷ [])) (sym (same g)) ∙ h .hear .ensures (a .self) ∙ c .before .answer .ensures)
+    (ap (λ (x : Receiver). heardFrom (a .self) (settingsOf (a .self)) (stateOf x) 0 (a .read ∷ [])) (sym (same g))
+    ∙ h .hear .ensures (a .self) ∙ c .before .answer .ensures)
     ∙ c .of-one2 .ensures
 
 pub step-spec : {M : Type 1} → statement M

@@ -16,11 +16,14 @@ enum-told : tie.Need-enum-told
 enum-told c = search needs
 
 returns : tie.Need-returns
-returns c = sym (ap (placeAfter (c .before .before .before .before .args .at)) (c .before .before .number-at .ensures ∙ ap numberSays (c .enum-told .given .1)))
+returns c =
+    sym (ap (placeAfter (c .before .before .before .before .args .at))
+    (c .before .before .number-at .ensures ∙ ap numberSays (c .enum-told .given .1)))
 
 returns-2 : tie.Need-returns-2
 returns-2 c =
-    sym (ap (placeAfter (c .before .before .before .before .before .args .at)) (c .before .before .before .number-at .ensures ∙ ap numberSays (c .before .number .given .1)))
+    sym (ap (placeAfter (c .before .before .before .before .before .args .at))
+    (c .before .before .before .number-at .ensures ∙ ap numberSays (c .before .number .given .1)))
 
 pub place-after-spec : {M : Type 1} → statement M
 place-after-spec =

@@ -60,7 +60,10 @@ array-share-prefix-warped : tie.Need-array-share-prefix-warped
 array-share-prefix-warped c = search needs
 
 slice-aggregate-settle : tie.Need-slice-aggregate-settle
-slice-aggregate-settle c = sym (length-take-le (c .before .before .count .result) (c .before .before .before .before .before .before .before .warp .last .1 .1 .1 .1 .0) (array-share-prefix-warped (c .before)))
+slice-aggregate-settle c =
+    sym (length-take-le (c .before .before .count .result)
+    (c .before .before .before .before .before .before .before .warp .last .1 .1 .1 .1 .0)
+    (array-share-prefix-warped (c .before)))
 
 slice-aggregate-settle-2 : tie.Need-slice-aggregate-settle-2
 slice-aggregate-settle-2 c = search needs
@@ -75,7 +78,9 @@ array-share-prefix-reads : tie.Need-array-share-prefix-reads
 array-share-prefix-reads c = search needs
 
 slice-aggregate-received : tie.Need-slice-aggregate-received
-slice-aggregate-received c = sym (length-take-le (c .before .before .before .before .before .before .before .count .result) (c .before .before .settle .last .1 .1 .0) (array-share-prefix-reads (c .before)))
+slice-aggregate-received c =
+    sym (length-take-le (c .before .before .before .before .before .before .before .count .result)
+    (c .before .before .settle .last .1 .1 .0) (array-share-prefix-reads (c .before)))
 
 received-requires : tie.Need-received-requires
 received-requires c κs = search needs

@@ -15,7 +15,9 @@ same-length : tie.Need-same-length
 same-length c = search needs
 
 returns : tie.Need-returns
-returns c = across (summed (c .before .before .before .before .before .before .before .before .before .args .summary .now)) (c .before .before .before .before .before .read-capture .ensures) (c .of-checked .ensures)
+returns c =
+    across (summed (c .before .before .before .before .before .before .before .before .before .args .summary .now))
+    (c .before .before .before .before .before .read-capture .ensures) (c .of-checked .ensures)
 
 pub siengulot-capture-read-spec : {M : Type 1} → statement M
 siengulot-capture-read-spec =

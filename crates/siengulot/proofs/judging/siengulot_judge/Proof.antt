@@ -25,13 +25,24 @@ number-requires : tie.Need-number-requires
 number-requires c κs = search needs
 
 returns : tie.Need-returns
-returns c = rw (c .before .before .before .before .before .judge .ensures, c .before .before .before .answer .given .1, c .put-three .ensures)
+returns c =
+    rw (
+      c .before .before .before .before .before .judge .ensures,
+      c .before .before .before .answer .given .1,
+      c .put-three .ensures,
+    )
 
 returns-2 : tie.Need-returns-2
-returns-2 c = rw (c .before .before .before .before .before .judge .ensures, c .before .before .before .answer2 .given .1, c .put-three2 .ensures)
+returns-2 c =
+    rw (
+      c .before .before .before .before .before .judge .ensures,
+      c .before .before .before .answer2 .given .1,
+      c .put-three2 .ensures,
+    )
 
 returns-3 : tie.Need-returns-3
-returns-3 c = rw (c .before .before .before .before .judge .ensures, c .before .before .answer3 .given .1, c .number .ensures)
+returns-3 c =
+    rw (c .before .before .before .before .judge .ensures, c .before .before .answer3 .given .1, c .number .ensures)
 
 pub siengulot-judge-spec : {M : Type 1} → statement M
 siengulot-judge-spec =

@@ -25,13 +25,28 @@ number-requires : tie.Need-number-requires
 number-requires c κs = search needs
 
 returns : tie.Need-returns
-returns c = rw (c .before .before .before .before .before .judge-quiet .ensures, c .before .before .before .answer .given .1, c .put-five .ensures)
+returns c =
+    rw (
+      c .before .before .before .before .before .judge-quiet .ensures,
+      c .before .before .before .answer .given .1,
+      c .put-five .ensures,
+    )
 
 returns-2 : tie.Need-returns-2
-returns-2 c = rw (c .before .before .before .before .before .judge-quiet .ensures, c .before .before .before .answer2 .given .1, c .put-five2 .ensures)
+returns-2 c =
+    rw (
+      c .before .before .before .before .before .judge-quiet .ensures,
+      c .before .before .before .answer2 .given .1,
+      c .put-five2 .ensures,
+    )
 
 returns-3 : tie.Need-returns-3
-returns-3 c = rw (c .before .before .before .before .judge-quiet .ensures, c .before .before .answer3 .given .1, c .number .ensures)
+returns-3 c =
+    rw (
+      c .before .before .before .before .judge-quiet .ensures,
+      c .before .before .answer3 .given .1,
+      c .number .ensures,
+    )
 
 pub siengulot-judge-quiet-spec : {M : Type 1} → statement M
 siengulot-judge-quiet-spec =

@@ -1,4 +1,5 @@
--- `siengulot_counted` meets its contract: a level that is no byte is refused before the operation is asked, and otherwise the operation's answer crosses.
+-- `siengulot_counted` meets its contract: a level that is no byte is refused before the operation is asked, and
+-- otherwise the operation's answer crosses.
 use borrow.Author.Needs.{needs}
 use Rattle.siengulot.specs.Crossing.{crossed}
 use Rattle.siengulot.proofs.Across.{across}

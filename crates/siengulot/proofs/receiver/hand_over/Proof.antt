@@ -1,4 +1,5 @@
--- `hand_over` meets its contract: each case of the event is handed over as what it says, and a refusal writes nothing but its number and place.
+-- `hand_over` meets its contract: each case of the event is handed over as what it says, and a refusal writes nothing
+-- but its number and place.
 use borrow.Author.Needs.{needs}
 use Rattle.siengulot.proofs.receiver.hand_over.Statement.{statement}
 use Rattle.siengulot.proofs.receiver.hand_over.Tie as tie

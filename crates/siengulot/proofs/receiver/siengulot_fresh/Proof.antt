@@ -1,4 +1,5 @@
--- `siengulot_fresh` meets its contract: the receiver with which to start is kept as it came, and its refusal's number is returned.
+-- `siengulot_fresh` meets its contract: the receiver with which to start is kept as it came, and its refusal's number
+-- is returned.
 use mathlib.Core.Path.{ap, _∙_}
 use borrow.Author.Needs.{needs}
 use Rattle.siengulot.specs.Receivers.{begunLent}
@@ -28,7 +29,12 @@ returns c =
 returns-2 : tie.Need-returns-2
 returns-2 c =
     ap begunLent (c .before .before .before .before .before .before .before .before .fresh .ensures)
-    ∙ rw (c .before .before .start .given .1, c .before .before .before .before .keep .ensures .0, c .before .before .before .before .keep .ensures .1, c .number .ensures)
+    ∙ rw (
+      c .before .before .start .given .1,
+      c .before .before .before .before .keep .ensures .0,
+      c .before .before .before .before .keep .ensures .1,
+      c .number .ensures,
+    )
 
 pub siengulot-fresh-spec : {M : Type 1} → statement M
 siengulot-fresh-spec =

@@ -1,4 +1,5 @@
--- `siengulot_step` meets its contract: numbers that stand for no receiver are refused, and otherwise what the operation brings is handed over.
+-- `siengulot_step` meets its contract: numbers that stand for no receiver are refused, and otherwise what the operation
+-- brings is handed over.
 use borrow.Author.Needs.{needs}
 use mathlib.Core.Path.{_∙_}
 use borrow.Author.Tests.{not-true, not-false}

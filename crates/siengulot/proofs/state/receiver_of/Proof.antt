@@ -31,7 +31,12 @@ element-copy-out-level : tie.Need-element-copy-out-level
 element-copy-out-level c = search needs
 
 cast-level : tie.Need-cast-level
-cast-level c = omega (arith, level-byte (c .before .before .before .before .before .before .before .before .args .numbers .now) (c .before .before .before .before .before .before .before .before .pre))
+cast-level c =
+    omega (
+      arith,
+      level-byte (c .before .before .before .before .before .before .before .before .args .numbers .now)
+          (c .before .before .before .before .before .before .before .before .pre),
+    )
 
 element-copy-out-found : tie.Need-element-copy-out-found
 element-copy-out-found c = search needs
