@@ -394,7 +394,8 @@ found-after n at bits output count left = go (eqb (length bits) n)
         let size : length bits ≡ count = cc in
         front bits output left count size (ap (λ (p : Answer ℕ × List ℕ). p .1) e)
 
-counted-tells : (so : ℕ → Answer ℕ) → Apart so → ((n : ℕ) (bits output : List ℕ) → Tells so (countedInto n bits output) bits)
+counted-tells : (so : ℕ → Answer ℕ) → Apart so
+    → ((n : ℕ) (bits output : List ℕ) → Tells so (countedInto n bits output) bits)
     → (k n level : ℕ) (reads output : List ℕ) → Tells so (countedBits k n level reads output) (counted k n level reads)
 unfolding countedBits
 counted-tells so apart tells k n level reads output =
