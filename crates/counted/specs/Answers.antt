@@ -19,14 +19,14 @@ abbrev pub countedInto : (n : ℕ) (bits output : List ℕ) → Answer ℕ × Li
 countedInto n bits output = (choose (eqb (length bits) n) (given n) (refusedAfter 5 0 (length bits)), onto bits output)
 
 -- k, n and the level in force are in range
-abbrev pub inRange : (k n level : ℕ) → Bool
-inRange k n level = sampling k && leb n bitsMost && leb level 1
+abbrev pub countedInRange : (k n level : ℕ) → Bool
+countedInRange k n level = sampling k && leb n bitsMost && leb level 1
 
 -- Refusal 1 for k, n or the level in force out of range, 3 for a list of reads over its limit, 2 for an entry that is
 -- no level, 4 for an output shorter than n bits, then 5.
 unfoldable pub countedBits : (k n level : ℕ) (reads output : List ℕ) → Answer ℕ × List ℕ
 countedBits k n level reads output =
-    ranged (inRange k n level) output
+    ranged (countedInRange k n level) output
     (limited entriesMost (length reads) output
     (entered 1 reads output
     (choose (ltb (length output) n) (refused 4 0, output)

@@ -4,7 +4,7 @@ ghost use Prim.Native.Nat.{_+_, _^_, _≤_, _<_};
 ghost use lib.ListN.{length, drop};
 ghost use Rattle.measure.specs.Cells.{bitOf};
 ghost use Rattle.counted.specs.Counted.{fromMark, counted};
-ghost use Rattle.counted.specs.Answers.{inRange, countedInto, countedBits, countedSays};
+ghost use Rattle.counted.specs.Answers.{countedInRange, countedInto, countedBits, countedSays};
 use measure::BITS_MOST;
 use measure::ENTRIES_MOST;
 use measure::HIGH;
@@ -24,7 +24,7 @@ pub enum Received {
 
 // Tells whether k, n and the level in force are in range.
 fn in_range(k: ReadCycles, n: usize, level: u8) -> bool
-    ensures { λ fits. ⌜ fits ≡ inRange (k .0) n level ⌝ }
+    ensures { λ fits. ⌜ fits ≡ countedInRange (k .0) n level ⌝ }
 {
     measure::between(SAMPLING_LEAST, SAMPLING_MOST, k.0) & (n <= BITS_MOST) & (level <= HIGH)
 }

@@ -98,14 +98,19 @@ fn wave_into(
     trail + p2
 }
 
+// Tells whether a and b are in range.
+fn cell_in_range(a: usize, b: usize) -> bool
+    ensures { λ fits. ⌜ fits ≡ (subcell a && subcell b) ⌝ }
+{
+    measure::between(SUBCELL_LEAST, SUBCELL_MOST, a)
+        & measure::between(SUBCELL_LEAST, SUBCELL_MOST, b)
+}
+
 // Tells whether a, b and both pads of a message are in range.
 fn in_range(a: usize, b: usize, p1: usize, p2: usize) -> bool
     ensures { λ fits. ⌜ fits ≡ messageInRange a b p1 p2 ⌝ }
 {
-    measure::between(SUBCELL_LEAST, SUBCELL_MOST, a)
-        & measure::between(SUBCELL_LEAST, SUBCELL_MOST, b)
-        & (p1 <= PAD_MOST)
-        & (p2 <= PAD_MOST)
+    cell_in_range(a, b) & (p1 <= PAD_MOST) & (p2 <= PAD_MOST)
 }
 
 // Sends a message. Gives the number of cycles of its wave.
@@ -150,9 +155,7 @@ pub fn send(
 fn numbers_in_range(a: usize, b: usize, n: usize) -> bool
     ensures { λ fits. ⌜ fits ≡ (subcell a && subcell b && rowBits n) ⌝ }
 {
-    measure::between(SUBCELL_LEAST, SUBCELL_MOST, a)
-        & measure::between(SUBCELL_LEAST, SUBCELL_MOST, b)
-        & measure::between(BITS_LEAST, BITS_MOST, n)
+    cell_in_range(a, b) & measure::between(BITS_LEAST, BITS_MOST, n)
 }
 
 // Tells whether each pad of a list is in range.

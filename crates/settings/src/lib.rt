@@ -80,8 +80,7 @@ fn quiet_in_range(
 }
 
 // Gives a margin. Each of the five has this form: so many cycles of one clock less the spare ones, against so many of
-// the other. Either clock may
-// come first, so these are bare numbers.
+// the other. Either clock may come first, so these are bare numbers.
 fn margin(count: usize, spare: usize, cycle: usize, others: usize, other: usize) -> i64
     requires { ⌜ (count ≤ 65536) × (spare ≤ 65536) × (cycle ≤ 65536) × (others ≤ 65536) × (other ≤ 65536) ⌝ }
     ensures { λ m. ⌜ m ≡ (signed count -ℤ signed spare) *ℤ signed cycle -ℤ signed others *ℤ signed other ⌝ }

@@ -1,16 +1,13 @@
--- `in_range` meets its contract: its tests are the definition's, and so is what they come to together.
+-- `in_range` meets its contract, as `cell_in_range` does.
 use borrow.Author.Needs.{needs}
 use Rattle.sender.proofs.in_range.Statement.{statement}
 use Rattle.sender.proofs.in_range.Tie as tie
 
-between-requires : tie.Need-between-requires
-between-requires c κs = search needs
-
-between-requires-2 : tie.Need-between-requires-2
-between-requires-2 c κs = search needs
+cell-in-range-requires : tie.Need-cell-in-range-requires
+cell-in-range-requires c κs = search needs
 
 returns : tie.Need-returns
 returns c = cc
 
 pub in-range-spec : {M : Type 1} → statement M
-in-range-spec = tie.close (tie.spec between-requires between-requires-2 returns)
+in-range-spec = tie.close (tie.spec cell-in-range-requires returns)
