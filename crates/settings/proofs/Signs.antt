@@ -1,5 +1,5 @@
 -- A signed number that fits is read back as it was put down, and the code's test for zero or more is the definition's.
-use mathlib.Core.Path.{_≡_, refl, sym, _∙_}
+use mathlib.Core.Path.{_≡_, refl}
 use Prim.Native.Nat.{_^_, _<_}
 use native.Mathlib.Omega.{arith}
 use lib.IntN.{ℤ, pos, negsuc}
@@ -10,8 +10,8 @@ use mir.Val.{toZ, ofZ}
 use mir.Facts.{toZ-ofZ}
 use Rattle.settings.specs.Margins.{zeroOrMore}
 
-pub read-back : {z m : ℤ} → mag z < 2 ^ 63 → z ≡ m → toZ w64 (ofZ w64 z) ≡ m
-read-back h e = toZ-ofZ (record { sfits = h }) ∙ e
+pub read-back : (z : ℤ) → mag z < 2 ^ 63 → toZ w64 (ofZ w64 z) ≡ z
+read-back z h = toZ-ofZ (record { sfits = h })
 
 pub by-sign : (z : ℤ) → leZ (pos 0) z ≡ zeroOrMore z
 by-sign (pos n) = le-leb 0 n (omega arith)

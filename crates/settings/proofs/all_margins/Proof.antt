@@ -32,11 +32,16 @@ returns c =
     let third = fourth .before in
     let second = third .before in
     rw (
-      read-back (second .before .margin1 .ok) (second .before .margin1 .ensures),
-      read-back (second .margin2 .ok) (second .margin2 .ensures),
-      read-back (third .margin3 .ok) (third .margin3 .ensures),
-      read-back (fourth .margin4 .ok) (fourth .margin4 .ensures),
-      read-back (c .margin5 .ok) (c .margin5 .ensures),
+      read-back (second .before .margin1 .result) (second .before .margin1 .ok),
+      second .before .margin1 .ensures,
+      read-back (second .margin2 .result) (second .margin2 .ok),
+      second .margin2 .ensures,
+      read-back (third .margin3 .result) (third .margin3 .ok),
+      third .margin3 .ensures,
+      read-back (fourth .margin4 .result) (fourth .margin4 .ok),
+      fourth .margin4 .ensures,
+      read-back (c .margin5 .result) (c .margin5 .ok),
+      c .margin5 .ensures,
     )
 
 pub all-margins-spec : {M : Type 1} → statement M

@@ -21,9 +21,12 @@ returns : tie.Need-returns
 returns c =
     let second = c .before in
     rw (
-      read-back (second .before .margin1 .ok) (second .before .margin1 .ensures),
-      read-back (second .margin2 .ok) (second .margin2 .ensures),
-      read-back (c .margin3 .ok) (c .margin3 .ensures),
+      read-back (second .before .margin1 .result) (second .before .margin1 .ok),
+      second .before .margin1 .ensures,
+      read-back (second .margin2 .result) (second .margin2 .ok),
+      second .margin2 .ensures,
+      read-back (c .margin3 .result) (c .margin3 .ok),
+      c .margin3 .ensures,
     )
 
 pub cell-margins-spec : {M : Type 1} → statement M

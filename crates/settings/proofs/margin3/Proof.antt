@@ -1,4 +1,5 @@
 -- `margin3` meets its contract: it is M3 in the one form of all margins.
+use mathlib.Core.Path.{_∙_}
 use borrow.Author.Needs.{needs}
 use Rattle.settings.specs.Margins.{m3}
 use Rattle.settings.proofs.Signs.{read-back}
@@ -16,7 +17,7 @@ margin-requires c κs = search needs
 
 returns : tie.Need-returns
 unfolding m3
-returns c = read-back (c .margin .ok) (c .margin .ensures)
+returns c = read-back (c .margin .result) (c .margin .ok) ∙ c .margin .ensures
 
 pub margin3-spec : {M : Type 1} → statement M
 margin3-spec = tie.close (tie.spec add-margin add-margin-2 margin-requires returns)

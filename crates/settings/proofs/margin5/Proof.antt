@@ -1,4 +1,5 @@
 -- `margin5` meets its contract: it is M5 in the one form of all margins.
+use mathlib.Core.Path.{_∙_}
 use borrow.Author.Needs.{needs}
 use Rattle.settings.specs.Margins.{m5}
 use Rattle.settings.proofs.Signs.{read-back}
@@ -13,7 +14,7 @@ margin-requires c κs = search needs
 
 returns : tie.Need-returns
 unfolding m5
-returns c = read-back (c .margin .ok) (c .margin .ensures)
+returns c = read-back (c .margin .result) (c .margin .ok) ∙ c .margin .ensures
 
 pub margin5-spec : {M : Type 1} → statement M
 margin5-spec = tie.close (tie.spec add-margin margin-requires returns)
