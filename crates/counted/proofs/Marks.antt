@@ -2,13 +2,16 @@
 -- mark.
 use mathlib.Core.Path.{_≡_, _∙_}
 use mathlib.Core.Logic.{_≢_}
+use mathlib.Core.Bool.{Bool, true, false}
 use mathlib.Core.List.{List, [], _∷_}
 use Prim.Native.Nat.{ℕ, zero, suc, _+_, _-_, _<_, _≤_}
 use native.Mathlib.Numerals.{add-one}
 use native.Mathlib.Omega.{arith}
+use lib.Dec.{eqb}
 use lib.ListN.{length, drop, getD, drop-of-length-le}
 use lib.Seq.{drop-cons}
 use borrow.Author.Tests.{eq-eqb, ne-eqb}
+use Rattle.measure.specs.Choose.{choose}
 use Rattle.counted.specs.Counted.{fromMark}
 
 -- a read that differs is the mark
@@ -53,3 +56,20 @@ pub mark-none : (level : ℕ) (reads : List ℕ) (j d : ℕ) → j ≤ length re
     → ((i : ℕ) → j ≤ i → i < length reads → getD reads i d ≡ level) → fromMark level (drop j reads) ≡ []
 mark-none level reads j d h same =
     mark-stretch level reads j (length reads) d h (omega arith) same ∙ mark-end level reads (length reads) (omega arith)
+
+-- where the first j reads do not differ, the mark is not among them
+pub mark-late : (level : ℕ) (reads : List ℕ) (j d : ℕ)
+    → ((i : ℕ) → i < j → i < length reads → getD reads i d ≡ level)
+    → length (fromMark level reads) ≤ length reads - j
+unfolding fromMark
+mark-late level [] j d same = omega arith
+mark-late level (read ∷ reads) (suc j) d same =
+    rw (eq-eqb read level (same 0 (omega arith) (omega arith)))
+    (omega (arith, mark-late level reads j d (λ i p q. same (suc i) (omega arith) (omega arith))))
+mark-late level (read ∷ reads) zero d same =
+    go (eqb read level) (mark-late level reads zero d (λ i p q. absurd (omega arith)))
+  where
+    go : (is : Bool) → length (fromMark level reads) ≤ length reads - 0
+        → length (choose is (fromMark level reads) (read ∷ reads)) ≤ suc (length reads) - 0
+    go true h = omega arith
+    go false h = omega arith

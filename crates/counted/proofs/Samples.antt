@@ -1,15 +1,29 @@
 -- The bits found, cell by cell: once the mark's place is known the sample is k places on, and what is found next is
 -- found from there.
-use mathlib.Core.Path.{_≡_, refl, sym, _∙_}
+use mathlib.Core.Path.{_≡_, refl, sym, ap, _∙_}
 use mathlib.Core.Logic.{_≢_}
+use mathlib.Core.Bool.{Bool, true, false}
 use mathlib.Core.List.{List, [], _∷_}
 use Prim.Native.Nat.{ℕ, zero, suc, _+_, _<_, _≤_}
 use native.Mathlib.Omega.{arith}
-use lib.ListN.{length, drop, getD, drop-of-length-le}
-use lib.Seq.{drop-cons, drop-drop}
+use lib.Dec.{ltb}
+use lib.ListN.{length, drop, getD, length-drop, drop-of-length-le}
+use lib.Seq.{drop-drop, getD-drop}
+use borrow.Author.Tests.{lt-ltb, le-ltb}
+use Rattle.measure.specs.Choose.{choose}
 use Rattle.measure.specs.Cells.{bitOf}
-use Rattle.counted.specs.Counted.{fromMark, sampled, counted}
-use Rattle.counted.proofs.Marks.{mark-at, mark-none}
+use Rattle.counted.specs.Counted.{fromMark, counted}
+use Rattle.counted.proofs.Marks.{mark-at, mark-none, mark-late}
+
+-- a read that is there, whatever stands for those that are not
+there : (reads : List ℕ) (i c d : ℕ) → i < length reads → getD reads i c ≡ getD reads i d
+there [] i c d h = absurd (omega arith)
+there (read ∷ reads) zero c d h = refl
+there (read ∷ reads) (suc i) c d h = there reads i c d (omega arith)
+
+-- the read i places after read m
+later : (reads : List ℕ) (m i d : ℕ) → m + i < length reads → getD (drop m reads) i 0 ≡ getD reads (m + i) d
+later reads m i d h = getD-drop m reads i 0 ∙ there reads (m + i) 0 d h
 
 -- one bit more: the reads from the mark on are those from m on, and the sample is there
 pub counted-marked : (k n level : ℕ) (reads : List ℕ) (j m d : ℕ) → fromMark level (drop j reads) ≡ drop m reads
@@ -18,19 +32,28 @@ pub counted-marked : (k n level : ℕ) (reads : List ℕ) (j m d : ℕ) → from
     ≡ bitOf (getD reads m d) (getD reads (m + k) d) ∷ counted k n (getD reads (m + k) d) (drop (m + k) reads)
 unfolding counted
 counted-marked k n level reads j m d e h =
-    rw (e, drop-drop k m reads, drop-cons reads (m + k) d h, drop-cons reads m d (omega arith))
+    let here : m + 0 ≡ m = omega arith in
+    let mark : getD (drop m reads) 0 0 ≡ getD reads m d = rw here at (later reads m 0 d (omega arith)) in
+    let enough : k < length (drop m reads) = rw length-drop (omega arith) in
+    rw (e, lt-ltb k (length (drop m reads)) enough, mark, later reads m k d h, drop-drop k m reads)
+
+-- no bit more: at most k reads stand from the mark on
+unsampled : (k n level : ℕ) (reads : List ℕ) → length (fromMark level reads) ≤ k → counted k n level reads ≡ []
+unfolding counted
+unsampled k zero level reads h = refl
+unsampled k (suc n) level reads h = rw (le-ltb k (length (fromMark level reads)) h)
 
 -- no bit more: the sample isn't there
 pub counted-unsampled : (k n level : ℕ) (reads : List ℕ) (j m : ℕ) → fromMark level (drop j reads) ≡ drop m reads
     → length reads ≤ m + k → counted k n level (drop j reads) ≡ []
-unfolding counted
-counted-unsampled k zero level reads j m e h = refl
-counted-unsampled k (suc n) level reads j m e h =
-    rw (e, drop-drop k m reads, drop-of-length-le reads h) (none (drop m reads))
-  where
-    none : (from : List ℕ) → sampled (counted k n) from [] ≡ []
-    none [] = refl
-    none (mark ∷ onward) = refl
+counted-unsampled k n level reads j m e h = unsampled k n level (drop j reads) (rw (e, length-drop) (omega arith))
+
+-- nothing is found where the first j reads do not differ from the level, and at most k come after them
+pub counted-late : (k n level : ℕ) (reads : List ℕ) (j d : ℕ)
+    → ((i : ℕ) → i < j → i < length reads → getD reads i d ≡ level) → length reads ≤ j + k
+    → counted k n level reads ≡ []
+counted-late k n level reads j d same few =
+    unsampled k n level reads (omega (arith, mark-late level reads j d same))
 
 -- The step: from read j on, read m is the first that differs from the level, and the sample stands k places after it.
 pub counted-step : (k n level : ℕ) (reads : List ℕ) (j m d : ℕ) → j ≤ m → m + k < length reads
@@ -52,10 +75,11 @@ counted-unmarked k n level reads j d h same =
 pub counted-most : (k n level : ℕ) (reads : List ℕ) → length (counted k n level reads) ≤ n
 unfolding counted
 counted-most k zero level reads = omega arith
-counted-most k (suc n) level reads = go (fromMark level reads) (drop k (fromMark level reads)) (counted-most k n)
+counted-most k (suc n) level reads =
+    let marked = fromMark level reads in
+    go (ltb k (length marked)) (bitOf (getD marked 0 0) (getD marked k 0))
+    (counted k n (getD marked k 0) (drop k marked)) (counted-most k n (getD marked k 0) (drop k marked))
   where
-    go : (from onward : List ℕ) → ((level : ℕ) (reads : List ℕ) → length (counted k n level reads) ≤ n)
-        → length (sampled (counted k n) from onward) ≤ suc n
-    go [] onward most = omega arith
-    go (mark ∷ from) [] most = omega arith
-    go (mark ∷ from) (sample ∷ onward) most = omega (arith, most sample (sample ∷ onward))
+    go : (is : Bool) (bit : ℕ) (bits : List ℕ) → length bits ≤ n → length (choose is (bit ∷ bits) []) ≤ suc n
+    go true bit bits most = omega arith
+    go false bit bits most = omega arith

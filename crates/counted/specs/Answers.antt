@@ -1,7 +1,7 @@
 -- 01, "The counted receiver" and "Refusal numbers": what it answers and leaves in the lent output, for all input, and
 -- what each case of the code says.
 use Prim.Native.Nat.{ℕ}
-use mathlib.Core.Bool.{_&&_}
+use mathlib.Core.Bool.{Bool, _&&_}
 use mathlib.Core.List.{List}
 use lib.ListN.{length}
 use lib.Dec.{leb, ltb, eqb}
@@ -10,26 +10,30 @@ use Rattle.measure.specs.Ranges.{sampling, bitsMost, entriesMost}
 use Rattle.measure.specs.Lists.{onto}
 use Rattle.measure.specs.Refusals.{Answer, given, refused, refusedAfter, denied, ranged, limited, entered}
 use Rattle.counted.specs.Counted.{counted}
-use Rattle.counted.specs.declared.Counted.{Counted}
-use Rattle.counted.specs.declared.Counted.the-variants.{Bits, RanOut, Refused}
+use Rattle.counted.specs.declared.Received.{Received}
+use Rattle.counted.specs.declared.Received.the-variants.{Bits, RanOut, Refused}
 
 -- The bits found stand at the output's front, also where they are fewer than asked for, which is refusal 5 and says how
 -- many they are. It has no place.
-abbrev pub found : ℕ → List ℕ → List ℕ → Answer ℕ × List ℕ
-found n bits output = (choose (eqb (length bits) n) (given n) (refusedAfter 5 0 (length bits)), onto bits output)
+abbrev pub countedInto : (n : ℕ) (bits output : List ℕ) → Answer ℕ × List ℕ
+countedInto n bits output = (choose (eqb (length bits) n) (given n) (refusedAfter 5 0 (length bits)), onto bits output)
+
+-- k, n and the level in force are in range
+abbrev pub countedInRange : (k n level : ℕ) → Bool
+countedInRange k n level = sampling k && leb n bitsMost && leb level 1
 
 -- Refusal 1 for k, n or the level in force out of range, 3 for a list of reads over its limit, 2 for an entry that is
 -- no level, 4 for an output shorter than n bits, then 5.
-unfoldable pub countedBits : ℕ → ℕ → ℕ → List ℕ → List ℕ → Answer ℕ × List ℕ
+unfoldable pub countedBits : (k n level : ℕ) (reads output : List ℕ) → Answer ℕ × List ℕ
 countedBits k n level reads output =
-    ranged (sampling k && leb n bitsMost && leb level 1) output
+    ranged (countedInRange k n level) output
     (limited entriesMost (length reads) output
     (entered 1 reads output
     (choose (ltb (length output) n) (refused 4 0, output)
-    (found n (counted k n level reads) output))))
+    (countedInto n (counted k n level reads) output))))
 
 -- what each case of the code's answer says
-abbrev pub countedSays : Counted → Answer ℕ
+abbrev pub countedSays : Received → Answer ℕ
 countedSays (Bits n) = given n
 countedSays (RanOut n) = refusedAfter 5 0 n
 countedSays (Refused refusal) = denied refusal

@@ -1,25 +1,23 @@
 -- 01, "The counted receiver": a mark, its sample, a bit, and on from there.
 use Prim.Native.Nat.{ℕ, zero, suc}
 use mathlib.Core.List.{List, [], _∷_}
-use lib.ListN.{drop}
-use lib.Dec.{eqb}
+use lib.ListN.{length, drop, getD}
+use lib.Dec.{eqb, ltb}
 use Rattle.measure.specs.Choose.{choose}
 use Rattle.measure.specs.Cells.{bitOf}
 
 -- the reads from the mark on: from the first that differs from the level in force
-unfoldable pub fromMark : ℕ → List ℕ → List ℕ
+unfoldable pub fromMark : (level : ℕ) (reads : List ℕ) → List ℕ
 fromMark level [] = []
 fromMark level (read ∷ reads) = choose (eqb read level) (fromMark level reads) (read ∷ reads)
 
--- A cell's bit, from the reads from its mark on and from its sample on, and then what is found from the sample on,
--- whose level is now in force.
--- Where either is missing nothing more is found.
-abbrev pub sampled : (ℕ → List ℕ → List ℕ) → List ℕ → List ℕ → List ℕ
-sampled next [] onward = []
-sampled next (mark ∷ reads) [] = []
-sampled next (mark ∷ reads) (sample ∷ onward) = bitOf mark sample ∷ next sample (sample ∷ onward)
-
--- The bits that are found, n of them or as many as there are: the sample of each is k places after its mark.
-unfoldable pub counted : ℕ → ℕ → ℕ → List ℕ → List ℕ
+-- The bits that are found, n of them or as many as there are. The sample is the read k places after the mark; it is
+-- there if more than k reads stand from the mark on. The two give a bit, and the next is found from the sample on, whose
+-- level is then in force. Where a mark or its sample is missing nothing more is found.
+unfoldable pub counted : (k n level : ℕ) (reads : List ℕ) → List ℕ
 counted k zero level reads = []
-counted k (suc n) level reads = sampled (counted k n) (fromMark level reads) (drop k (fromMark level reads))
+counted k (suc n) level reads =
+    let marked = fromMark level reads in
+    let mark = getD marked 0 0 in
+    let sample = getD marked k 0 in
+    choose (ltb k (length marked)) (bitOf mark sample ∷ counted k n sample (drop k marked)) []

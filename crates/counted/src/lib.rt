@@ -1,13 +1,10 @@
 // The counted receiver: n bits out of a list of reads, with no quiet.
 ghost use mathlib.Core.Path.{_≡_};
-ghost use mathlib.Core.Bool.{_&&_};
 ghost use Prim.Native.Nat.{_+_, _^_, _≤_, _<_};
-ghost use lib.Dec.{leb};
 ghost use lib.ListN.{length, drop};
-ghost use Rattle.measure.specs.Ranges.{sampling, bitsMost};
 ghost use Rattle.measure.specs.Cells.{bitOf};
 ghost use Rattle.counted.specs.Counted.{fromMark, counted};
-ghost use Rattle.counted.specs.Answers.{found, countedBits, countedSays};
+ghost use Rattle.counted.specs.Answers.{countedInRange, countedInto, countedBits, countedSays};
 use measure::BITS_MOST;
 use measure::ENTRIES_MOST;
 use measure::HIGH;
@@ -17,7 +14,7 @@ use measure::SAMPLING_LEAST;
 use measure::SAMPLING_MOST;
 
 // What the counted receiver answers.
-pub enum Counted {
+pub enum Received {
     // All n bits were found and stand at the front of the lent output.
     Bits(usize),
     // Refusal 5: the reads ran out after so many bits, which stand at the front of the lent output.
@@ -25,16 +22,11 @@ pub enum Counted {
     Refused(Refusal),
 }
 
+// Tells whether k, n and the level in force are in range.
 fn in_range(k: ReadCycles, n: usize, level: u8) -> bool
-    ensures { λ fits. ⌜ fits ≡ (sampling (k .0) && leb n bitsMost && leb level 1) ⌝ }
+    ensures { λ fits. ⌜ fits ≡ countedInRange (k .0) n level ⌝ }
 {
-    if !measure::between(SAMPLING_LEAST, SAMPLING_MOST, k.0) {
-        return false;
-    }
-    if n > BITS_MOST {
-        return false;
-    }
-    level <= HIGH
+    measure::between(SAMPLING_LEAST, SAMPLING_MOST, k.0) & (n <= BITS_MOST) & (level <= HIGH)
 }
 
 // Gives the place of the next mark: where, from `current` on, a read is first unlike the level; the number of reads
@@ -54,7 +46,7 @@ fn find_mark(reads: &[u8], current: usize, level: u8) -> usize
     i
 }
 
-// A sample stands so many reads behind its mark.
+// Gives the place of the sample: k reads after its mark.
 fn sample_after(mark: usize, k: ReadCycles) -> usize
     requires { ⌜ mark + k .0 < 2 ^ 64 ⌝ }
     ensures { λ r. ⌜ r ≡ mark + k .0 ⌝ }
@@ -70,9 +62,9 @@ fn bit(mark: u8, sample: u8) -> u8
 }
 
 // Finds n bits, or as many as there are, and writes them.
-fn count_into(k: ReadCycles, n: usize, level: u8, reads: &[u8], out: &mut [u8]) -> Counted
+fn count_into(k: ReadCycles, n: usize, level: u8, reads: &[u8], out: &mut [u8]) -> Received
     requires { ⌜ n ≤ length (now out) ⌝ }
-    ensures { λ x. ⌜ found n (counted (k .0) n level (now (reads .entry))) (now (out .entry))
+    ensures { λ x. ⌜ countedInto n (counted (k .0) n level (now (reads .entry))) (now (out .entry))
         ≡ (countedSays x, now (out .exit)) ⌝ }
 {
     let mut held = level;
@@ -82,14 +74,14 @@ fn count_into(k: ReadCycles, n: usize, level: u8, reads: &[u8], out: &mut [u8]) 
         let mark = find_mark(reads, current, held);
         let left = reads.len() - mark;
         if left <= k.0 {
-            return Counted::RanOut(i);
+            return Received::RanOut(i);
         }
         current = sample_after(mark, k);
         held = reads[current];
         out[i] = bit(reads[mark], held);
         i += 1;
     }
-    Counted::Bits(n)
+    Received::Bits(n)
 }
 
 // The counted receiver. Gives the n bits of a message that starts with the level in force, each from its mark and the
@@ -98,22 +90,22 @@ fn count_into(k: ReadCycles, n: usize, level: u8, reads: &[u8], out: &mut [u8]) 
 // (an output shorter than n), then 5.
 // The output holds the bits found at its front, fewer than n with refusal 5, and is otherwise untouched; refusals 1 to
 // 4 leave all of it.
-pub fn count_bits(k: ReadCycles, n: usize, level: u8, reads: &[u8], out: &mut [u8]) -> Counted
+pub fn count_bits(k: ReadCycles, n: usize, level: u8, reads: &[u8], out: &mut [u8]) -> Received
     ensures { λ x. ⌜ countedBits (k .0) n level (now (reads .entry)) (now (out .entry))
         ≡ (countedSays x, now (out .exit)) ⌝ }
 {
     if !in_range(k, n, level) {
-        return Counted::Refused(Refusal::Setting(0));
+        return Received::Refused(Refusal::Setting(0));
     }
     if reads.len() > ENTRIES_MOST {
-        return Counted::Refused(Refusal::Limit);
+        return Received::Refused(Refusal::Limit);
     }
     let bad = measure::first_above(reads, HIGH);
     if bad < reads.len() {
-        return Counted::Refused(Refusal::Entry(bad));
+        return Received::Refused(Refusal::Entry(bad));
     }
     if out.len() < n {
-        return Counted::Refused(Refusal::Room);
+        return Received::Refused(Refusal::Room);
     }
     count_into(k, n, level, reads, out)
 }

@@ -1,22 +1,22 @@
 // The counted receiver: P7, and its refusals.
-use counted::Counted;
+use counted::Received;
 use measure::ReadCycles;
 
 // The wave of P1, taken as reads.
 const SENT: [u8; 13] = [1, 1, 0, 0, 1, 1, 1, 0, 0, 0, 0, 0, 1];
 
 // What the counted receiver answered.
-pub fn told(answer: Counted) {
+pub fn told(answer: Received) {
     match answer {
-        Counted::Bits(found) => {
+        Received::Bits(found) => {
             crate::show::text(b" bits ");
             crate::show::number(found);
         }
-        Counted::RanOut(found) => {
+        Received::RanOut(found) => {
             crate::show::text(b" refused 5 after ");
             crate::show::number(found);
         }
-        Counted::Refused(refusal) => crate::show::refused(refusal),
+        Received::Refused(refusal) => crate::show::refused(refusal),
     }
 }
 

@@ -22,7 +22,7 @@ use Rattle.line.specs.Warp.{warp as warping}
 use Rattle.line.specs.Settle.{settle as settling}
 use Rattle.line.specs.Answers.{smoothed, warped, settled, timed}
 use Rattle.counted.specs.Counted.{counted}
-use Rattle.counted.specs.Answers.{found, countedBits}
+use Rattle.counted.specs.Answers.{countedInto, countedBits}
 use Rattle.board.specs.declared.Receiver.{Receiver}
 use Rattle.board.specs.Rows.{nothing, fresh, next}
 use Rattle.board.specs.Feeding.{Report, reports, firstEvent}
@@ -209,7 +209,7 @@ judged numbers output most entries result two four =
     entered-refuses numbers output most entries (lent result output) two (lent-refuses numbers output result four)
 
 -- what is found is given, or is refusal 5
-found-refuses : (n : ℕ) (bits output : List ℕ) → Refuses all output (found n bits output)
+found-refuses : (n : ℕ) (bits output : List ℕ) → Refuses all output (countedInto n bits output)
 unfolding Refuses
 found-refuses n bits output = ends (eqb (length bits) n)
   where
@@ -306,7 +306,7 @@ demand-1 = record {
       (limited-refuses all output entriesMost (length reads) _ refl
       (entered-refuses all output 1 reads _ refl
       (either (Refuses all output) (ltb (length output) n) (refused 4 0, output)
-      (found n (counted k n level reads) output) (leaves _ all output 4 0 refl)
+      (countedInto n (counted k n level reads) output) (leaves _ all output 4 0 refl)
       (found-refuses n (counted k n level reads) output))));
   fresh = λ k n Q. either (Refuses (1 ∷ []) unstarted) (settingsFit k n Q) (given nothing, _) (refused 1 0, unstarted)
       (gives (1 ∷ []) unstarted _ nothing) (leaves _ (1 ∷ []) unstarted 1 0 refl);
@@ -362,7 +362,7 @@ front : (bits output left : List ℕ) (count : ℕ) → length bits ≡ count �
 front bits output left count size laid = rw (← size, ← laid) (take-append-seam bits (drop (length bits) output))
 
 -- what is found is at the front, whether it is all that was asked for
-found-given : (n : ℕ) (bits output : List ℕ) → Tells given (found n bits output) bits
+found-given : (n : ℕ) (bits output : List ℕ) → Tells given (countedInto n bits output) bits
 found-given n bits output count left = go (eqb (length bits) n) refl
   where
     go : (test : Bool) → eqb (length bits) n ≡ test
@@ -378,7 +378,7 @@ found-given n bits output count left = go (eqb (length bits) n) refl
         let absurdity : _≡_ {A = ℕ} 0 1 = cc in
         absurd (omega arith)
 
-found-after : (n at : ℕ) (bits output : List ℕ) → Tells (refusedAfter 5 at) (found n bits output) bits
+found-after : (n at : ℕ) (bits output : List ℕ) → Tells (refusedAfter 5 at) (countedInto n bits output) bits
 found-after n at bits output count left = go (eqb (length bits) n)
   where
     go : (test : Bool)
@@ -394,14 +394,15 @@ found-after n at bits output count left = go (eqb (length bits) n)
         let size : length bits ≡ count = cc in
         front bits output left count size (ap (λ (p : Answer ℕ × List ℕ). p .1) e)
 
-counted-tells : (so : ℕ → Answer ℕ) → Apart so → ((n : ℕ) (bits output : List ℕ) → Tells so (found n bits output) bits)
+counted-tells : (so : ℕ → Answer ℕ) → Apart so
+    → ((n : ℕ) (bits output : List ℕ) → Tells so (countedInto n bits output) bits)
     → (k n level : ℕ) (reads output : List ℕ) → Tells so (countedBits k n level reads output) (counted k n level reads)
 unfolding countedBits
 counted-tells so apart tells k n level reads output =
     within so apart bits (sampling k && leb n bitsMost && leb level 1) output _
     (past so apart bits (ltb entriesMost (length reads)) 3 0 output _
     (past so apart bits (someAbove 1 reads) 2 (firstAbove 1 reads) output _
-    (past so apart bits (ltb (length output) n) 4 0 output (found n bits output) (tells n bits output))))
+    (past so apart bits (ltb (length output) n) 4 0 output (countedInto n bits output) (tells n bits output))))
   where
     bits : List ℕ
     bits = counted k n level reads

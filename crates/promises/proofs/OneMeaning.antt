@@ -22,8 +22,8 @@ use Rattle.line.specs.declared.Smoothed.the-variants as M
 use Rattle.line.specs.declared.Read.{Read}
 use Rattle.line.specs.declared.Read.the-variants as R
 use Rattle.line.specs.Answers.{smoothed, warped, settled, smoothedSays, readSays}
-use Rattle.counted.specs.declared.Counted.{Counted}
-use Rattle.counted.specs.declared.Counted.the-variants as C
+use Rattle.counted.specs.declared.Received.{Received}
+use Rattle.counted.specs.declared.Received.the-variants as C
 use Rattle.counted.specs.Answers.{countedBits, countedSays}
 use Rattle.board.specs.Rows.{Event, nothing, row, broken}
 use Rattle.board.specs.declared.Event.{Event as CodeEvent}
@@ -201,7 +201,7 @@ one-meaning = record {
     read : (defined : Answer ℕ × List ℕ) → OneLeft readSays defined
     read = one-left readSays (plain (λ n. R.Reads (record { 0 = n })) R.Refused) read-back
 
-    count-back : (x : Counted) → answer C.Bits C.Refused C.RanOut (countedSays x) ≡ x
+    count-back : (x : Received) → answer C.Bits C.Refused C.RanOut (countedSays x) ≡ x
     count-back (C.Bits n) = refl
     count-back (C.RanOut n) = refl
     count-back (C.Refused f) = ap C.Refused (refusal-back f)

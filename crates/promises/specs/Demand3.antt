@@ -22,7 +22,7 @@ RowsFit x [] = Unit {0}
 RowsFit x (row ∷ rows) =
     (length (row .bits) ≡ x .n)
     × Levels (row .bits)
-    × (zeroOrMore (M5 (row .lead) (x .Q) (x .w) (x .r)) ≡ true)
+    × (zeroOrMore (M5 (x .w) (x .r) (x .Q) (row .lead)) ≡ true)
     × RowsFit x rows
 
 -- What is asked of a link and its plan. None of 01's upper limits is, and that a read takes time follows from M2.
@@ -34,7 +34,7 @@ pub record Fitting (x : Link) : Type 0 where
   pub m1 : zeroOrMore (M1 (x .a) (x .w) (x .r)) ≡ true
   pub m2 : zeroOrMore (M2 (x .a) (x .k) (x .w) (x .r)) ≡ true
   pub m3 : zeroOrMore (M3 (x .a) (x .b) (x .k) (x .w) (x .r)) ≡ true
-  pub m4 : zeroOrMore (M4 (x .a) (x .b) (x .Q) (x .w) (x .r)) ≡ true
+  pub m4 : zeroOrMore (M4 (x .a) (x .b) (x .w) (x .r) (x .Q)) ≡ true
 
 -- Demand 3 of a receiver that does `step` with each read.
 pub record Demand3 (x : Link) (step : Step) : Type 0 where

@@ -12,18 +12,22 @@ use Rattle.sender.specs.Sending.{wave, planWave, rowsOf}
 use Rattle.sender.specs.declared.Sent.{Sent}
 use Rattle.sender.specs.declared.Sent.the-variants.{Wave, Refused}
 
+-- a, b and both pads of a message are in range
+abbrev pub messageInRange : (a b p1 p2 : ℕ) → Bool
+messageInRange a b p1 p2 = subcell a && subcell b && leb p1 padMost && leb p2 padMost
+
 -- a message: refusal 1 for a, b or a pad out of range, 3 for more than 1,024 bits or a wave over its limit, 2 for an
 -- entry that is no bit
-unfoldable pub sentMessage : ℕ → ℕ → ℕ → ℕ → List ℕ → List ℕ → Answer ℕ × List ℕ
+unfoldable pub sentMessage : (a b p1 p2 : ℕ) (bits output : List ℕ) → Answer ℕ × List ℕ
 sentMessage a b p1 p2 bits output =
-    ranged (subcell a && subcell b && leb p1 padMost && leb p2 padMost) output
+    ranged (messageInRange a b p1 p2) output
     (limited bitsMost (length bits) output
     (limited entriesMost (length (wave a b p1 p2 bits)) output
     (entered 1 bits output
     (lent (wave a b p1 p2 bits) output))))
 
 -- the lists of a plan fit one another: there is a row, a trail pad for each lead pad, and n bits for each row
-abbrev pub fitting : ℕ → List ℕ → List ℕ → List ℕ → Bool
+abbrev pub fitting : (n : ℕ) (leads trails bits : List ℕ) → Bool
 fitting n leads trails bits =
     leb 1 (length leads) && eqb (length trails) (length leads) && eqb (length bits) (length leads * n)
 
@@ -31,11 +35,16 @@ fitting n leads trails bits =
 abbrev pub padded : List ℕ → Bool
 padded pads = not (someAbove padMost pads)
 
+-- a, b, n and all pads of a plan are in range, and its lists fit one another
+abbrev pub planInRange : (a b n : ℕ) (leads trails bits : List ℕ) → Bool
+planInRange a b n leads trails bits =
+    subcell a && subcell b && rowBits n && fitting n leads trails bits && padded leads && padded trails
+
 -- a plan: refusal 1 for a, b, n or a pad out of range and for lists that do not fit, 3 for more than 1,024 rows or a
 -- wave over its limit, 2 for an entry that is no bit
-unfoldable pub sentPlan : ℕ → ℕ → ℕ → List ℕ → List ℕ → List ℕ → List ℕ → Answer ℕ × List ℕ
+unfoldable pub sentPlan : (a b n : ℕ) (leads trails bits output : List ℕ) → Answer ℕ × List ℕ
 sentPlan a b n leads trails bits output =
-    ranged (subcell a && subcell b && rowBits n && fitting n leads trails bits && padded leads && padded trails) output
+    ranged (planInRange a b n leads trails bits) output
     (limited rowsMost (length leads) output
     (limited entriesMost (length (planWave a b (rowsOf n leads trails bits))) output
     (entered 1 bits output

@@ -3,12 +3,12 @@ ghost use mathlib.Core.Path.{_≡_};
 ghost use mathlib.Core.Bool.{true, _&&_};
 ghost use mathlib.Core.List.{List, _++_};
 ghost use Prim.Native.Nat.{ℕ, _+_, _*_, _≤_, _<_};
-ghost use lib.Dec.{leb};
 ghost use lib.ListN.{length, replicate};
 ghost use lib.Seq.{sets};
-ghost use Rattle.measure.specs.Ranges.{subcell, padMost, rowBits};
+ghost use Rattle.measure.specs.Ranges.{subcell, rowBits};
 ghost use Rattle.sender.specs.Sending.{opposite, codeLevel, cells, wave, planWave, rowsOf};
-ghost use Rattle.sender.specs.Answers.{fitting, padded, sentMessage, sentPlan, sentSays};
+ghost use Rattle.sender.specs.Answers.{messageInRange, fitting, padded, planInRange};
+ghost use Rattle.sender.specs.Answers.{sentMessage, sentPlan, sentSays};
 use measure::BITS_LEAST;
 use measure::BITS_MOST;
 use measure::ENTRIES_MOST;
@@ -98,20 +98,19 @@ fn wave_into(
     trail + p2
 }
 
+// Tells whether a and b are in range.
+fn cell_in_range(a: usize, b: usize) -> bool
+    ensures { λ fits. ⌜ fits ≡ (subcell a && subcell b) ⌝ }
+{
+    measure::between(SUBCELL_LEAST, SUBCELL_MOST, a)
+        & measure::between(SUBCELL_LEAST, SUBCELL_MOST, b)
+}
+
 // Tells whether a, b and both pads of a message are in range.
 fn in_range(a: usize, b: usize, p1: usize, p2: usize) -> bool
-    ensures { λ fits. ⌜ fits ≡ (subcell a && subcell b && leb p1 padMost && leb p2 padMost) ⌝ }
+    ensures { λ fits. ⌜ fits ≡ messageInRange a b p1 p2 ⌝ }
 {
-    if !measure::between(SUBCELL_LEAST, SUBCELL_MOST, a) {
-        return false;
-    }
-    if !measure::between(SUBCELL_LEAST, SUBCELL_MOST, b) {
-        return false;
-    }
-    if p1 > PAD_MOST {
-        return false;
-    }
-    p2 <= PAD_MOST
+    cell_in_range(a, b) & (p1 <= PAD_MOST) & (p2 <= PAD_MOST)
 }
 
 // Sends a message. Gives the number of cycles of its wave.
@@ -152,6 +151,13 @@ pub fn send(
     Sent::Wave(WriterCycles(end))
 }
 
+// Tells whether a, b and n of a plan are in range.
+fn numbers_in_range(a: usize, b: usize, n: usize) -> bool
+    ensures { λ fits. ⌜ fits ≡ (subcell a && subcell b && rowBits n) ⌝ }
+{
+    cell_in_range(a, b) & measure::between(BITS_LEAST, BITS_MOST, n)
+}
+
 // Tells whether each pad of a list is in range.
 fn pads_in_range(pads: &[usize]) -> bool
     ensures { λ fits. ⌜ fits ≡ padded (now (pads .entry)) ⌝ }
@@ -171,17 +177,11 @@ fn lists_fit(n: usize, leads: &[usize], trails: &[usize], bits: &[u8]) -> bool
     requires { ⌜ 0 < n ⌝ }
     ensures { λ fits. ⌜ fits ≡ fitting n (now (leads .entry)) (now (trails .entry)) (now (bits .entry)) ⌝ }
 {
-    if leads.len() == 0 {
-        return false;
-    }
-    if trails.len() != leads.len() {
-        return false;
-    }
     let rows = bits.len() / n;
-    if rows != leads.len() {
-        return false;
-    }
-    bits.len() == rows * n
+    (leads.len() >= 1)
+        & (trails.len() == leads.len())
+        & (rows == leads.len())
+        & (bits.len() == rows * n)
 }
 
 // Tells whether a, b, n and all pads of a plan are in range and its lists fit one another.
@@ -193,27 +193,12 @@ fn plan_in_range(
     trails: &[usize],
     bits: &[u8],
 ) -> bool
-    ensures { λ fits. ⌜ fits
-        ≡ (subcell a && subcell b && rowBits n
-        && fitting n (now (leads .entry)) (now (trails .entry)) (now (bits .entry)) && padded (now (leads .entry))
-        && padded (now (trails .entry))) ⌝ }
+    ensures { λ fits. ⌜ fits ≡ planInRange a b n (now (leads .entry)) (now (trails .entry)) (now (bits .entry)) ⌝ }
 {
-    if !measure::between(SUBCELL_LEAST, SUBCELL_MOST, a) {
+    if !numbers_in_range(a, b, n) {
         return false;
     }
-    if !measure::between(SUBCELL_LEAST, SUBCELL_MOST, b) {
-        return false;
-    }
-    if !measure::between(BITS_LEAST, BITS_MOST, n) {
-        return false;
-    }
-    if !lists_fit(n, leads, trails, bits) {
-        return false;
-    }
-    if !pads_in_range(leads) {
-        return false;
-    }
-    pads_in_range(trails)
+    lists_fit(n, leads, trails, bits) & pads_in_range(leads) & pads_in_range(trails)
 }
 
 // Gives the number of cycles of a plan's wave, whatever its bits.
@@ -235,7 +220,7 @@ fn plan_cycles(a: usize, b: usize, n: usize, leads: &[usize], trails: &[usize]) 
     cycles
 }
 
-// Writes the waves of a plan's rows one behind another.
+// Writes the waves of a plan's rows one after another.
 fn plan_into(
     a: usize,
     b: usize,

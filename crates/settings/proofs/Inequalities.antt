@@ -71,13 +71,13 @@ pub m3-met : (a b k w r : ℕ) → zeroOrMore (m3 a b k w r) ≡ leb ((k + 2) * 
 unfolding m3
 m3-met a b k w r = margin-met (a + b) 1 w (k + 2) r ∙ ap (λ (n : ℕ). leb n ((a + b) * w)) (omega arith)
 
-pub m4-met : (a b Q w r : ℕ) → zeroOrMore (m4 a b Q w r) ≡ leb ((a + b + 1) * w + 2 * r) (Q * r)
+pub m4-met : (a b w r Q : ℕ) → zeroOrMore (m4 a b w r Q) ≡ leb ((a + b + 1) * w + 2 * r) (Q * r)
 unfolding m4
-m4-met a b Q w r = margin-met Q 2 r (a + b + 1) w ∙ ap (λ (n : ℕ). leb n (Q * r)) (omega arith)
+m4-met a b w r Q = margin-met Q 2 r (a + b + 1) w ∙ ap (λ (n : ℕ). leb n (Q * r)) (omega arith)
 
-pub m5-met : (p1 Q w r : ℕ) → zeroOrMore (m5 p1 Q w r) ≡ leb ((Q + 1) * r + w) (p1 * w)
+pub m5-met : (w r Q p1 : ℕ) → zeroOrMore (m5 w r Q p1) ≡ leb ((Q + 1) * r + w) (p1 * w)
 unfolding m5
-m5-met p1 Q w r = margin-met p1 1 w (Q + 1) r ∙ ap (λ (n : ℕ). leb n (p1 * w)) (omega arith)
+m5-met w r Q p1 = margin-met p1 1 w (Q + 1) r ∙ ap (λ (n : ℕ). leb n (p1 * w)) (omega arith)
 
 -- what accepted settings keep to: M1, M2 and M3
 pub record Accepted (a b k w r : ℕ) : Type 0 where
@@ -109,11 +109,11 @@ pub quiet-keeps : (a b k w r Q p1 : ℕ) → quietAccepted a b k w r Q p1 ≡ tr
     → Accepted a b k w r × QuietAccepted a b w r Q p1
 unfolding quietAccepted
 quiet-keeps a b k w r Q p1 e =
-    let parts = both-3 (accepted a b k w r) (zeroOrMore (m4 a b Q w r)) (zeroOrMore (m5 p1 Q w r)) e in (
+    let parts = both-3 (accepted a b k w r) (zeroOrMore (m4 a b w r Q)) (zeroOrMore (m5 w r Q p1)) e in (
       accepted-keeps a b k w r (parts .0),
       record {
-        M4 = leb-true _ _ (sym (m4-met a b Q w r) ∙ parts .1);
-        M5 = leb-true _ _ (sym (m5-met p1 Q w r) ∙ parts .2);
+        M4 = leb-true _ _ (sym (m4-met a b w r Q) ∙ parts .1);
+        M5 = leb-true _ _ (sym (m5-met w r Q p1) ∙ parts .2);
       },
     )
 
@@ -121,4 +121,4 @@ pub keeps-quiet : (a b k w r Q p1 : ℕ) → Accepted a b k w r → QuietAccepte
     → quietAccepted a b k w r Q p1 ≡ true
 unfolding quietAccepted
 keeps-quiet a b k w r Q p1 h q =
-    rw (keeps-accepted a b k w r h, m4-met a b Q w r ∙ le-leb _ _ (q .M4), m5-met p1 Q w r ∙ le-leb _ _ (q .M5))
+    rw (keeps-accepted a b k w r h, m4-met a b w r Q ∙ le-leb _ _ (q .M4), m5-met w r Q p1 ∙ le-leb _ _ (q .M5))

@@ -2,4 +2,5 @@ pub mod CasesHold
 pub mod Ranged
 pub mod Size
 pub mod Signs
+pub mod Judging
 pub mod Inequalities

@@ -26,29 +26,34 @@ pub record QuietJudgement : Type 0 where
   pub accepts : Bool
 
 -- a, b, k, w and r are in range
-abbrev pub inRange : ℕ → ℕ → ℕ → ℕ → ℕ → Bool
+abbrev pub inRange : (a b k w r : ℕ) → Bool
 inRange a b k w r = subcell a && subcell b && sampling k && cycleLength w && cycleLength r
 
+-- those, Q and p1 are in range
+abbrev pub quietInRange : (a b k w r Q p1 : ℕ) → Bool
+quietInRange a b k w r Q p1 = inRange a b k w r && quiet Q && leb p1 padMost
+
+-- M1, M2 and M3
+abbrev pub cellMargins : (a b k w r : ℕ) → Margins
+cellMargins a b k w r = record { m1 = m1 a w r; m2 = m2 a k w r; m3 = m3 a b k w r }
+
+-- all five margins
+abbrev pub allMargins : (a b k w r Q p1 : ℕ) → QuietMargins
+allMargins a b k w r Q p1 =
+    record { m1 = m1 a w r; m2 = m2 a k w r; m3 = m3 a b k w r; m4 = m4 a b w r Q; m5 = m5 w r Q p1 }
+
 -- the judge: refusal 1 where a setting is out of range
-unfoldable pub judgement : ℕ → ℕ → ℕ → ℕ → ℕ → Answer Judgement
+unfoldable pub judgement : (a b k w r : ℕ) → Answer Judgement
 judgement a b k w r =
     choose (inRange a b k w r)
-    (given (record {
-      margins = record { m1 = m1 a w r; m2 = m2 a k w r; m3 = m3 a b k w r };
-      accepts =
-          accepted a b k w r;
-    }))
+    (given (record { margins = cellMargins a b k w r; accepts = accepted a b k w r }))
     (refused 1 0)
 
 -- the quiet judge: all five margins
-unfoldable pub quietJudgement : ℕ → ℕ → ℕ → ℕ → ℕ → ℕ → ℕ → Answer QuietJudgement
+unfoldable pub quietJudgement : (a b k w r Q p1 : ℕ) → Answer QuietJudgement
 quietJudgement a b k w r Q p1 =
-    choose (inRange a b k w r && quiet Q && leb p1 padMost)
-    (given
-    (record {
-      margins = record { m1 = m1 a w r; m2 = m2 a k w r; m3 = m3 a b k w r; m4 = m4 a b Q w r; m5 = m5 p1 Q w r };
-      accepts = quietAccepted a b k w r Q p1;
-    }))
+    choose (quietInRange a b k w r Q p1)
+    (given (record { margins = allMargins a b k w r Q p1; accepts = quietAccepted a b k w r Q p1 }))
     (refused 1 0)
 
 -- what each case of the judge's answer says

@@ -50,13 +50,13 @@ P9-3-2 = record { kind = ℤ × Bool; gives = (m2 5 10 3 2, accepted 5 13 10 3 2
 
 -- P10: a 5, b 13, w and r 100: the quiet margins at and beside their edge
 abbrev P10-21-23 : Case
-P10-21-23 = record { kind = ℤ × ℤ; gives = (m4 5 13 21 100 100, m5 23 21 100 100); printed = (pos 0, pos 0) }
+P10-21-23 = record { kind = ℤ × ℤ; gives = (m4 5 13 100 100 21, m5 100 100 21 23); printed = (pos 0, pos 0) }
 
 abbrev P10-20 : Case
-P10-20 = record { kind = ℤ; gives = m4 5 13 20 100 100; printed = negsuc 99 }
+P10-20 = record { kind = ℤ; gives = m4 5 13 100 100 20; printed = negsuc 99 }
 
 abbrev P10-21-22 : Case
-P10-21-22 = record { kind = ℤ; gives = m5 22 21 100 100; printed = negsuc 99 }
+P10-21-22 = record { kind = ℤ; gives = m5 100 100 21 22; printed = negsuc 99 }
 
 abbrev pub cases : List Case
 cases = P8-141 ∷ P8-142 ∷ P8-67 ∷ P8-66 ∷ P9-12-17 ∷ P9-3-2 ∷ P10-21-23 ∷ P10-20 ∷ P10-21-22 ∷ []

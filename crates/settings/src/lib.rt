@@ -1,13 +1,11 @@
 // Judging settings: the margins of document 01 as signed numbers, and yes or no.
 ghost use mathlib.Core.Path.{_≡_};
-ghost use mathlib.Core.Bool.{_&&_};
+ghost use mathlib.Core.Bool.{true, _&&_};
 ghost use Prim.Native.Nat.{_≤_};
-ghost use lib.Dec.{leb};
-ghost use Rattle.measure.specs.Ranges.{quiet, padMost};
 ghost use lib.IntN.{_-ℤ_, _*ℤ_};
-ghost use Rattle.measure.specs.Refusals.{given};
 ghost use Rattle.settings.specs.Margins.{signed, m1, m2, m3, m4, m5, zeroOrMore};
-ghost use Rattle.settings.specs.Answers.{inRange, judgement, quietJudgement, judgedSays, quietJudgedSays};
+ghost use Rattle.settings.specs.Answers.{inRange, quietInRange, cellMargins, allMargins};
+ghost use Rattle.settings.specs.Answers.{judgement, quietJudgement, judgedSays, quietJudgedSays};
 use measure::CYCLE_LEAST;
 use measure::CYCLE_MOST;
 use measure::PAD_MOST;
@@ -55,24 +53,18 @@ pub enum QuietJudged {
     Refused(Refusal),
 }
 
+// Tells whether a, b, k, w and r are in range.
 fn in_range(a: WriterCycles, b: WriterCycles, k: ReadCycles, w: TimeUnits, r: TimeUnits) -> bool
     ensures { λ fits. ⌜ fits ≡ inRange (a .0) (b .0) (k .0) (w .0) (r .0) ⌝ }
 {
-    if !measure::between(SUBCELL_LEAST, SUBCELL_MOST, a.0) {
-        return false;
-    }
-    if !measure::between(SUBCELL_LEAST, SUBCELL_MOST, b.0) {
-        return false;
-    }
-    if !measure::between(SAMPLING_LEAST, SAMPLING_MOST, k.0) {
-        return false;
-    }
-    if !measure::between(CYCLE_LEAST, CYCLE_MOST, w.0) {
-        return false;
-    }
-    measure::between(CYCLE_LEAST, CYCLE_MOST, r.0)
+    measure::between(SUBCELL_LEAST, SUBCELL_MOST, a.0)
+        & measure::between(SUBCELL_LEAST, SUBCELL_MOST, b.0)
+        & measure::between(SAMPLING_LEAST, SAMPLING_MOST, k.0)
+        & measure::between(CYCLE_LEAST, CYCLE_MOST, w.0)
+        & measure::between(CYCLE_LEAST, CYCLE_MOST, r.0)
 }
 
+// Tells whether those, Q and p1 are in range.
 fn quiet_in_range(
     a: WriterCycles,
     b: WriterCycles,
@@ -82,20 +74,13 @@ fn quiet_in_range(
     q: ReadCycles,
     p1: WriterCycles,
 ) -> bool
-    ensures { λ fits. ⌜ fits ≡ (inRange (a .0) (b .0) (k .0) (w .0) (r .0) && quiet (q .0) && leb (p1 .0) padMost) ⌝ }
+    ensures { λ fits. ⌜ fits ≡ quietInRange (a .0) (b .0) (k .0) (w .0) (r .0) (q .0) (p1 .0) ⌝ }
 {
-    if !in_range(a, b, k, w, r) {
-        return false;
-    }
-    if !measure::between(QUIET_LEAST, QUIET_MOST, q.0) {
-        return false;
-    }
-    p1.0 <= PAD_MOST
+    in_range(a, b, k, w, r) & measure::between(QUIET_LEAST, QUIET_MOST, q.0) & (p1.0 <= PAD_MOST)
 }
 
 // Gives a margin. Each of the five has this form: so many cycles of one clock less the spare ones, against so many of
-// the other. Either clock may
-// come first, so these are bare numbers.
+// the other. Either clock may come first, so these are bare numbers.
 fn margin(count: usize, spare: usize, cycle: usize, others: usize, other: usize) -> i64
     requires { ⌜ (count ≤ 65536) × (spare ≤ 65536) × (cycle ≤ 65536) × (others ≤ 65536) × (other ≤ 65536) ⌝ }
     ensures { λ m. ⌜ m ≡ (signed count -ℤ signed spare) *ℤ signed cycle -ℤ signed others *ℤ signed other ⌝ }
@@ -131,69 +116,85 @@ fn margin3(a: WriterCycles, b: WriterCycles, k: ReadCycles, w: TimeUnits, r: Tim
 }
 
 // Gives M4: the quiet count against a cell.
-fn margin4(a: WriterCycles, b: WriterCycles, q: ReadCycles, w: TimeUnits, r: TimeUnits) -> i64
-    requires { ⌜ (a .0 ≤ 255) × (b .0 ≤ 255) × (q .0 ≤ 8191) × (w .0 ≤ 65535) × (r .0 ≤ 65535) ⌝ }
-    ensures { λ m. ⌜ m ≡ m4 (a .0) (b .0) (q .0) (w .0) (r .0) ⌝ }
+fn margin4(a: WriterCycles, b: WriterCycles, w: TimeUnits, r: TimeUnits, q: ReadCycles) -> i64
+    requires { ⌜ (a .0 ≤ 255) × (b .0 ≤ 255) × (w .0 ≤ 65535) × (r .0 ≤ 65535) × (q .0 ≤ 8191) ⌝ }
+    ensures { λ m. ⌜ m ≡ m4 (a .0) (b .0) (w .0) (r .0) (q .0) ⌝ }
 {
     margin(q.0, 2, r.0, a.0 + b.0 + 1, w.0)
 }
 
 // Gives M5: the lead pad against the quiet count.
-fn margin5(p1: WriterCycles, q: ReadCycles, w: TimeUnits, r: TimeUnits) -> i64
-    requires { ⌜ (p1 .0 ≤ 65535) × (q .0 ≤ 8191) × (w .0 ≤ 65535) × (r .0 ≤ 65535) ⌝ }
-    ensures { λ m. ⌜ m ≡ m5 (p1 .0) (q .0) (w .0) (r .0) ⌝ }
+fn margin5(w: TimeUnits, r: TimeUnits, q: ReadCycles, p1: WriterCycles) -> i64
+    requires { ⌜ (w .0 ≤ 65535) × (r .0 ≤ 65535) × (q .0 ≤ 8191) × (p1 .0 ≤ 65535) ⌝ }
+    ensures { λ m. ⌜ m ≡ m5 (w .0) (r .0) (q .0) (p1 .0) ⌝ }
 {
     margin(p1.0, 1, w.0, q.0 + 1, r.0)
 }
 
-// Answers yes or no by the signs of three margins.
-fn by_signs(m1: i64, m2: i64, m3: i64) -> Judged
-    ensures { λ x. ⌜ given
-        (record {
-          margins = record { m1 = m1; m2 = m2; m3 = m3 };
-          accepts =
-              zeroOrMore m1 && zeroOrMore m2 && zeroOrMore m3;
-        }) ≡ judgedSays x ⌝ }
+// Gives M1, M2 and M3.
+fn cell_margins(
+    a: WriterCycles,
+    b: WriterCycles,
+    k: ReadCycles,
+    w: TimeUnits,
+    r: TimeUnits,
+) -> Margins
+    requires { ⌜ inRange (a .0) (b .0) (k .0) (w .0) (r .0) ≡ true ⌝ }
+    ensures { λ m. ⌜ m ≡ cellMargins (a .0) (b .0) (k .0) (w .0) (r .0) ⌝ }
 {
-    let margins = Margins { m1, m2, m3 };
-    if m1 < 0 {
-        return Judged::No(margins);
+    Margins {
+        m1: margin1(a, w, r),
+        m2: margin2(a, k, w, r),
+        m3: margin3(a, b, k, w, r),
     }
-    if m2 < 0 {
-        return Judged::No(margins);
-    }
-    if m3 < 0 {
-        return Judged::No(margins);
-    }
-    Judged::Yes(margins)
 }
 
-// Answers yes or no by the signs of all five margins.
-fn quiet_by_signs(m1: i64, m2: i64, m3: i64, m4: i64, m5: i64) -> QuietJudged
-    ensures { λ x. ⌜ given
-        (record {
-          margins = record { m1 = m1; m2 = m2; m3 = m3; m4 = m4; m5 = m5 };
-          accepts =
-              zeroOrMore m1 && zeroOrMore m2 && zeroOrMore m3 && zeroOrMore m4 && zeroOrMore m5;
-        }) ≡ quietJudgedSays x ⌝ }
+// Gives all five margins.
+fn all_margins(
+    a: WriterCycles,
+    b: WriterCycles,
+    k: ReadCycles,
+    w: TimeUnits,
+    r: TimeUnits,
+    q: ReadCycles,
+    p1: WriterCycles,
+) -> QuietMargins
+    requires { ⌜ quietInRange (a .0) (b .0) (k .0) (w .0) (r .0) (q .0) (p1 .0) ≡ true ⌝ }
+    ensures { λ m. ⌜ m ≡ allMargins (a .0) (b .0) (k .0) (w .0) (r .0) (q .0) (p1 .0) ⌝ }
 {
-    let margins = QuietMargins { m1, m2, m3, m4, m5 };
-    if m1 < 0 {
-        return QuietJudged::No(margins);
+    QuietMargins {
+        m1: margin1(a, w, r),
+        m2: margin2(a, k, w, r),
+        m3: margin3(a, b, k, w, r),
+        m4: margin4(a, b, w, r, q),
+        m5: margin5(w, r, q, p1),
     }
-    if m2 < 0 {
-        return QuietJudged::No(margins);
-    }
-    if m3 < 0 {
-        return QuietJudged::No(margins);
-    }
-    if m4 < 0 {
-        return QuietJudged::No(margins);
-    }
-    if m5 < 0 {
-        return QuietJudged::No(margins);
-    }
-    QuietJudged::Yes(margins)
+}
+
+// Tells whether a margin is zero or more.
+fn zero_or_more(margin: i64) -> bool
+    ensures { λ yes. ⌜ yes ≡ zeroOrMore margin ⌝ }
+{
+    margin >= 0
+}
+
+// Tells whether M1, M2 and M3 are.
+fn cell_accepted(m: Margins) -> bool
+    ensures { λ yes. ⌜ yes ≡ (zeroOrMore (m .m1) && zeroOrMore (m .m2) && zeroOrMore (m .m3)) ⌝ }
+{
+    zero_or_more(m.m1) & zero_or_more(m.m2) & zero_or_more(m.m3)
+}
+
+// Tells whether all five margins are.
+fn all_accepted(m: QuietMargins) -> bool
+    ensures { λ yes. ⌜ yes
+        ≡ (zeroOrMore (m .m1) && zeroOrMore (m .m2) && zeroOrMore (m .m3) && zeroOrMore (m .m4) && zeroOrMore (m .m5)) ⌝ }
+{
+    zero_or_more(m.m1)
+        & zero_or_more(m.m2)
+        & zero_or_more(m.m3)
+        & zero_or_more(m.m4)
+        & zero_or_more(m.m5)
 }
 
 // The judge. Gives M1, M2 and M3, and yes exactly if all three are zero or more. Refuses with 1 a setting out of range.
@@ -203,11 +204,12 @@ pub fn judge(a: WriterCycles, b: WriterCycles, k: ReadCycles, w: TimeUnits, r: T
     if !in_range(a, b, k, w, r) {
         return Judged::Refused(Refusal::Setting(0));
     }
-    by_signs(
-        margin1(a, w, r),
-        margin2(a, k, w, r),
-        margin3(a, b, k, w, r),
-    )
+    let m = cell_margins(a, b, k, w, r);
+    if cell_accepted(m) {
+        Judged::Yes(m)
+    } else {
+        Judged::No(m)
+    }
 }
 
 // The quiet judge. Gives all five margins, and yes exactly if all five are zero or more. Refuses with 1 a setting out
@@ -226,11 +228,10 @@ pub fn judge_quiet(
     if !quiet_in_range(a, b, k, w, r, q, p1) {
         return QuietJudged::Refused(Refusal::Setting(0));
     }
-    quiet_by_signs(
-        margin1(a, w, r),
-        margin2(a, k, w, r),
-        margin3(a, b, k, w, r),
-        margin4(a, b, q, w, r),
-        margin5(p1, q, w, r),
-    )
+    let m = all_margins(a, b, k, w, r, q, p1);
+    if all_accepted(m) {
+        QuietJudged::Yes(m)
+    } else {
+        QuietJudged::No(m)
+    }
 }

@@ -7,7 +7,7 @@ ghost use Rattle.counted.specs.Answers.{countedSays};
 ghost use Rattle.capture.specs.Answers.{writtenSays};
 ghost use Rattle.siengulot.specs.Crossing.{crossed};
 use capture::Written;
-use counted::Counted;
+use counted::Received;
 use line::Read;
 use line::Smoothed;
 use measure::Refusal;
@@ -70,18 +70,18 @@ pub fn of_read(answer: Read, place: &mut usize, count: &mut usize) -> usize
 }
 
 // What the counted receiver answers: also after refusal 5 the count is of the bits found.
-pub fn of_counted(answer: Counted, place: &mut usize, count: &mut usize) -> usize
+pub fn of_counted(answer: Received, place: &mut usize, count: &mut usize) -> usize
     ensures { λ x. ⌜ crossed (countedSays answer)
         ≡ record { number = x; place = now (place .exit); count = now (count .exit) } ⌝ }
 {
     match answer {
-        Counted::Bits(found) => gives(found, place, count),
-        Counted::RanOut(found) => {
+        Received::Bits(found) => gives(found, place, count),
+        Received::RanOut(found) => {
             *place = 0;
             *count = found;
             RAN_OUT
         }
-        Counted::Refused(refusal) => refuses(refusal, place, count),
+        Received::Refused(refusal) => refuses(refusal, place, count),
     }
 }
 

@@ -12,7 +12,7 @@ use lib.Seq.{length-take-le}
 use Rattle.measure.specs.Refusals.{given, refusedAfter}
 use Rattle.measure.proofs.Wrote.{Wrote, wrote-none, wrote-more, wrote-all}
 use Rattle.counted.specs.Counted.{counted}
-use Rattle.counted.specs.Answers.{found}
+use Rattle.counted.specs.Answers.{countedInto}
 use Rattle.counted.proofs.Samples.{counted-marked, counted-unsampled}
 use Rattle.counted.proofs.count_into.Statement.{statement}
 use Rattle.counted.proofs.count_into.Tie as tie
@@ -22,10 +22,10 @@ module _ (n i : ℕ) (bits out₀ out : List ℕ) (w : Wrote bits out₀ out [] 
   written : length bits ≡ i
   written = ap length (w .front ∙ append-nil (take i out)) ∙ length-take-le i out (omega (arith, w .size))
 
-  found-all : i ≡ n → found n bits out₀ ≡ (given n, out)
+  found-all : i ≡ n → countedInto n bits out₀ ≡ (given n, out)
   found-all e = rw (wrote-all bits out₀ out i w (omega arith), written, eq-eqb i n e)
 
-  found-fewer : i < n → found n bits out₀ ≡ (refusedAfter 5 0 i, out)
+  found-fewer : i < n → countedInto n bits out₀ ≡ (refusedAfter 5 0 i, out)
   found-fewer h = rw (wrote-all bits out₀ out i w (omega arith), written, ne-eqb i n (omega arith))
 
 -- of the bits left, one is found in a turn

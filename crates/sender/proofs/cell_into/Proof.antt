@@ -1,4 +1,4 @@
--- `cell_into` meets its contract: the mark is laid down, and the code level behind it.
+-- `cell_into` meets its contract: the mark is laid down, and the code level after it.
 use mathlib.Core.Path.{_≡_, _∙_}
 use Prim.Native.Nat.{_+_}
 use lib.ListN.{replicate, length-replicate}

@@ -1,17 +1,17 @@
 -- `send` meets its contract: the tests that led to a return pick the definition's case, and the wave's own limit is
 -- never reached.
 use mathlib.Core.Path.{_≡_}
-use mathlib.Core.Bool.{true, false, _&&_}
+use mathlib.Core.Bool.{true, false}
 use mathlib.Core.List.{List}
 use Prim.Native.Nat.{ℕ, _+_, _*_, _≤_}
 use native.Mathlib.Omega.{arith}
-use lib.Dec.{leb, ltb}
+use lib.Dec.{ltb}
 use lib.ListN.{length}
 use borrow.Author.Needs.{needs}
 use borrow.Author.Tests.{lt-ltb, le-ltb}
-use Rattle.measure.specs.Ranges.{subcell, padMost, entriesMost}
+use Rattle.measure.specs.Ranges.{entriesMost}
 use Rattle.sender.specs.Sending.{wave}
-use Rattle.sender.specs.Answers.{sentMessage}
+use Rattle.sender.specs.Answers.{messageInRange, sentMessage}
 use Rattle.measure.proofs.Both.{passed, failed}
 use Rattle.sender.proofs.Ranged.{Message, message-bounded}
 use Rattle.sender.proofs.Cells.{length-wave, message-most}
@@ -29,7 +29,7 @@ returns c = simp (failed (c .before .in-range .ensures) (c .if1 .taken))
 -- past the first test the settings are in range
 accepts : (c : tie.Else1)
     → let args = c .before .before .before .before .args in
-    subcell (args .a .0) && subcell (args .b .0) && leb (args .p1 .0) padMost && leb (args .p2 .0) padMost ≡ true
+    messageInRange (args .a .0) (args .b .0) (args .p1 .0) (args .p2 .0) ≡ true
 accepts c = passed (c .before .in-range .ensures) (c .if1 .left)
 
 returns-2 : tie.Need-returns-2

@@ -1,6 +1,6 @@
 -- `send_plan` meets its contract: the tests that led to a return pick the definition's case.
 use mathlib.Core.Path.{_≡_}
-use mathlib.Core.Bool.{true, false, _&&_}
+use mathlib.Core.Bool.{true, false}
 use mathlib.Core.List.{List}
 use Prim.Native.Nat.{ℕ}
 use native.Mathlib.Omega.{arith}
@@ -8,9 +8,9 @@ use lib.Dec.{ltb}
 use lib.ListN.{length}
 use borrow.Author.Needs.{needs}
 use borrow.Author.Tests.{lt-ltb, le-ltb}
-use Rattle.measure.specs.Ranges.{subcell, rowBits, entriesMost}
+use Rattle.measure.specs.Ranges.{entriesMost}
 use Rattle.sender.specs.Sending.{planWave, rowsOf}
-use Rattle.sender.specs.Answers.{fitting, padded, sentPlan}
+use Rattle.sender.specs.Answers.{planInRange, sentPlan}
 use Rattle.measure.proofs.Both.{passed, failed}
 use Rattle.sender.proofs.Ranged.{Plan, plan-bounded}
 use Rattle.sender.proofs.Placed.{lent-placed, lent-short}
@@ -38,8 +38,7 @@ module _ (c : tie.Else1) where
   abbrev bits : List ℕ
   bits = begin .args .bits .now
 
-  accepts : subcell (begin .args .a .0) && subcell (begin .args .b .0) && rowBits (begin .args .n)
-      && fitting (begin .args .n) leads trails bits && padded leads && padded trails ≡ true
+  accepts : planInRange (begin .args .a .0) (begin .args .b .0) (begin .args .n) leads trails bits ≡ true
   accepts = passed (c .before .plan-in-range .ensures) (c .if1 .left)
 
   bounded : Plan (begin .args .a .0) (begin .args .b .0) (begin .args .n) leads trails bits

@@ -1,4 +1,4 @@
--- `wave_into` meets its contract: lead pad, cells and trail pad are laid down one behind another.
+-- `wave_into` meets its contract: lead pad, cells and trail pad are laid down one after another.
 use mathlib.Core.Path.{_≡_, _∙_}
 use mathlib.Core.List.{_++_}
 use Prim.Native.Nat.{_+_, _*_}

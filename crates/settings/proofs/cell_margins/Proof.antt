@@ -1,0 +1,33 @@
+-- `cell_margins` meets its contract: it puts the three margins into one value.
+use native.Mathlib.Omega.{arith}
+use Rattle.settings.proofs.Ranged.{Bounded, ranged-bounded}
+use Rattle.settings.proofs.Signs.{read-back}
+use Rattle.settings.proofs.cell_margins.Statement.{statement}
+use Rattle.settings.proofs.cell_margins.Tie as tie
+
+bounded : (c : tie.Start) → Bounded (c .args .a .0) (c .args .b .0) (c .args .k .0) (c .args .w .0) (c .args .r .0)
+bounded c = ranged-bounded _ _ _ _ _ (c .pre)
+
+margin1-requires : tie.Need-margin1-requires
+margin1-requires c κs = omega (arith, bounded c)
+
+margin2-requires : tie.Need-margin2-requires
+margin2-requires c κs = omega (arith, bounded (c .before))
+
+margin3-requires : tie.Need-margin3-requires
+margin3-requires c κs = omega (arith, bounded (c .before .before))
+
+returns : tie.Need-returns
+returns c =
+    let second = c .before in
+    rw (
+      read-back (second .before .margin1 .result) (second .before .margin1 .ok),
+      second .before .margin1 .ensures,
+      read-back (second .margin2 .result) (second .margin2 .ok),
+      second .margin2 .ensures,
+      read-back (c .margin3 .result) (c .margin3 .ok),
+      c .margin3 .ensures,
+    )
+
+pub cell-margins-spec : {M : Type 1} → statement M
+cell-margins-spec = tie.close (tie.spec margin1-requires margin2-requires margin3-requires returns)
