@@ -9,8 +9,8 @@ use lib.ListN.{length, take, replicate}
 use lib.Seq.{take-at}
 use Rattle.board.specs.declared.Mode.the-variants.{Counting}
 use Rattle.board.specs.declared.Receiver.{Receiver}
-use Rattle.board.specs.declared.Numbers.{Numbers}
-use Rattle.board.specs.declared.Heard.the-variants.{Full}
+use Rattle.board.specs.declared.state.Numbers.{Numbers}
+use Rattle.board.specs.declared.listening.Heard.the-variants.{Full}
 use Rattle.board.specs.Rows.{Settings, State, waiting, counting, collected}
 use Rattle.board.specs.Packed.{unpacked, kept, stateOf, receiverOf}
 use Rattle.board.specs.Listening.{keeping, Keeps, heardFrom, movedFrom, heardSays}

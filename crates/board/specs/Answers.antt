@@ -43,24 +43,26 @@ reached g s event = record { receiver = receiverOf g s; answer = given event; ro
 abbrev pub refusing : Receiver → ℕ → ℕ → Outcome
 refusing x number place = record { receiver = x; answer = refused number place; row = kept [] }
 
--- starting: a fresh receiver, or refusal 1 for k, n or Q out of range, with a receiver that hunts and holds nothing but
--- zeros
-unfoldable pub begun : ℕ → ℕ → ℕ → Answer Event × Receiver
+-- 01: a refused fresh state is hunting, and every number and bit of it is 0, the level too
+abbrev pub refusedFresh : Receiver
+refusedFresh =
+    record {
+      k = record { 0 = 0 };
+      n = 0;
+      q = record { 0 = 0 };
+      mode = Hunting;
+      run = record { 0 = 0 };
+      left = record { 0 = 0 };
+      level = 0;
+      found = 0;
+      bits = kept [];
+    }
+
+-- starting: a fresh receiver, or refusal 1 for k, n or Q out of range
+unfoldable pub begun : (k n Q : ℕ) → Answer Event × Receiver
 begun k n Q =
-    choose (settingsFit k n Q) (given nothing, receiverOf (record { k = k; n = n; Q = Q }) fresh) (
-      refused 1 0,
-      record {
-        k = record { 0 = 0 };
-        n = 0;
-        q = record { 0 = 0 };
-        mode = Hunting;
-        run = record { 0 = 0 };
-        left = record { 0 = 0 };
-        level = 0;
-        found = 0;
-        bits = kept [];
-      },
-    )
+    choose (settingsFit k n Q) (given nothing, receiverOf (record { k = k; n = n; Q = Q }) fresh)
+    (refused 1 0, refusedFresh)
 
 -- one read: refusal 1 for a state that is not well formed, 2 for a read above 1
 unfoldable pub stepped : Receiver → ℕ → Outcome
@@ -82,12 +84,13 @@ silent (report ∷ more) = false
 
 -- the outcome of the reads up to and with the first that brings an event, or of all, and how many these are
 abbrev pub toEvent : Settings → State → List ℕ → List Report → Outcome × ℕ
-toEvent g s reads told =
-    (reached g (after g s (take (usedOf told (length reads)) reads)) (firstEvent told), usedOf told (length reads))
+toEvent g s reads reported = (
+  reached g (after g s (take (usedOf reported (length reads)) reads)) (firstEvent reported),
+  usedOf reported (length reads),
+)
 
 -- Reads up to and with the first that brings an event: refusal 1 as above, 3 for a list over its limit, 2 for a read
--- that is no level where no event comes before it.
--- With a refusal no read is used.
+-- that is no level where no event comes before it. With a refusal no read is used.
 unfoldable pub listened : Receiver → List ℕ → Outcome × ℕ
 listened x reads =
     choose (wellFormed x)

@@ -1,4 +1,4 @@
--- 01, "The row receiver": reads fed one behind another, and what is reported, each report with the place of its read.
+-- 01, "The row receiver": reads fed one after another, and what is reported, each report with the place of its read.
 use Prim.Native.Nat.{ℕ, suc, _+_}
 use mathlib.Core.List.{List, [], _∷_}
 use Rattle.board.specs.Rows.{Settings, State, Event, nothing, row, broken, Moved, next}

@@ -46,10 +46,10 @@ hunting run = record { mode = Hunting; left = 0; level = 1; run = run; bits = []
 abbrev pub ready : ℕ → State
 ready run = record { mode = Ready; left = 0; level = 1; run = run; bits = [] }
 
-abbrev pub counting : ℕ → ℕ → ℕ → List ℕ → State
+abbrev pub counting : (left mark run : ℕ) (bits : List ℕ) → State
 counting left mark run bits = record { mode = Counting; left = left; level = mark; run = run; bits = bits }
 
-abbrev pub waiting : ℕ → ℕ → List ℕ → State
+abbrev pub waiting : (sample run : ℕ) (bits : List ℕ) → State
 waiting sample run bits = record { mode = Waiting; left = 0; level = sample; run = run; bits = bits }
 
 -- 01: where a receiver starts, with nothing heard and nothing found
@@ -68,12 +68,11 @@ abbrev pub stays : State → ℕ → Moved
 stays s run =
     record {
       state = record { mode = s .mode; left = s .left; level = s .level; run = run; bits = s .bits };
-      event =
-          nothing;
+      event = nothing;
     }
 
 -- 01, when the run stands at Q: whatever the mode was it is now ready, and a row that was under way is lost, which is
--- told with how many bits it had
+-- reported with how many bits it had
 abbrev pub quietened : Settings → State → Moved
 quietened g s =
     record { state = ready (g .Q); event = choose (inProgress (s .mode)) (broken (length (s .bits))) nothing }
@@ -82,16 +81,16 @@ quietened g s =
 abbrev pub marked : Settings → State → ℕ → ℕ → Moved
 marked g s run read = record { state = counting (g .k) read run (s .bits); event = nothing }
 
--- 01, a sample has given one bit more: the n-th completes the row, which is handed over and leaves nothing behind but
--- the run; before that the receiver waits, keeping the sample's level
+-- 01, a sample has given one bit more: the n-th completes the row, which is delivered, and nothing is kept but the run;
+-- before that the receiver waits, keeping the sample's level
 abbrev pub collected : Settings → ℕ → ℕ → List ℕ → Moved
 collected g run sample bits =
     choose (eqb (length bits) (g .n)) (record { state = hunting run; event = row bits })
     (record { state = waiting sample run bits; event = nothing })
 
 -- 01, counting: this read takes one from what is left, and when that leaves nothing it is the sample
-abbrev pub counted : Settings → State → ℕ → ℕ → Moved
-counted g s run read =
+abbrev pub countedDown : Settings → State → ℕ → ℕ → Moved
+countedDown g s run read =
     choose (eqb (s .left - 1) 0) (collected g run read (s .bits ++ bitOf (s .level) read ∷ []))
     (record { state = counting (s .left - 1) (s .level) run (s .bits); event = nothing })
 
@@ -104,7 +103,7 @@ awaited g s run read = choose (eqb read (s .level)) (stays s run) (marked g s ru
 abbrev pub listening : Mode → Settings → State → ℕ → ℕ → Moved
 listening Hunting g s run read = stays s run
 listening Ready g s run read = awaited g s run read
-listening Counting g s run read = counted g s run read
+listening Counting g s run read = countedDown g s run read
 listening Waiting g s run read = awaited g s run read
 
 -- 01, one read: the run first, and only then the mode
