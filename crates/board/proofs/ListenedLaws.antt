@@ -25,7 +25,8 @@ use Rattle.board.proofs.FeedingLaws.{used-least}
 
 -- the outcome by reports: whether some read is no level and where the first of those stands, the reads before it, the
 -- first at this place, and their reports
-abbrev byReports : Receiver → Settings → State → ℕ → Bool → ℕ → List ℕ → List Report → Outcome × ℕ
+abbrev byReports : Receiver → Settings → State → (place : ℕ) (bad : Bool) (at : ℕ) (levels : List ℕ)
+    (reported : List Report) → Outcome × ℕ
 byReports x g s place bad at levels reported =
     choose (bad && silent reported) (refusing x 2 at, 0) (
       reached g (after g s (take (usedOf reported (place + length levels) - place) levels)) (firstEvent reported),

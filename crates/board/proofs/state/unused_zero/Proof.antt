@@ -10,7 +10,7 @@ use mir.Syntax.{w8}
 use mir.Val.{Fits}
 use Rattle.board.specs.WellFormed.{allZero}
 use Rattle.board.proofs.PackedBits.{Words}
-use Rattle.board.proofs.UnusedBits.{unused-over, unused-rest, cleared-next, clear-one, zero-behind, zero-above}
+use Rattle.board.proofs.UnusedBits.{unused-over, unused-rest, cleared-next, clear-one, zeros-before, zero-above}
 use Rattle.board.proofs.state.unused_zero.Statement.{statement}
 use Rattle.board.proofs.state.unused_zero.Tie as tie
 
@@ -65,7 +65,7 @@ returns-2 c =
     let size : length rest ≡ 128 = search needs in
     unused-rest b (s .args .found) (omega (arith, long s)) (bytes s)
     (rw (e .before .weight .ensures, ← byte d) (e .if1 .left))
-    ∙ sym (zero-behind (suc at) (drop (suc at) b))
+    ∙ sym (zeros-before (suc at) (drop (suc at) b))
     ∙ ap allZero (sym (clear-one b at (omega (arith, long s))) ∙ ap (λ (l : List ℕ). set l at 0) (d .cleared .ensures))
     ∙ zero-above rest
     ∙ sym (rw (c .first-above .ensures, size))
