@@ -1,8 +1,8 @@
--- `stands` meets its contract: each test is one of the definition's, in its order.
+-- `numbers_fit` meets its contract: each test is one of the definition's, in its order.
 use borrow.Author.Needs.{needs}
 use borrow.Author.Tests.{le-leb, lt-leb}
-use Rattle.siengulot.proofs.state.stands.Statement.{statement}
-use Rattle.siengulot.proofs.state.stands.Tie as tie
+use Rattle.siengulot.proofs.state.numbers_fit.Statement.{statement}
+use Rattle.siengulot.proofs.state.numbers_fit.Tie as tie
 
 element-copy-out-if1 : tie.Need-element-copy-out-if1
 element-copy-out-if1 c = search needs
@@ -16,5 +16,5 @@ element-copy-out-result c = search needs
 returns-2 : tie.Need-returns-2
 returns-2 c = simp (le-leb _ _ (c .before .if1 .left))
 
-pub stands-spec : {M : Type 1} → statement M
-stands-spec = tie.close (tie.spec element-copy-out-if1 returns element-copy-out-result returns-2)
+pub numbers-fit-spec : {M : Type 1} → statement M
+numbers-fit-spec = tie.close (tie.spec element-copy-out-if1 returns element-copy-out-result returns-2)

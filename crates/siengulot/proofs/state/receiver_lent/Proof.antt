@@ -1,10 +1,10 @@
--- `receiver_of` meets its contract: each number is copied to its field, and the level is a byte.
+-- `receiver_lent` meets its contract: each number is copied to its field, and the level is a byte.
 use borrow.Author.Needs.{needs}
 use native.Mathlib.Omega.{arith}
-use Rattle.siengulot.specs.Receivers.{receiverOf}
-use Rattle.siengulot.proofs.Standing.{level-byte}
-use Rattle.siengulot.proofs.state.receiver_of.Statement.{statement}
-use Rattle.siengulot.proofs.state.receiver_of.Tie as tie
+use Rattle.siengulot.specs.Receivers.{named, receiverLent}
+use Rattle.siengulot.proofs.Recovered.{level-byte}
+use Rattle.siengulot.proofs.state.receiver_lent.Statement.{statement}
+use Rattle.siengulot.proofs.state.receiver_lent.Tie as tie
 
 element-copy-out-k : tie.Need-element-copy-out-k
 element-copy-out-k c = search needs
@@ -34,7 +34,7 @@ cast-level : tie.Need-cast-level
 cast-level c =
     omega (
       arith,
-      level-byte (c .before .before .before .before .before .before .before .before .args .numbers .now)
+      level-byte (named (c .before .before .before .before .before .before .before .before .args .numbers .now))
           (c .before .before .before .before .before .before .before .before .pre),
     )
 
@@ -42,11 +42,11 @@ element-copy-out-found : tie.Need-element-copy-out-found
 element-copy-out-found c = search needs
 
 returns : tie.Need-returns
-unfolding receiverOf
+unfolding receiverLent
 returns c = rw (c .before .before .before .before .before .mode-of .ensures)
 
-pub receiver-of-spec : {M : Type 1} → statement M
-receiver-of-spec =
+pub receiver-lent-spec : {M : Type 1} → statement M
+receiver-lent-spec =
     tie.close
     (tie.spec
     element-copy-out-k
