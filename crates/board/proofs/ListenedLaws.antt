@@ -64,7 +64,8 @@ by-reads x g s place (read ∷ reads) = go (decLe read 1) (by-reads x g (next g 
         → byReports x g (next g s read .state) (suc place) (someAbove 1 reads) (suc place + f) (take f reads) rest
         ≡ heardFrom x g (next g s read .state) (suc place) reads
         → byReports x g s place (someAbove 1 reads) (place + suc f) (read ∷ take f reads) (noted place event rest)
-        ≡ eventOrRest g (next g s read .state) event (suc place) (heardFrom x g (next g s read .state) (suc place) reads)
+        ≡ eventOrRest g (next g s read .state) event (suc place)
+        (heardFrom x g (next g s read .state) (suc place) reads)
     came nothing h =
         passed x g s place (someAbove 1 reads) f read (take f reads) rest
         (used-least (next g) (next g s read .state) (suc place) (take f reads)) ∙ h

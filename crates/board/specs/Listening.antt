@@ -82,7 +82,7 @@ heardSays x g all bytes (Full run used) = (
 )
 heardSays x g all bytes (Broken found used) = (reached g (ready (g .Q)) (broken found), used)
 
--- listening from a place on: whatever receiver a refusal would hand back, the outcome of the reads is what the case says
+-- listening from a place on: whatever receiver a refusal hands back, the outcome of the reads is what the case says
 abbrev pub Hears : Settings → State → (from : ℕ) (reads bytes : List ℕ) → Heard → Type 0
 Hears g s from reads bytes heard =
     (x : Receiver) → heardFrom x g s from (drop from reads) ≡ heardSays x g (length reads) bytes heard

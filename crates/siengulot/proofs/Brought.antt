@@ -1,5 +1,5 @@
--- Numbers that make a receiver give what that receiver's operation brings, and others the refusal: the definitions' test
--- is decided, and what is left is the equation of what was called.
+-- Numbers that make a receiver give what that receiver's operation brings, and others the refusal: the definitions'
+-- test is decided, and what is left is the equation of what was called.
 use mathlib.Core.Path.{_≡_, ap}
 use mathlib.Core.Bool.{Bool, true, false}
 use mathlib.Core.List.{List}

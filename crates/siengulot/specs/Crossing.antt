@@ -33,7 +33,8 @@ five j = j .margins .m1 ∷ j .margins .m2 ∷ j .margins .m3 ∷ j .margins .m4
 
 -- What crosses of a judgement: the refusal's number, whether the settings are accepted, and the margins. A refusal
 -- leaves the lent margins and says no.
-abbrev pub judged : {A : Type 0} (margins : A → List ℤ) (accepts : A → Bool) → Answer A → (lent : List ℤ) → ℕ × ℕ × List ℤ
+abbrev pub judged : {A : Type 0} (margins : A → List ℤ) (accepts : A → Bool) → Answer A → (lent : List ℤ)
+    → ℕ × ℕ × List ℤ
 judged margins accepts (given j) lent = (0, flag (accepts j), margins j)
 judged margins accepts (refused number place) lent = (number, 0, lent)
 judged margins accepts (refusedAfter number place count) lent = (number, 0, lent)

@@ -35,8 +35,8 @@ pub extern "C" fn siengulot_capture_check(
     ensures { λ x. ⌜ summed (now (summary .entry)) (checked (now (bytes .entry)))
         ≡ (x, now (place .exit), now (summary .exit)) ⌝ }
 {
-    let answer = capture::check(bytes);
-    of_checked(answer, summary, place)
+    let checked = capture::check(bytes);
+    of_checked(checked, summary, place)
 }
 
 // Reads a capture. Gives its summary, as above, and its reads at the output's front, the rest of which is untouched.
@@ -51,8 +51,8 @@ pub extern "C" fn siengulot_capture_read(
     ensures { λ x. ⌜ crossing (summed (now (summary .entry))) (readBack (now (bytes .entry)) (now (out .entry)))
         ≡ ((x, now (place .exit), now (summary .exit)), now (out .exit)) ⌝ }
 {
-    let answer = capture::read_capture(bytes, out);
-    of_checked(answer, summary, place)
+    let read = capture::read_capture(bytes, out);
+    of_checked(read, summary, place)
 }
 
 // Writes reads as a capture. Gives in `count` its number of bytes, which stand at the output's front; the rest is

@@ -135,8 +135,8 @@ pub extern "C" fn siengulot_settle(
 
 // The counted receiver. Gives the n bits of a message that starts with the level in force.
 // Refuses with 1 (k, n or level), 3 (more than 1,048,576 reads), 2 (the place of the first read that is no level), 4
-// (an output shorter than n): the output is left, and `count` is 0. Then with 5, where the reads ran out: `count` is the
-// number of bits found, which stand at the output's front.
+// (an output shorter than n): the output is left, and `count` is 0. Then with 5, where the reads ran out: `count` is
+// the number of bits found, which stand at the output's front.
 #[no_mangle]
 pub extern "C" fn siengulot_counted(
     k: usize,

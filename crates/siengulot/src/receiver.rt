@@ -21,8 +21,8 @@ const ROW: usize = 1;
 
 const BROKEN: usize = 2;
 
-// Hands over what reads brought: the next receiver, the event, and a row's bits where one is delivered. A refusal leaves
-// the receiver and the row's bytes as they are lent.
+// Hands over what reads brought: the next receiver, the event, and a row's bits where one is delivered. A refusal
+// leaves the receiver and the row's bytes as they are lent.
 fn hand_over(
     next: Receiver,
     came: Event,

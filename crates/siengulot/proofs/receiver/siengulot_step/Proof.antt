@@ -13,13 +13,11 @@ no-receiver-requires : tie.Need-no-receiver-requires
 no-receiver-requires c κs = search needs
 
 returns : tie.Need-returns
-returns c =
-    let tested = c .before .before .before .before in
+returns c = let tested = c .before .before .before .before in
     step-refused _ (failed (tested .before .numbers-fit .ensures) (tested .if1 .taken)) _ (c .no-receiver .ensures)
 
 receiver-lent-requires : tie.Need-receiver-lent-requires
-receiver-lent-requires c κs =
-    passed (c .before .before .before .numbers-fit .ensures) (c .before .before .if1 .left)
+receiver-lent-requires c κs = passed (c .before .before .before .numbers-fit .ensures) (c .before .before .if1 .left)
 
 step-requires : tie.Need-step-requires
 step-requires c κs = search needs
