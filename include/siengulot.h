@@ -209,7 +209,7 @@ enum siengulot_number {
 
 /* What a receiver is doing. */
 enum siengulot_mode {
-    SIENGULOT_HUNTING = 0,  /* until Q high reads have come one behind another */
+    SIENGULOT_HUNTING = 0,  /* until Q high reads have come one after another */
     SIENGULOT_READY = 1,    /* they have, and the next low read is the mark of a row's first bit */
     SIENGULOT_COUNTING = 2, /* in a row, from a mark to its sample */
     SIENGULOT_WAITING = 3   /* in a row, from a sample to the next mark */
@@ -241,7 +241,7 @@ typedef struct siengulot_heard {
 } siengulot_heard;
 
 /*
- * The entry points. They take a receiver as its eight numbers and its 128 bytes; the inline functions below them take a siengulot_receiver.
+ * The entry points. They take a receiver as its numbers and its bits; the inline functions below them take a siengulot_receiver.
  */
 
 /*
@@ -272,7 +272,7 @@ size_t siengulot_step(size_t numbers[SIENGULOT_NUMBERS], uint8_t bits[SIENGULOT_
 
 /*
  * Takes reads up to and with the first that brings an event, or all of them. Gives `event`, `row` and `found` as siengulot_step does, and in
- * `used` how many reads it took. Reads behind the event's are not looked at.
+ * `used` how many reads it took. Reads after the event's are not looked at.
  * Refuses with
  *   1  a receiver that is not well formed;
  *   3  more than 1,048,576 reads;
@@ -337,7 +337,7 @@ enum siengulot_summary {
  *   6  bytes that stop in the middle of a number, or with fewer than four numbers (`place` is bytes_length where nothing of the number is there);
  *   7  a number with more bytes than it needs, or with more than three;
  *   8  k, n, Q or the first level out of range, a run of 0, a run with which the reads become more than 1,048,576, or a first level of 0 with no
- *      run behind it (`place` is then the level's).
+ *      run after it (`place` is then the level's).
  * Leaves with a refusal `summary` as it was.
  */
 size_t siengulot_capture_check(const uint8_t *bytes, size_t bytes_length, size_t summary[SIENGULOT_SUMMARY_NUMBERS], size_t *place);

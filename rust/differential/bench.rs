@@ -4,6 +4,7 @@
 use crate::inputs::Rng;
 use crate::lent::{Bytes, Edge, Lent, Numbers};
 use crate::library::*;
+use crate::numbers::{at, numbers_of, NUMBERS};
 use siengulot_plain::board::{Event, Mode, Receiver, ROW_BYTES};
 use siengulot_plain::capture::{self, Reader, Summary};
 use siengulot_plain::settings::{self, Verdict};
@@ -43,50 +44,32 @@ impl Room {
 /// A receiver as it is lent.
 #[derive(Clone, Copy)]
 pub struct State {
-    pub numbers: [usize; 8],
+    pub numbers: [usize; NUMBERS],
     pub bits: [u8; ROW_BYTES],
 }
 
 impl State {
-    /// The receiver that the numbers stand for, if they stand for one.
+    /// The receiver that the numbers make, if they make one.
     fn receiver(&self) -> Option<Receiver> {
-        let [k, n, q, mode, run, left, level, found] = self.numbers;
-        let mode = *[Mode::Hunting, Mode::Ready, Mode::Counting, Mode::Waiting].get(mode)?;
-        let level = u8::try_from(level).ok()?;
-        let bits = self.bits;
+        let modes = [Mode::Hunting, Mode::Ready, Mode::Counting, Mode::Waiting];
         Some(Receiver {
-            k,
-            n,
-            q,
-            mode,
-            run,
-            left,
-            level,
-            found,
-            bits,
+            k: self.numbers[at::K],
+            n: self.numbers[at::N],
+            q: self.numbers[at::Q],
+            mode: *modes.get(self.numbers[at::MODE])?,
+            run: self.numbers[at::RUN],
+            left: self.numbers[at::LEFT],
+            level: u8::try_from(self.numbers[at::LEVEL]).ok()?,
+            found: self.numbers[at::FOUND],
+            bits: self.bits,
         })
     }
 
     fn of(receiver: &Receiver) -> State {
-        let Receiver {
-            k,
-            n,
-            q,
-            mode,
-            run,
-            left,
-            level,
-            found,
-            bits,
-        } = *receiver;
-        let mode = match mode {
-            Mode::Hunting => 0,
-            Mode::Ready => 1,
-            Mode::Counting => 2,
-            Mode::Waiting => 3,
-        };
-        let numbers = [k, n, q, mode, run, left, usize::from(level), found];
-        State { numbers, bits }
+        State {
+            numbers: numbers_of(receiver),
+            bits: receiver.bits,
+        }
     }
 }
 
@@ -103,7 +86,7 @@ pub struct Brought {
 /// The events by the numbers that they cross as.
 const EVENTS: [&str; 3] = ["nothing", "row", "broken"];
 
-/// The refusal of numbers that stand for no receiver.
+/// The refusal of numbers that make no receiver.
 const NO_RECEIVER: Refusal = Refusal {
     number: 1,
     place: 0,
@@ -120,8 +103,8 @@ struct At {
 }
 
 impl At {
-    /// Writes what the plain side answered, an event and how many reads that took, and the receiver as that left it. Numbers that stand for no
-    /// receiver are left.
+    /// Writes what the plain side answered, an event and how many reads that took, and the receiver as that left it. Numbers that make no receiver
+    /// are left.
     fn tell(
         &self,
         expected: &mut Lent,
@@ -474,7 +457,7 @@ impl Bench {
 
     pub fn fresh(&mut self, [k, n, q]: [usize; 3]) -> State {
         let mut lent = Lent::new();
-        let numbers = lent.numbers("numbers", 8, &mut self.rng);
+        let numbers = lent.numbers("numbers", NUMBERS, &mut self.rng);
         let bits = lent.room("bits", ROW_BYTES, &mut self.rng);
         let mut expected = lent.clone();
         let (number, receiver) = match Receiver::fresh(k, n, q) {
@@ -494,7 +477,7 @@ impl Bench {
 
     pub fn well_formed(&mut self, state: &State) {
         let mut lent = Lent::new();
-        let numbers = lent.numbers("numbers", 8, &mut self.rng);
+        let numbers = lent.numbers("numbers", NUMBERS, &mut self.rng);
         let bits = lent.bytes("bits", &state.bits, &mut self.rng);
         lent.set(numbers, &state.numbers);
         let expected = lent.clone();
@@ -511,10 +494,10 @@ impl Bench {
 
     /// What a state has that only C can lend.
     fn count_state(&mut self, operation: &'static str, state: &State) {
-        if state.numbers[3] > 3 {
+        if state.numbers[at::MODE] > 3 {
             self.meets(operation, "no mode");
         }
-        if state.numbers[6] > 255 {
+        if state.numbers[at::LEVEL] > 255 {
             self.meets(operation, "a level that is no byte");
         }
     }
@@ -578,14 +561,14 @@ impl Bench {
         self.count_event("listen", &brought);
         self.count_state("listen", state);
         if got == 0 && reads[brought.used..].iter().any(|&read| read > 1) {
-            self.meets("listen", "a bad read behind an event");
+            self.meets("listen", "a bad read after an event");
         }
         brought
     }
 
     fn count_event(&mut self, operation: &'static str, brought: &Brought) {
         self.meets(operation, EVENTS[brought.event]);
-        if brought.row.is_some() && brought.state.numbers[1] == 1_024 {
+        if brought.row.is_some() && brought.state.numbers[at::N] == 1_024 {
             self.meets(operation, "a row of 1,024 bits");
         }
         if brought.found == 1_023 {
@@ -598,7 +581,7 @@ impl Bench {
         let rng = &mut self.rng;
         let mut lent = Lent::new();
         let at = At {
-            numbers: lent.numbers("numbers", 8, rng),
+            numbers: lent.numbers("numbers", NUMBERS, rng),
             bits: lent.bytes("bits", &state.bits, rng),
             row: lent.room("row", ROW_BYTES, rng),
             event: lent.number("event", rng),

@@ -1,6 +1,7 @@
 //! Random input, valid and damaged: settings, lists, receivers, captures. A seed gives the same input everywhere.
 
-use siengulot_plain::board::ROW_BYTES;
+use crate::numbers::{at, numbers_of, NUMBERS};
+use siengulot_plain::board::{Mode, Receiver, ROW_BYTES};
 use siengulot_plain::settings::{
     MAX_BITS, MAX_CYCLE, MAX_K, MAX_LIST, MAX_PAD, MAX_QUIET, MAX_ROWS, MAX_SUBCELL, MIN_QUIET,
 };
@@ -265,25 +266,25 @@ impl Rng {
     }
 
     /// A receiver as it crosses: well formed, and then sometimes damaged.
-    pub fn receiver(&mut self) -> ([usize; 8], [u8; ROW_BYTES]) {
+    pub fn receiver(&mut self) -> ([usize; NUMBERS], [u8; ROW_BYTES]) {
         let k = self.usually(1, 9, MAX_K);
         let n = self.usually(1, 9, MAX_BITS);
         let q = self.usually(MIN_QUIET, 12, MAX_QUIET);
-        let mode = self.below(4);
-        let progress = mode >= 2;
+        let mode = self.pick(&[Mode::Hunting, Mode::Ready, Mode::Counting, Mode::Waiting]);
+        let progress = matches!(mode, Mode::Counting | Mode::Waiting);
         let run = match (mode, self.below(3)) {
-            (1, _) => q,
+            (Mode::Ready, _) => q,
             (_, 0) => 0,
             (_, 1) => q - 1,
             _ => self.below(q),
         };
         let left = match (mode, self.below(3)) {
-            (2, 0) => 1,
-            (2, 1) => k,
-            (2, _) => self.within(1, k),
+            (Mode::Counting, 0) => 1,
+            (Mode::Counting, 1) => k,
+            (Mode::Counting, _) => self.within(1, k),
             _ => 0,
         };
-        let level = if progress { self.below(2) } else { 1 };
+        let level = if progress { self.below(2) as u8 } else { 1 };
         let found = match (progress, self.below(3)) {
             (false, _) => 0,
             (_, 0) => n - 1,
@@ -293,7 +294,17 @@ impl Rng {
         for i in 0..found {
             bits[i / 8] |= (self.below(2) as u8) << (i % 8);
         }
-        let mut numbers = [k, n, q, mode, run, left, level, found];
+        let mut numbers = numbers_of(&Receiver {
+            k,
+            n,
+            q,
+            mode,
+            run,
+            left,
+            level,
+            found,
+            bits,
+        });
         if self.one_in(3) {
             self.damage_receiver(&mut numbers, &mut bits);
         }
@@ -305,29 +316,29 @@ impl Rng {
         self.within(least, up_to)
     }
 
-    fn damage_receiver(&mut self, numbers: &mut [usize; 8], bits: &mut [u8; ROW_BYTES]) {
-        let [k, n, q, ..] = *numbers;
+    fn damage_receiver(&mut self, numbers: &mut [usize; NUMBERS], bits: &mut [u8; ROW_BYTES]) {
+        let (k, n, q) = (numbers[at::K], numbers[at::N], numbers[at::Q]);
         // Numbers at and just past the ends of what is well formed.
-        let ends: [&[usize]; 8] = [
-            &[0, 1, MAX_K, MAX_K + 1],
-            &[0, 1, MAX_BITS, MAX_BITS + 1],
-            &[MIN_QUIET - 1, MIN_QUIET, MAX_QUIET, MAX_QUIET + 1],
-            &[0, 1, 2, 3, 4, 5, 256, 1 << 32, usize::MAX],
-            &[0, q - 1, q, q + 1],
-            &[0, 1, k, k + 1],
-            &[0, 1, 2, 255, 256, 257, 1 << 32, usize::MAX],
-            &[0, 1, n - 1, n, n + 1],
+        let ends: [(usize, &[usize]); NUMBERS] = [
+            (at::K, &[0, 1, MAX_K, MAX_K + 1]),
+            (at::N, &[0, 1, MAX_BITS, MAX_BITS + 1]),
+            (at::Q, &[MIN_QUIET - 1, MIN_QUIET, MAX_QUIET, MAX_QUIET + 1]),
+            (at::MODE, &[0, 1, 2, 3, 4, 5, 256, 1 << 32, usize::MAX]),
+            (at::RUN, &[0, q - 1, q, q + 1]),
+            (at::LEFT, &[0, 1, k, k + 1]),
+            (at::LEVEL, &[0, 1, 2, 255, 256, 257, 1 << 32, usize::MAX]),
+            (at::FOUND, &[0, 1, n - 1, n, n + 1]),
         ];
         for _ in 0..self.within(1, 2) {
-            let place = self.below(8);
+            let (place, ends) = self.pick(&ends);
             match self.below(8) {
                 0 => numbers[place] = numbers[place].wrapping_add(1),
                 1 => numbers[place] = numbers[place].wrapping_sub(1),
                 2 => numbers[place] ^= 1 << self.below(64),
-                3..=5 => numbers[place] = self.pick(ends[place]),
+                3..=5 => numbers[place] = self.pick(ends),
                 6 => bits[self.below(ROW_BYTES)] ^= 1 << self.below(8),
                 _ => {
-                    let past = numbers[7].min(1_023);
+                    let past = numbers[at::FOUND].min(1_023);
                     bits[past / 8] |= 1 << (past % 8);
                 }
             }
@@ -338,8 +349,8 @@ impl Rng {
     }
 
     /// Reads such as bring events to a receiver of these numbers.
-    pub fn reads_for(&mut self, numbers: &[usize; 8]) -> Vec<u8> {
-        let [k, _, q, ..] = *numbers;
+    pub fn reads_for(&mut self, numbers: &[usize; NUMBERS]) -> Vec<u8> {
+        let (k, q) = (numbers[at::K], numbers[at::Q]);
         let length = self.length() * self.pick(&[1, 1, 4]);
         let near = self.pick(&[k, q, q.saturating_mul(3)]).max(1).min(400);
         let mut reads = match self.below(3) {

@@ -3,7 +3,7 @@
 
 use crate::inputs::Rng;
 
-/// Junk in front of each part, and behind the last.
+/// Junk before each part, and after the last.
 const GUARD: usize = 32;
 /// Parts of bytes begin anywhere, so that no alignment is taken for granted.
 const SHIFT: usize = 16;

@@ -9,6 +9,7 @@ mod bench;
 mod inputs;
 mod lent;
 mod library;
+mod numbers;
 
 use bench::{Bench, Room, State};
 use siengulot_plain::settings::{MAX_BITS, MAX_CAPTURE, MAX_LIST, MAX_ROWS};
@@ -65,7 +66,7 @@ const MUST: [(&str, &[&str], &[&str]); 15] = [
             "a row broken after 1,023 bits",
             "no mode",
             "a level that is no byte",
-            "a bad read behind an event",
+            "a bad read after an event",
         ],
     ),
     ("capture_check", &["0", "3", "6", "7", "8"], &[]),
@@ -268,7 +269,7 @@ fn longest_captures(bench: &mut Bench) {
     }
 }
 
-/// Every capture of up to two bytes, and every ending of one byte or two behind a heading.
+/// Every capture of up to two bytes, and every ending of one byte or two after a heading.
 fn short_captures(bench: &mut Bench) {
     for length in [0, 1, 2] {
         for number in 0..1_usize << (8 * length) {
@@ -322,7 +323,7 @@ fn longest_lists(bench: &mut Bench) {
 }
 
 /// Rows of as many bits as there may be, and rows broken off one bit before that, through step and listen. With k 1 a cell is two reads: a mark, and a
-/// sample, which is not the mark's level for a 1. So no more than two high reads come one behind another, and Q is 3.
+/// sample, which is not the mark's level for a 1. So no more than two high reads come one after another, and Q is 3.
 fn longest_rows(bench: &mut Bench) {
     let mut rows = vec![vec![1; MAX_BITS], bench.rng.entries(MAX_BITS, 1)];
     for alone in [0, 1, 511, 512, MAX_BITS - 2, MAX_BITS - 1] {

@@ -1,6 +1,6 @@
 /*
  * Holds include/siengulot.h to the library: the sizes that cross, every entry point called as C calls it, with the worked numbers of document 01,
- * and each inline function beside the entry point that it wraps. Guards stand in front of and behind what is lent.
+ * and each inline function beside the entry point that it wraps. Guards stand before and after what is lent.
  */
 #include <siengulot.h>
 #include <stdio.h>
@@ -10,8 +10,8 @@
 #define HOLDS(name, fact) typedef char name[(fact) ? 1 : -1]
 HOLDS(a_number_has_eight_bytes, sizeof(size_t) == 8);
 HOLDS(a_margin_has_eight_bytes, sizeof(int64_t) == 8);
-HOLDS(a_receiver_has_no_gaps, sizeof(siengulot_receiver) == 8 * sizeof(size_t) + 128);
-HOLDS(bits_stand_behind_numbers, offsetof(siengulot_receiver, bits) == 8 * sizeof(size_t));
+HOLDS(a_receiver_has_no_gaps, sizeof(siengulot_receiver) == SIENGULOT_NUMBERS * sizeof(size_t) + SIENGULOT_ROW_BYTES);
+HOLDS(bits_stand_after_numbers, offsetof(siengulot_receiver, bits) == SIENGULOT_NUMBERS * sizeof(size_t));
 HOLDS(a_row_has_room_for_the_most_bits, SIENGULOT_ROW_BYTES * 8 == SIENGULOT_BITS_MOST);
 HOLDS(heard_row_is_a_row, sizeof(((siengulot_heard *)0)->row) == SIENGULOT_ROW_BYTES);
 
@@ -156,7 +156,7 @@ static const char reads_of_it[] = "11111100100011111100111111";
 
 static void captures(void)
 {
-    size_t summary[5] = {7, 7, 7, 7, 7};
+    size_t summary[SIENGULOT_SUMMARY_NUMBERS] = {7, 7, 7, 7, 7};
     uint8_t reads[26];
 
     lend();
@@ -238,7 +238,7 @@ static void receiving(void)
     expect(heard.event == event && heard.found == found && heard.used == used && heard.place == place, "listen stops with the row, inline");
     expect(memcmp(row, heard.row, sizeof row) == 0, "the two rows differ after listening");
     same(&raw, &wrapped, "the two receivers differ after listening");
-    expect(siengulot_receiver_listen(&wrapped, reads + 12, 15, &heard) == 0, "inline listen looks behind the event");
+    expect(siengulot_receiver_listen(&wrapped, reads + 12, 15, &heard) == 0, "inline listen looks past the event");
     expect(heard.event == SIENGULOT_BROKEN && heard.found == 1 && heard.used == 14, "listen stops with the broken row");
     raw = wrapped;
     expect(siengulot_receiver_listen(&wrapped, reads + 25, 2, &heard) == SIENGULOT_ENTRY, "inline listen takes a 2");

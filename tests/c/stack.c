@@ -16,13 +16,15 @@
 enum { STACK = 2 * 1024 * 1024, PAGE = 65536, LIST = SIENGULOT_ENTRIES_MOST, ROWS = SIENGULOT_ROWS_MOST };
 
 static uint8_t high[LIST + 1], turns[LIST], unknown[LIST], mixed[LIST], bad[LIST], out[SIENGULOT_CAPTURE_MOST], bytes[SIENGULOT_CAPTURE_MOST];
-static size_t pads[ROWS], summary[5], place, count, accepted, event, found, used;
+static size_t pads[ROWS], summary[SIENGULOT_SUMMARY_NUMBERS], place, count, accepted, event, found, used;
 static int64_t margins[5];
 static siengulot_receiver receiver;
-static const siengulot_receiver hunting = {{511, 1024, 8191, SIENGULOT_HUNTING, 0, 0, 1, 0}, {0}};
+/* A receiver by its numbers; those that are not named are 0, and so are all bits. */
+#define RECEIVER(k, n, q, mode, ...) {{[SIENGULOT_K] = k, [SIENGULOT_N] = n, [SIENGULOT_Q] = q, [SIENGULOT_MODE] = mode, __VA_ARGS__}, {0}}
+static const siengulot_receiver hunting = RECEIVER(511, 1024, 8191, SIENGULOT_HUNTING, [SIENGULOT_LEVEL] = 1);
 /* These bring an event with a high read: the row of one bit is in, or its second high read breaks a row off. */
-static const siengulot_receiver delivering = {{1, 1, 3, SIENGULOT_COUNTING, 0, 1, 0, 0}, {0}};
-static const siengulot_receiver breaking = {{511, 1024, 2, SIENGULOT_COUNTING, 1, 510, 0, 0}, {0}};
+static const siengulot_receiver delivering = RECEIVER(1, 1, 3, SIENGULOT_COUNTING, [SIENGULOT_LEFT] = 1);
+static const siengulot_receiver breaking = RECEIVER(511, 1024, 2, SIENGULOT_COUNTING, [SIENGULOT_RUN] = 1, [SIENGULOT_LEFT] = 510);
 static uint8_t row[SIENGULOT_ROW_BYTES];
 
 static char *volatile frame; /* of the function that made the call */
@@ -218,7 +220,7 @@ int main(void)
     fill(high, 1, sizeof high);
     fill(unknown, 2, sizeof unknown);
     fill(bad, 3, sizeof bad);
-    fill(bytes, 1, sizeof bytes); /* runs of 1, behind k 511, n 1,024, Q 8,191 and a first level of 0 */
+    fill(bytes, 1, sizeof bytes); /* runs of 1, after k 511, n 1,024, Q 8,191 and a first level of 0 */
     for (size_t i = 0; i < 7; i++) {
         bytes[i] = ((const uint8_t[]){0xFF, 0x03, 0x80, 0x08, 0xFF, 0x3F, 0x00})[i];
     }

@@ -9,8 +9,8 @@ use lib.ListN.{length, take, replicate}
 use lib.Seq.{take-at}
 use Rattle.board.specs.declared.Mode.the-variants.{Counting}
 use Rattle.board.specs.declared.Receiver.{Receiver}
-use Rattle.board.specs.declared.Numbers.{Numbers}
-use Rattle.board.specs.declared.Heard.the-variants.{Full}
+use Rattle.board.specs.declared.state.Numbers.{Numbers}
+use Rattle.board.specs.declared.listening.Heard.the-variants.{Full}
 use Rattle.board.specs.Rows.{Settings, State, waiting, counting, collected}
 use Rattle.board.specs.Packed.{unpacked, kept, stateOf, receiverOf}
 use Rattle.board.specs.Listening.{keeping, Keeps, heardFrom, movedFrom, heardSays}
@@ -18,7 +18,7 @@ use Rattle.board.proofs.PackedBits.{Binary, unpacked-packed}
 use Rattle.board.proofs.RowRules.{Ranged, Valid, valid-counting}
 use Rattle.board.proofs.KeepingLaws.{keeps-of, state-kept}
 
--- a row's bits are had back from its bytes
+-- a row's bits can be recovered from its bytes
 pub row-read : (l : List ℕ) (n : ℕ) → Binary l → length l ≡ n → n ≤ 1024 → take n (unpacked 8 (kept l)) ≡ l
 row-read l n b e h = rw (unpacked-packed 8 128 l b (omega arith)) (take-at l (replicate (128 * 8 - length l) 0) n e)
 
@@ -33,7 +33,7 @@ row-on x g run read used l reads n = rw (ne-eqb (length l) (g .n) n)
 
 -- at a mark the numbers are those of counting with k left
 
-abbrev pub markedNumbers : ℕ → ℕ → ℕ → ℕ → Numbers
+abbrev pub markedNumbers : (k run read found : ℕ) → Numbers
 markedNumbers k run read found = record { mode = Counting; run = run; left = k; level = read; found = found }
 
 -- what is known there: the run and the level of the mark, and the bits so far with the bytes that keep them

@@ -7,7 +7,7 @@ use lib.ListN.{length, getD, take, set, length-append}
 use Rattle.board.specs.declared.Mode.{Mode}
 use Rattle.board.specs.declared.Mode.the-variants.{Hunting, Ready, Counting, Waiting}
 use Rattle.board.specs.declared.Receiver.{Receiver}
-use Rattle.board.specs.declared.Numbers.{Numbers}
+use Rattle.board.specs.declared.state.Numbers.{Numbers}
 use Rattle.board.specs.Rows.{Settings, State, hunting, ready, counting, waiting}
 use Rattle.board.specs.Packed.{unpacked, kept, stateOf, receiverOf}
 use Rattle.board.specs.WellFormed.{wellFormed}

@@ -4,6 +4,7 @@ pub mod RowRules
 pub mod Standing
 pub mod FeedingLaws
 pub mod ListeningLaws
+pub mod SearchLaws
 pub mod KeepingLaws
 pub mod CellLaws
 pub mod ListenedLaws

@@ -20,30 +20,31 @@ use Rattle.board.specs.Feeding.{Report, noted, afterBy, reportsBy, repor
 use Rattle.board.specs.Packed.{settingsOf, stateOf}
 use Rattle.board.specs.WellFormed.{wellFormed}
 use Rattle.board.specs.Answers.{Outcome, reached, refusing, levelsOf, silent, toEvent, listened, stepped}
-use Rattle.board.specs.Listening.{heardFrom, onward}
+use Rattle.board.specs.Listening.{heardFrom, eventOrRest}
 use Rattle.board.proofs.FeedingLaws.{used-least}
 
 -- the outcome by reports: whether some read is no level and where the first of those stands, the reads before it, the
 -- first at this place, and their reports
-abbrev byReports : Receiver → Settings → State → ℕ → Bool → ℕ → List ℕ → List Report → Outcome × ℕ
-byReports x g s place bad at levels told =
-    choose (bad && silent told) (refusing x 2 at, 0) (
-      reached g (after g s (take (usedOf told (place + length levels) - place) levels)) (firstEvent told),
-      usedOf told (place + length levels),
+abbrev byReports : Receiver → Settings → State → (place : ℕ) (bad : Bool) (at : ℕ) (levels : List ℕ)
+    (reported : List Report) → Outcome × ℕ
+byReports x g s place bad at levels reported =
+    choose (bad && silent reported) (refusing x 2 at, 0) (
+      reached g (after g s (take (usedOf reported (place + length levels) - place) levels)) (firstEvent reported),
+      usedOf reported (place + length levels),
     )
 
 -- a read that brings nothing is passed
 passed : (x : Receiver) (g : Settings) (s : State) (place : ℕ) (bad : Bool) (f read : ℕ) (levels : List ℕ)
-    (told : List Report)
-    → suc place ≤ usedOf told (suc place + length levels)
-    → byReports x g s place bad (place + suc f) (read ∷ levels) told
-    ≡ byReports x g (next g s read .state) (suc place) bad (suc place + f) levels told
+    (reported : List Report)
+    → suc place ≤ usedOf reported (suc place + length levels)
+    → byReports x g s place bad (place + suc f) (read ∷ levels) reported
+    ≡ byReports x g (next g s read .state) (suc place) bad (suc place + f) levels reported
 unfolding afterBy
-passed x g s place bad f read levels told h =
+passed x g s place bad f read levels reported h =
     let at : place + suc f ≡ suc place + f = omega arith in
     let all : place + suc (length levels) ≡ suc place + length levels = omega arith in
-    let part : usedOf told (suc place + length levels) - place
-    ≡ suc (usedOf told (suc place + length levels) - suc place) = omega arith in
+    let part : usedOf reported (suc place + length levels) - place
+    ≡ suc (usedOf reported (suc place + length levels) - suc place) = omega arith in
     rw (at, all, part) refl
 
 pub by-reads : (x : Receiver) (g : Settings) (s : State) (place : ℕ) (reads : List ℕ)
@@ -63,7 +64,8 @@ by-reads x g s place (read ∷ reads) = go (decLe read 1) (by-reads x g (next g 
         → byReports x g (next g s read .state) (suc place) (someAbove 1 reads) (suc place + f) (take f reads) rest
         ≡ heardFrom x g (next g s read .state) (suc place) reads
         → byReports x g s place (someAbove 1 reads) (place + suc f) (read ∷ take f reads) (noted place event rest)
-        ≡ onward g (next g s read .state) event (suc place) (heardFrom x g (next g s read .state) (suc place) reads)
+        ≡ eventOrRest g (next g s read .state) event (suc place)
+        (heardFrom x g (next g s read .state) (suc place) reads)
     came nothing h =
         passed x g s place (someAbove 1 reads) f read (take f reads) rest
         (used-least (next g) (next g s read .state) (suc place) (take f reads)) ∙ h
@@ -78,20 +80,20 @@ by-reads x g s place (read ∷ reads) = go (decLe read 1) (by-reads x g (next g 
         → byReports x g s place (someAbove 1 (read ∷ reads)) (place + firstAbove 1 (read ∷ reads))
         (levelsOf (read ∷ reads)) (reports g s place (levelsOf (read ∷ reads)))
         ≡ choose (leb read 1)
-        (onward g (next g s read .state) (next g s read .event) (suc place)
+        (eventOrRest g (next g s read .state) (next g s read .event) (suc place)
         (heardFrom x g (next g s read .state) (suc place) reads)) (refusing x 2 place, 0)
     go (yes p) h = rw (le-leb read 1 p, leb·suc-suc (suc f) (length reads)) (came (next g s read .event) h)
     go (no p) h =
         let e : place + 0 ≡ place = omega arith in
         rw (lt-leb read 1 (omega arith), lt-ltb 0 (suc (length reads)) (omega arith), e) refl
 
-from-first : (x : Receiver) (g : Settings) (s : State) (bad : Bool) (f : ℕ) (levels : List ℕ) (told : List Report)
-    → byReports x g s 0 bad (0 + f) levels told
-    ≡ choose (bad && silent told) (refusing x 2 f, 0) (toEvent g s levels told)
-from-first x g s bad f levels told =
+from-first : (x : Receiver) (g : Settings) (s : State) (bad : Bool) (f : ℕ) (levels : List ℕ) (reported : List Report)
+    → byReports x g s 0 bad (0 + f) levels reported
+    ≡ choose (bad && silent reported) (refusing x 2 f, 0) (toEvent g s levels reported)
+from-first x g s bad f levels reported =
     let at : 0 + f ≡ f = omega arith in
     let all : 0 + length levels ≡ length levels = omega arith in
-    let part : usedOf told (length levels) - 0 ≡ usedOf told (length levels) = omega arith in
+    let part : usedOf reported (length levels) - 0 ≡ usedOf reported (length levels) = omega arith in
     rw (at, all, part) refl
 
 -- the outcome of the slice method, read by read
@@ -120,7 +122,7 @@ stepped-is x read =
     go : (well level : Bool) (s : State) (event : Event)
         → choose well (choose level (reached (settingsOf x) s event) (refusing x 2 0)) (refusing x 1 0)
         ≡ choose well
-        ((choose level (onward (settingsOf x) s event 1 (reached (settingsOf x) s nothing, 1))
+        ((choose level (eventOrRest (settingsOf x) s event 1 (reached (settingsOf x) s nothing, 1))
         (refusing x 2 0, 0)) .0) (refusing x 1 0)
     go true true s nothing = refl
     go true true s (row bits) = refl

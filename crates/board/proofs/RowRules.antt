@@ -25,7 +25,7 @@ pub record Ranged (g : Settings) : Type 0 where
   pub Q-most : g .Q ≤ 8191
 
 -- what each mode asks of the run, what is left, the number of bits found and the level kept
-abbrev pub Fitting : Mode → Settings → ℕ → ℕ → ℕ → ℕ → Type 0
+abbrev pub Fitting : Mode → Settings → (run left found level : ℕ) → Type 0
 Fitting Hunting g run left found level = (run < g .Q) × (left ≡ 0) × (found ≡ 0) × (level ≡ 1)
 Fitting Ready g run left found level = (run ≡ g .Q) × (left ≡ 0) × (found ≡ 0) × (level ≡ 1)
 Fitting Counting g run left found level = (run < g .Q) × (1 ≤ left) × (left ≤ g .k) × (found < g .n) × (level ≤ 1)

@@ -1,5 +1,5 @@
--- A receiver stands for a state: well formed, each is had back from the other, since packing and unpacking undo each
--- other.
+-- A receiver stands for a state: well formed, each can be recovered from the other, since packing and unpacking undo
+-- each other.
 use Prim.Native.Nat.{ℕ, _+_, _-_, _*_, _/_, _%_, _^_, _≤_, _<_}
 use mathlib.Core.Path.{_≡_, refl, sym, _∙_}
 use mathlib.Core.List.{List, [], _∷_, _++_}
@@ -12,6 +12,7 @@ use lib.ListN.{length, getD, take, drop, set, replicate, length-take, List·getD
 use lib.Seq.{getD-take, getD-drop, take-at}
 use Rattle.measure.specs.Choose.{between}
 use Rattle.measure.specs.Ranges.{sampling, rowBits, quiet, settingsFit}
+use Rattle.measure.proofs.Both.{both, both-3}
 use Rattle.board.specs.declared.Mode.{Mode}
 use Rattle.board.specs.declared.Mode.the-variants.{Hunting, Ready, Counting, Waiting}
 use Rattle.board.specs.declared.Receiver.{Receiver}
@@ -20,24 +21,25 @@ use Rattle.board.specs.Packed.{unpacked, kept, settingsOf, stateOf, rece
 use Rattle.board.specs.WellFormed.{runFits, leftFits, foundFits, levelFits, unusedZero, wellFormed}
 use Rattle.board.proofs.PackedBits.{Binary, Words, binary-take, unpacked-binary, length-unpacked, packed-snoc}
 use Rattle.board.proofs.PackedBits.{packed-low, packed-cong, packed-unpacked, unpacked-packed}
-use Rattle.board.proofs.UnusedBits.{and-left, and-right, zero-at, unused-packed}
+use Rattle.board.proofs.UnusedBits.{zero-at, unused-packed}
 use Rattle.board.proofs.RowRules.{Ranged, Fitting, Valid}
 
 -- the tests and what they say
 
 between-both : (least most x : ℕ) → between least most x ≡ true → (least ≤ x) × (x ≤ most)
 between-both least most x h =
-    (leb-true least x (and-left (leb least x) (leb x most) h), leb-true x most (and-right (leb least x) (leb x most) h))
+    let ends = both (leb least x) (leb x most) h in
+    (leb-true least x (ends .0), leb-true x most (ends .1))
 
 pub both-between : (least most x : ℕ) → least ≤ x → x ≤ most → between least most x ≡ true
 both-between least most x l m = simp (le-leb least x l, le-leb x most m)
 
 pub ranged-of : (g : Settings) → settingsFit (g .k) (g .n) (g .Q) ≡ true → Ranged g
 ranged-of g h =
-    let two = and-left (sampling (g .k) && rowBits (g .n)) (quiet (g .Q)) h in
-    let k = between-both 1 511 (g .k) (and-left (sampling (g .k)) (rowBits (g .n)) two) in
-    let n = between-both 1 1024 (g .n) (and-right (sampling (g .k)) (rowBits (g .n)) two) in
-    let q = between-both 2 8191 (g .Q) (and-right (sampling (g .k) && rowBits (g .n)) (quiet (g .Q)) h) in
+    let each = both-3 (sampling (g .k)) (rowBits (g .n)) (quiet (g .Q)) h in
+    let k = between-both 1 511 (g .k) (each .0) in
+    let n = between-both 1 1024 (g .n) (each .1) in
+    let q = between-both 2 8191 (g .Q) (each .2) in
     record { k-least = k .0; k-most = k .1; n-least = n .0; n-most = n .1; Q-least = q .0; Q-most = q .1 }
 
 pub of-ranged : (g : Settings) → Ranged g → settingsFit (g .k) (g .n) (g .Q) ≡ true
@@ -49,7 +51,7 @@ of-ranged g r =
     )
 
 -- the four tests of the numbers, in the order of the definition
-abbrev Numbered : Mode → Settings → ℕ → ℕ → ℕ → ℕ → Type 0
+abbrev Numbered : Mode → Settings → (run left found level : ℕ) → Type 0
 Numbered m g run left found level =
     (runFits m run (g .Q) ≡ true) × (leftFits m left (g .k) ≡ true) × (foundFits m found (g .n) ≡ true)
     × (levelFits m level ≡ true)
@@ -125,20 +127,16 @@ facts x h =
     let l = leftFits (x .mode) (x .left .0) (x .k .0) in
     let f = foundFits (x .mode) (x .found) (x .n) in
     let v = levelFits (x .mode) (x .level) in
-    let five = and-left (s && r && l && f && v) (unusedZero (x .found) (x .bits)) h in
-    let four = and-left (s && r && l && f) v five in
-    let three = and-left (s && r && l) f four in
-    let two = and-left (s && r) l three in
+    let six = both (s && r && l && f && v) (unusedZero (x .found) (x .bits)) h in
+    let five = both (s && r && l && f) v (six .0) in
+    let four = both (s && r && l) f (five .0) in
+    let three = both-3 s r l (four .0) in
     record {
-      range = ranged-of (settingsOf x) (and-left s r two);
+      range = ranged-of (settingsOf x) (three .0);
       fitting =
-          fitting-of (x .mode) (settingsOf x) (x .run .0) (x .left .0) (x .found) (x .level) (
-            and-right s r two,
-            and-right (s && r) l three,
-            and-right (s && r && l) f four,
-            and-right (s && r && l && f) v five,
-          );
-      unused = and-right (s && r && l && f && v) (unusedZero (x .found) (x .bits)) h;
+          fitting-of (x .mode) (settingsOf x) (x .run .0) (x .left .0) (x .found) (x .level)
+          (three .1, three .2, four .1, five .1);
+      unused = six .1;
     }
 
 pub found-below : (x : Receiver) → Facts x → x .found < 1024

@@ -12,24 +12,17 @@ use lib.Dec.{eqb, ltb, eqb·suc-suc, eqb·zero-suc}
 use lib.ListN.{length, getD, drop, set, replicate}
 use lib.Seq.{drop-append-le, drop-append-add, drop-at}
 use Rattle.measure.specs.Lists.{firstAbove}
+use Rattle.measure.proofs.Both.{both}
 use Rattle.board.specs.Packed.{digits, packed, unpacked}
 use Rattle.board.specs.WellFormed.{allZero, unusedZero}
 use Rattle.board.proofs.PackedBits.{Binary, Words, length-digits, unpacked-packed}
-
-pub and-left : (a b : Bool) → (a && b) ≡ true → a ≡ true
-and-left true b h = refl
-and-left false b h = h
-
-pub and-right : (a b : Bool) → (a && b) ≡ true → b ≡ true
-and-right true b h = h
-and-right false b h = absurd (let z : _≡_ {A = ℕ} 0 1 = cc in omega arith)
 
 -- all entries are 0
 
 pub zero-at : (l : List ℕ) (i : ℕ) → allZero l ≡ true → getD l i 0 ≡ 0
 zero-at [] i h = refl
-zero-at (x ∷ l) zero h = eqb-true x 0 (and-left (eqb x 0) (allZero l) h)
-zero-at (x ∷ l) (suc i) h = zero-at l i (and-right (eqb x 0) (allZero l) h)
+zero-at (x ∷ l) zero h = eqb-true x 0 (both (eqb x 0) (allZero l) h .0)
+zero-at (x ∷ l) (suc i) h = zero-at l i (both (eqb x 0) (allZero l) h .1)
 
 zero-replicate : (n : ℕ) → allZero (replicate n 0) ≡ true
 zero-replicate zero = refl
@@ -40,9 +33,9 @@ zero-append [] t = refl
 zero-append (x ∷ l) t = rw (zero-append l t) (sym (and-assoc (eqb x 0) (allZero l) (allZero t)))
 
 -- entries 0 in front of a list change nothing
-pub zero-behind : (n : ℕ) (l : List ℕ) → allZero (replicate n 0 ++ l) ≡ allZero l
-zero-behind zero l = refl
-zero-behind (suc n) l = zero-behind n l
+pub zeros-before : (n : ℕ) (l : List ℕ) → allZero (replicate n 0 ++ l) ≡ allZero l
+zeros-before zero l = refl
+zeros-before (suc n) l = zeros-before n l
 
 -- the first entry that is not cleared
 pub cleared-next : (l : List ℕ) (i : ℕ) → i < length l → getD (replicate i 0 ++ drop i l) i 0 ≡ getD l i 0

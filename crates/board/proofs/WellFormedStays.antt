@@ -17,7 +17,7 @@ use Rattle.board.specs.Feeding.{after}
 use Rattle.board.specs.Packed.{settingsOf, stateOf, receiverOf}
 use Rattle.board.specs.WellFormed.{wellFormed}
 use Rattle.board.specs.Answers.{begun, stepped, listened, refusing}
-use Rattle.board.specs.Listening.{heardFrom, onward}
+use Rattle.board.specs.Listening.{heardFrom, eventOrRest}
 use Rattle.board.proofs.FeedingLaws.{after-keeps}
 use Rattle.board.proofs.RowRules.{Valid, valid-fresh, valid-next}
 use Rattle.board.proofs.Standing.{ranged-of, valid-of, well-formed-of}
@@ -68,7 +68,7 @@ heard-well-formed x g s place (read ∷ reads) h v =
         → (Valid g (next g s read .state)
         → wellFormed (heardFrom x g (next g s read .state) (suc place) reads .0 .receiver) ≡ true)
         → wellFormed
-        (onward g (next g s read .state) event (suc place)
+        (eventOrRest g (next g s read .state) event (suc place)
         (heardFrom x g (next g s read .state) (suc place) reads) .0 .receiver) ≡ true
     came nothing v rest = rest v
     came (row bits) v rest = well-formed-of g (next g s read .state) v

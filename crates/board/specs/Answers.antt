@@ -40,30 +40,32 @@ abbrev pub reached : Settings → State → Event → Outcome
 reached g s event = record { receiver = receiverOf g s; answer = given event; row = kept (rowOf event) }
 
 -- a refusal leaves the receiver unchanged
-abbrev pub refusing : Receiver → ℕ → ℕ → Outcome
+abbrev pub refusing : Receiver → (number place : ℕ) → Outcome
 refusing x number place = record { receiver = x; answer = refused number place; row = kept [] }
 
--- starting: a fresh receiver, or refusal 1 for k, n or Q out of range, with a receiver that hunts and holds nothing but
--- zeros
-unfoldable pub begun : ℕ → ℕ → ℕ → Answer Event × Receiver
+-- 01: a refused fresh state is hunting, and every number and bit of it is 0, the level too
+abbrev pub refusedFresh : Receiver
+refusedFresh =
+    record {
+      k = record { 0 = 0 };
+      n = 0;
+      q = record { 0 = 0 };
+      mode = Hunting;
+      run = record { 0 = 0 };
+      left = record { 0 = 0 };
+      level = 0;
+      found = 0;
+      bits = kept [];
+    }
+
+-- starting: a fresh receiver, or refusal 1 for k, n or Q out of range
+unfoldable pub begun : (k n Q : ℕ) → Answer Event × Receiver
 begun k n Q =
-    choose (settingsFit k n Q) (given nothing, receiverOf (record { k = k; n = n; Q = Q }) fresh) (
-      refused 1 0,
-      record {
-        k = record { 0 = 0 };
-        n = 0;
-        q = record { 0 = 0 };
-        mode = Hunting;
-        run = record { 0 = 0 };
-        left = record { 0 = 0 };
-        level = 0;
-        found = 0;
-        bits = kept [];
-      },
-    )
+    choose (settingsFit k n Q) (given nothing, receiverOf (record { k = k; n = n; Q = Q }) fresh)
+    (refused 1 0, refusedFresh)
 
 -- one read: refusal 1 for a state that is not well formed, 2 for a read above 1
-unfoldable pub stepped : Receiver → ℕ → Outcome
+unfoldable pub stepped : Receiver → (read : ℕ) → Outcome
 stepped x read =
     choose (wellFormed x)
     (choose (leb read 1)
@@ -72,7 +74,7 @@ stepped x read =
     (refusing x 1 0)
 
 -- the reads before the first that is no level
-abbrev pub levelsOf : List ℕ → List ℕ
+abbrev pub levelsOf : (reads : List ℕ) → List ℕ
 levelsOf reads = take (firstAbove 1 reads) reads
 
 -- nothing is reported
@@ -81,14 +83,15 @@ silent [] = true
 silent (report ∷ more) = false
 
 -- the outcome of the reads up to and with the first that brings an event, or of all, and how many these are
-abbrev pub toEvent : Settings → State → List ℕ → List Report → Outcome × ℕ
-toEvent g s reads told =
-    (reached g (after g s (take (usedOf told (length reads)) reads)) (firstEvent told), usedOf told (length reads))
+abbrev pub toEvent : Settings → State → (reads : List ℕ) (reported : List Report) → Outcome × ℕ
+toEvent g s reads reported = (
+  reached g (after g s (take (usedOf reported (length reads)) reads)) (firstEvent reported),
+  usedOf reported (length reads),
+)
 
 -- Reads up to and with the first that brings an event: refusal 1 as above, 3 for a list over its limit, 2 for a read
--- that is no level where no event comes before it.
--- With a refusal no read is used.
-unfoldable pub listened : Receiver → List ℕ → Outcome × ℕ
+-- that is no level where no event comes before it. With a refusal no read is used.
+unfoldable pub listened : Receiver → (reads : List ℕ) → Outcome × ℕ
 listened x reads =
     choose (wellFormed x)
     (choose (ltb entriesMost (length reads)) (refusing x 3 0, 0)
@@ -98,7 +101,7 @@ listened x reads =
     (refusing x 1 0, 0)
 
 -- what each case of the code's answers says; a row's bits stand beside the event, n of them
-abbrev pub eventSays : ℕ → List ℕ → CodeEvent → Answer Event
+abbrev pub eventSays : (n : ℕ) (bytes : List ℕ) → CodeEvent → Answer Event
 eventSays n bytes Nothing = given nothing
 eventSays n bytes Row = given (row (take n (unpacked 8 bytes)))
 eventSays n bytes (Broken found) = given (broken found)

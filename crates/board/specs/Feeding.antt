@@ -1,4 +1,4 @@
--- 01, "The row receiver": reads fed one behind another, and what is reported, each report with the place of its read.
+-- 01, "The row receiver": reads fed one after another, and what is reported, each report with the place of its read.
 use Prim.Native.Nat.{ℕ, suc, _+_}
 use mathlib.Core.List.{List, [], _∷_}
 use Rattle.board.specs.Rows.{Settings, State, Event, nothing, row, broken, Moved, next}
@@ -9,7 +9,7 @@ pub record Report : Type 0 where
   pub event : Event
 
 -- a report before others; a read that brings nothing gives none
-abbrev pub noted : ℕ → Event → List Report → List Report
+abbrev pub noted : (place : ℕ) → Event → List Report → List Report
 noted place nothing reports = reports
 noted place (row bits) reports = record { place = place; event = row bits } ∷ reports
 noted place (broken found) reports = record { place = place; event = broken found } ∷ reports
@@ -19,22 +19,22 @@ abbrev pub Step : Type 0
 Step = State → ℕ → Moved
 
 -- the state after a list of reads
-unfoldable pub afterBy : Step → State → List ℕ → State
+unfoldable pub afterBy : Step → State → (reads : List ℕ) → State
 afterBy step s [] = s
 afterBy step s (read ∷ reads) = afterBy step (step s read .state) reads
 
 -- the reports of a list of reads, whose first read has this place
-unfoldable pub reportsBy : Step → State → ℕ → List ℕ → List Report
+unfoldable pub reportsBy : Step → State → (place : ℕ) (reads : List ℕ) → List Report
 reportsBy step s place [] = []
 reportsBy step s place (read ∷ reads) =
     noted place (step s read .event) (reportsBy step (step s read .state) (suc place) reads)
 
 -- by 01's rules
-abbrev pub after : Settings → State → List ℕ → State
+abbrev pub after : Settings → State → (reads : List ℕ) → State
 after g s reads = afterBy (next g) s reads
 
 -- and the reports by those rules
-abbrev pub reports : Settings → State → ℕ → List ℕ → List Report
+abbrev pub reports : Settings → State → (place : ℕ) (reads : List ℕ) → List Report
 reports g s place reads = reportsBy (next g) s place reads
 
 -- the first thing reported, if any
@@ -43,6 +43,6 @@ firstEvent [] = nothing
 firstEvent (report ∷ more) = report .event
 
 -- how many reads that takes: up to and with the one that brings it, or all where nothing is reported
-abbrev pub usedOf : List Report → ℕ → ℕ
+abbrev pub usedOf : List Report → (all : ℕ) → ℕ
 usedOf [] all = all
 usedOf (report ∷ more) all = report .place + 1

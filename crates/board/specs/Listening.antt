@@ -12,14 +12,15 @@ use Rattle.board.specs.Packed.{unpacked, kept, stateOf, receiverOf}
 use Rattle.board.specs.WellFormed.{wellFormed}
 use Rattle.board.specs.Answers.{Outcome, reached, refusing}
 use Rattle.board.specs.declared.Receiver.{Receiver}
-use Rattle.board.specs.declared.Numbers.{Numbers}
-use Rattle.board.specs.declared.Heard.{Heard}
-use Rattle.board.specs.declared.Heard.the-variants.{Ended, Bad, Full, Broken}
-use Rattle.board.specs.declared.Sought.{Sought}
-use Rattle.board.specs.declared.Sought.the-variants.{Found, Stopped}
+use Rattle.board.specs.declared.state.Numbers.{Numbers}
+use Rattle.board.specs.declared.listening.Heard.{Heard}
+use Rattle.board.specs.declared.listening.Heard.the-variants.{Ended, Bad, Full, Broken}
+use Rattle.board.specs.declared.listening.Sought.{Sought}
+use Rattle.board.specs.declared.listening.Sought.the-variants.{Found, Stopped}
 
-abbrev pub settings : ℕ → ℕ → ℕ → Settings
-settings k n Q = record { k = k; n = n; Q = Q }
+-- the settings of three numbers
+abbrev pub settingsFrom : (k n Q : ℕ) → Settings
+settingsFrom k n Q = record { k = k; n = n; Q = Q }
 
 -- the receiver that keeps settings, numbers and bytes
 abbrev pub keeping : Settings → Numbers → List ℕ → Receiver
@@ -36,38 +37,38 @@ keeping g now bytes =
       bits = bytes;
     }
 
--- they make a well formed receiver, and one that is had back from its state: no bit is lost in the bytes
+-- they make a well formed receiver, and one that can be recovered from its state: no bit is lost in the bytes
 pub record Keeps (g : Settings) (now : Numbers) (bytes : List ℕ) : Type 0 where
   pub well : wellFormed (keeping g now bytes) ≡ true
   pub whole : receiverOf g (stateOf (keeping g now bytes)) ≡ keeping g now bytes
 
 -- a run that is still short of Q, one read later
-abbrev pub longer : ℕ → ℕ → ℕ
+abbrev pub longer : (run read : ℕ) → ℕ
 longer run read = choose (eqb read 1) (run + 1) 0
 
--- a move that brings an event is the outcome, with the reads used by then; one that brings nothing leaves it to what
--- follows
-abbrev pub onward : Settings → State → Event → ℕ → Outcome × ℕ → Outcome × ℕ
-onward g s nothing used rest = rest
-onward g s (row bits) used rest = (reached g s (row bits), used)
-onward g s (broken found) used rest = (reached g s (broken found), used)
+-- a move that brings an event is the outcome, with the reads used by then; one that brings nothing leaves it to the
+-- rest of the reads
+abbrev pub eventOrRest : Settings → State → Event → (used : ℕ) (rest : Outcome × ℕ) → Outcome × ℕ
+eventOrRest g s nothing used rest = rest
+eventOrRest g s (row bits) used rest = (reached g s (row bits), used)
+eventOrRest g s (broken found) used rest = (reached g s (broken found), used)
 
 -- the outcome of reads from a state on, the first of them at this place: up to the first event, the first read that is
 -- no level, or the end
-unfoldable pub heardFrom : Receiver → Settings → State → ℕ → List ℕ → Outcome × ℕ
+unfoldable pub heardFrom : Receiver → Settings → State → (place : ℕ) (reads : List ℕ) → Outcome × ℕ
 heardFrom x g s place [] = (reached g s nothing, place)
 heardFrom x g s place (read ∷ reads) =
     choose (leb read 1)
-    (onward g (next g s read .state) (next g s read .event) (suc place)
+    (eventOrRest g (next g s read .state) (next g s read .event) (suc place)
     (heardFrom x g (next g s read .state) (suc place) reads))
     (refusing x 2 place, 0)
 
 -- the same from a move on
-abbrev pub movedFrom : Receiver → Settings → Moved → ℕ → List ℕ → Outcome × ℕ
-movedFrom x g m place reads = onward g (m .state) (m .event) place (heardFrom x g (m .state) place reads)
+abbrev pub movedFrom : Receiver → Settings → Moved → (place : ℕ) (reads : List ℕ) → Outcome × ℕ
+movedFrom x g m place reads = eventOrRest g (m .state) (m .event) place (heardFrom x g (m .state) place reads)
 
 -- what each case of the code says, beside the bytes that it leaves and the number of all reads
-abbrev pub heardSays : Receiver → Settings → ℕ → List ℕ → Heard → Outcome × ℕ
+abbrev pub heardSays : Receiver → Settings → (all : ℕ) (bytes : List ℕ) → Heard → Outcome × ℕ
 heardSays x g all bytes (Ended now) =
     (record { receiver = keeping g now bytes; answer = given nothing; row = kept [] }, all)
 heardSays x g all bytes (Bad place) = (refusing x 2 place, 0)
@@ -75,19 +76,32 @@ heardSays x g all bytes (Full run used) = (
   record {
     receiver = receiverOf g (hunting run);
     answer = given (row (take (g .n) (unpacked 8 bytes)));
-    row =
-        bytes;
+    row = bytes;
   },
   used,
 )
 heardSays x g all bytes (Broken found used) = (reached g (ready (g .Q)) (broken found), used)
 
--- the same for a search among the reads: where it finds its read, what is done with that read follows
-abbrev pub soughtSays : Receiver → Settings → (ℕ → ℕ → Moved) → List ℕ → List ℕ → Sought → Outcome × ℕ
+-- listening from a place on: whatever receiver a refusal hands back, the outcome of the reads is what the case says
+abbrev pub Hears : Settings → State → (from : ℕ) (reads bytes : List ℕ) → Heard → Type 0
+Hears g s from reads bytes heard =
+    (x : Receiver) → heardFrom x g s from (drop from reads) ≡ heardSays x g (length reads) bytes heard
+
+-- what each case of a search says: where it finds its read, what is done with that read follows
+abbrev pub soughtSays : Receiver → Settings → (done : ℕ → ℕ → Moved) (bits reads : List ℕ) → Sought → Outcome × ℕ
 soughtSays x g done bits reads (Found used run read) = movedFrom x g (done run read) used (drop used reads)
 soughtSays x g done bits reads (Stopped heard) = heardSays x g (length reads) (kept bits) heard
 
 -- a read that is found stands after the place of departure, is a level, and leaves the run below Q
-abbrev pub Lands : ℕ → ℕ → ℕ → Sought → Type 0
+abbrev pub Lands : (from all Q : ℕ) → Sought → Type 0
 Lands from all Q (Found used run read) = (from < used) × (used ≤ all) × (run < Q) × (read ≤ 1)
 Lands from all Q (Stopped heard) = Unit {0}
+
+-- A search from a place on, in a row of so many bits: it lands, and the outcome of the reads is what the case says. The
+-- state in which it starts and what is done with the read that it finds are known for each list of bits.
+pub record Seeks (Q found from : ℕ) (reads : List ℕ) (start : List ℕ → State)
+    (done : Settings → List ℕ → ℕ → ℕ → Moved) (sought : Sought) : Type 0 where
+  pub lands : Lands from (length reads) Q sought
+  pub says : (x : Receiver) (k n : ℕ) (bits : List ℕ) → length bits ≡ found
+      → heardFrom x (settingsFrom k n Q) (start bits) from (drop from reads)
+      ≡ soughtSays x (settingsFrom k n Q) (done (settingsFrom k n Q) bits) bits reads sought

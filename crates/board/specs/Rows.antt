@@ -36,20 +36,20 @@ pub record Moved : Type 0 where
 
 -- 01, first rule of a read: the run grows by one with each high read until it stands at Q, and falls back to 0 with a
 -- low one
-abbrev pub runAfter : ℕ → ℕ → ℕ → ℕ
+abbrev pub runAfter : (Q run read : ℕ) → ℕ
 runAfter Q run read = choose (eqb read 1) (min (run + 1) Q) 0
 
 -- the four modes with what each keeps; in hunting and ready the level is high and there are no bits
-abbrev pub hunting : ℕ → State
+abbrev pub hunting : (run : ℕ) → State
 hunting run = record { mode = Hunting; left = 0; level = 1; run = run; bits = [] }
 
-abbrev pub ready : ℕ → State
+abbrev pub ready : (run : ℕ) → State
 ready run = record { mode = Ready; left = 0; level = 1; run = run; bits = [] }
 
-abbrev pub counting : ℕ → ℕ → ℕ → List ℕ → State
+abbrev pub counting : (left mark run : ℕ) (bits : List ℕ) → State
 counting left mark run bits = record { mode = Counting; left = left; level = mark; run = run; bits = bits }
 
-abbrev pub waiting : ℕ → ℕ → List ℕ → State
+abbrev pub waiting : (sample run : ℕ) (bits : List ℕ) → State
 waiting sample run bits = record { mode = Waiting; left = 0; level = sample; run = run; bits = bits }
 
 -- 01: where a receiver starts, with nothing heard and nothing found
@@ -64,51 +64,50 @@ inProgress Counting = true
 inProgress Waiting = true
 
 -- nothing but the run changes, and nothing is reported
-abbrev pub stays : State → ℕ → Moved
+abbrev pub stays : State → (run : ℕ) → Moved
 stays s run =
     record {
       state = record { mode = s .mode; left = s .left; level = s .level; run = run; bits = s .bits };
-      event =
-          nothing;
+      event = nothing;
     }
 
 -- 01, when the run stands at Q: whatever the mode was it is now ready, and a row that was under way is lost, which is
--- told with how many bits it had
+-- reported with how many bits it had
 abbrev pub quietened : Settings → State → Moved
 quietened g s =
     record { state = ready (g .Q); event = choose (inProgress (s .mode)) (broken (length (s .bits))) nothing }
 
 -- 01, a mark was read: its level is kept, and its sample is k reads away
-abbrev pub marked : Settings → State → ℕ → ℕ → Moved
+abbrev pub marked : Settings → State → (run read : ℕ) → Moved
 marked g s run read = record { state = counting (g .k) read run (s .bits); event = nothing }
 
--- 01, a sample has given one bit more: the n-th completes the row, which is handed over and leaves nothing behind but
--- the run; before that the receiver waits, keeping the sample's level
-abbrev pub collected : Settings → ℕ → ℕ → List ℕ → Moved
+-- 01, a sample has given one bit more: the n-th completes the row, which is delivered, and nothing is kept but the run;
+-- before that the receiver waits, keeping the sample's level
+abbrev pub collected : Settings → (run sample : ℕ) (bits : List ℕ) → Moved
 collected g run sample bits =
     choose (eqb (length bits) (g .n)) (record { state = hunting run; event = row bits })
     (record { state = waiting sample run bits; event = nothing })
 
 -- 01, counting: this read takes one from what is left, and when that leaves nothing it is the sample
-abbrev pub counted : Settings → State → ℕ → ℕ → Moved
-counted g s run read =
+abbrev pub countedDown : Settings → State → (run read : ℕ) → Moved
+countedDown g s run read =
     choose (eqb (s .left - 1) 0) (collected g run read (s .bits ++ bitOf (s .level) read ∷ []))
     (record { state = counting (s .left - 1) (s .level) run (s .bits); event = nothing })
 
 -- 01, ready and waiting: the first read unlike the level kept is a mark. A ready receiver keeps high, so for it that is
 -- a low read
-abbrev pub awaited : Settings → State → ℕ → ℕ → Moved
+abbrev pub awaited : Settings → State → (run read : ℕ) → Moved
 awaited g s run read = choose (eqb read (s .level)) (stays s run) (marked g s run read)
 
 -- 01, the run is short of Q: what the read does in each mode, and in hunting it does nothing
-abbrev pub listening : Mode → Settings → State → ℕ → ℕ → Moved
+abbrev pub listening : Mode → Settings → State → (run read : ℕ) → Moved
 listening Hunting g s run read = stays s run
 listening Ready g s run read = awaited g s run read
-listening Counting g s run read = counted g s run read
+listening Counting g s run read = countedDown g s run read
 listening Waiting g s run read = awaited g s run read
 
 -- 01, one read: the run first, and only then the mode
-unfoldable pub next : Settings → State → ℕ → Moved
+unfoldable pub next : Settings → State → (read : ℕ) → Moved
 next g s read =
     choose (eqb (runAfter (g .Q) (s .run) read) (g .Q)) (quietened g s)
     (listening (s .mode) g s (runAfter (g .Q) (s .run) read) read)

@@ -12,28 +12,28 @@ use Rattle.board.specs.declared.Mode.the-variants.{Hunting, Ready, Count
 use Rattle.board.specs.declared.Receiver.{Receiver}
 
 -- a full run and the mode ready come together; in every other mode the run is short of Q
-abbrev pub runFits : Mode → ℕ → ℕ → Bool
+abbrev pub runFits : Mode → (run Q : ℕ) → Bool
 runFits Hunting run Q = ltb run Q
 runFits Ready run Q = eqb run Q
 runFits Counting run Q = ltb run Q
 runFits Waiting run Q = ltb run Q
 
 -- only a counting receiver has reads left up to a sample, at least one and no more than k
-abbrev pub leftFits : Mode → ℕ → ℕ → Bool
+abbrev pub leftFits : Mode → (left k : ℕ) → Bool
 leftFits Hunting left k = eqb left 0
 leftFits Ready left k = eqb left 0
 leftFits Counting left k = between 1 k left
 leftFits Waiting left k = eqb left 0
 
 -- a row under way lacks at least one bit, and outside a row there are none
-abbrev pub foundFits : Mode → ℕ → ℕ → Bool
+abbrev pub foundFits : Mode → (found n : ℕ) → Bool
 foundFits Hunting found n = eqb found 0
 foundFits Ready found n = eqb found 0
 foundFits Counting found n = ltb found n
 foundFits Waiting found n = ltb found n
 
 -- what is kept is a level, and high where no row is under way
-abbrev pub levelFits : Mode → ℕ → Bool
+abbrev pub levelFits : Mode → (level : ℕ) → Bool
 levelFits Hunting level = eqb level 1
 levelFits Ready level = eqb level 1
 levelFits Counting level = leb level 1

@@ -19,7 +19,7 @@ use Rattle.capture.proofs.Reading.{captured, with-given}
 use Rattle.capture.proofs.Runs.{sum, length-reads}
 use Rattle.board.proofs.PackedBits.{Binary}
 use Rattle.board.proofs.RowRules.{Ranged}
-use Rattle.board.proofs.UnusedBits.{and-right}
+use Rattle.measure.proofs.Both.{both}
 use Rattle.page.specs.Lines.{settingsOf, readsIn}
 
 pub record Accepted (c : Capture) : Type 0 where
@@ -65,7 +65,7 @@ runs-total zero total at (byte ∷ l) runs h e =
         → total + sum runs ≤ totalMost
     some v size true t rest e =
         let low : total + v ≤ totalMost =
-        leb-true (total + v) totalMost (and-right (leb 1 v) (leb (total + v) totalMost) t) in
+        leb-true (total + v) totalMost (both (leb 1 v) (leb (total + v) totalMost) t .1) in
         let others = then-given (runsFrom (size - 1) (total + v) (suc at) l) (λ runs. given (v ∷ runs)) runs e in
         let r : v ∷ others .0 ≡ runs = cc (others .1 .1) in
         rw (← r) (omega (arith, rest (size - 1) (total + v) (others .0) low (others .1 .0)))

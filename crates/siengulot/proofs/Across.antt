@@ -6,6 +6,11 @@ use Rattle.measure.specs.Refusals.{Answer}
 use Rattle.siengulot.specs.Crossing.{crossing}
 
 pub across : {A X : Type 0}
-    (crosses : Answer A → X) {outcome : Answer A × List ℕ} {told : Answer A} {output : List ℕ} {x : X}
-    → outcome ≡ (told, output) → crosses told ≡ x → crossing crosses outcome ≡ (x, output)
-across crosses {output = output} outcome answer = rw outcome (ap (λ x. (x, output)) answer)
+    (crosses : Answer A → X) {outcome : Answer A × List ℕ} {answer : Answer A} {output : List ℕ} {x : X}
+    → outcome ≡ (answer, output) → crosses answer ≡ x → crossing crosses outcome ≡ (x, output)
+across crosses {output = output} outcome crossed = rw outcome (ap (λ x. (x, output)) crossed)
+
+-- a number, a yes or no and margins cross one by one
+pub laid-out : {A : Type 0} {number x says accepted : ℕ} {margins lent : A} → x ≡ number → says ≡ accepted
+    → margins ≡ lent → _≡_ {A = ℕ × ℕ × A} (number, says, margins) (x, accepted, lent)
+laid-out number says margins = rw (number, says, margins)

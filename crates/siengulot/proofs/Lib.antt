@@ -1,4 +1,4 @@
 pub mod Across
 pub mod Levels
-pub mod Standing
+pub mod Recovered
 pub mod Brought

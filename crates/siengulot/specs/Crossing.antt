@@ -8,17 +8,12 @@ use Rattle.measure.specs.Refusals.{Answer, given, refused, refusedAfter}
 use Rattle.settings.specs.Answers.{Judgement, QuietJudgement}
 use Rattle.capture.specs.declared.Summary.{Summary}
 
--- The refusal's number (0: none), its place, and a count: of a result its length, with refusal 5 the bits found, and
--- with any other refusal 0.
-pub record Crossed : Type 0 where
-  pub number : ℕ
-  pub place : ℕ
-  pub count : ℕ
-
-abbrev pub crossed : Answer ℕ → Crossed
-crossed (given n) = record { number = 0; place = 0; count = n }
-crossed (refused number place) = record { number = number; place = place; count = 0 }
-crossed (refusedAfter number place count) = record { number = number; place = place; count = count }
+-- What crosses of an answer: the refusal's number (0: none), its place, and a count: of a result its length, with
+-- refusal 5 the bits found, and with any other refusal 0.
+abbrev pub crossed : Answer ℕ → ℕ × ℕ × ℕ
+crossed (given count) = (0, 0, count)
+crossed (refused number place) = (number, place, 0)
+crossed (refusedAfter number place count) = (number, place, count)
 
 -- what crosses of an answer, and beside it what the operation leaves in the lent output
 abbrev pub crossing : {A X : Type 0} → (Answer A → X) → Answer A × List ℕ → X × List ℕ
@@ -29,7 +24,7 @@ abbrev pub flag : Bool → ℕ
 flag true = 1
 flag false = 0
 
--- the three margins one behind another, and the five
+-- the three margins one after another, and the five
 abbrev pub three : Judgement → List ℤ
 three j = j .margins .m1 ∷ j .margins .m2 ∷ j .margins .m3 ∷ []
 
@@ -38,21 +33,22 @@ five j = j .margins .m1 ∷ j .margins .m2 ∷ j .margins .m3 ∷ j .margins .m4
 
 -- What crosses of a judgement: the refusal's number, whether the settings are accepted, and the margins. A refusal
 -- leaves the lent margins and says no.
-abbrev pub judged : {A : Type 0} → (A → List ℤ) → (A → Bool) → Answer A → List ℤ → ℕ × ℕ × List ℤ
+abbrev pub judged : {A : Type 0} (margins : A → List ℤ) (accepts : A → Bool) → Answer A → (lent : List ℤ)
+    → ℕ × ℕ × List ℤ
 judged margins accepts (given j) lent = (0, flag (accepts j), margins j)
 judged margins accepts (refused number place) lent = (number, 0, lent)
 judged margins accepts (refusedAfter number place count) lent = (number, 0, lent)
 
 -- of the judge's answer, and of the quiet judge's
-abbrev pub judgedThree : Answer Judgement → List ℤ → ℕ × ℕ × List ℤ
+abbrev pub judgedThree : Answer Judgement → (lent : List ℤ) → ℕ × ℕ × List ℤ
 judgedThree answer lent = judged three (λ (j : Judgement). j .accepts) answer lent
 
-abbrev pub judgedFive : Answer QuietJudgement → List ℤ → ℕ × ℕ × List ℤ
+abbrev pub judgedFive : Answer QuietJudgement → (lent : List ℤ) → ℕ × ℕ × List ℤ
 judgedFive answer lent = judged five (λ (j : QuietJudgement). j .accepts) answer lent
 
 -- What crosses of a capture's summary: the refusal's number, its place, and k, n, Q and the numbers of reads and runs
--- one behind another. A refusal leaves the lent numbers.
-abbrev pub summed : List ℕ → Answer Summary → ℕ × ℕ × List ℕ
+-- one after another. A refusal leaves the lent numbers.
+abbrev pub summed : (lent : List ℕ) → Answer Summary → ℕ × ℕ × List ℕ
 summed lent (given s) = (0, 0, s .k .0 ∷ s .n ∷ s .q .0 ∷ s .reads .0 ∷ s .runs ∷ [])
 summed lent (refused number place) = (number, place, lent)
 summed lent (refusedAfter number place count) = (number, place, lent)

@@ -1,4 +1,4 @@
--- How a receiver crosses to C: eight numbers and 128 bytes that are lent, and the answers of its operations as numbers.
+-- How a receiver crosses to C: its numbers and 128 bytes, which are lent, and the answers of its operations as numbers.
 use Prim.Native.Nat.{ℕ}
 use mathlib.Core.Bool.{Bool, _&&_}
 use mathlib.Core.List.{List, [], _∷_}
@@ -25,7 +25,32 @@ modeNumber Waiting = 3
 abbrev pub modeOf : ℕ → Mode
 modeOf m = choose (eqb m 0) Hunting (choose (eqb m 1) Ready (choose (eqb m 2) Counting Waiting))
 
--- the numbers that a receiver crosses as: k, n, Q, mode, run, left, level, found
+-- the numbers of a receiver, by name
+pub record Named : Type 0 where
+  pub k : ℕ
+  pub n : ℕ
+  pub Q : ℕ
+  pub mode : ℕ
+  pub run : ℕ
+  pub left : ℕ
+  pub level : ℕ
+  pub found : ℕ
+
+-- where each stands among the lent numbers: the header's enum siengulot_number
+abbrev pub named : (numbers : List ℕ) → Named
+named numbers =
+    record {
+      k = getD numbers 0 0;
+      n = getD numbers 1 0;
+      Q = getD numbers 2 0;
+      mode = getD numbers 3 0;
+      run = getD numbers 4 0;
+      left = getD numbers 5 0;
+      level = getD numbers 6 0;
+      found = getD numbers 7 0;
+    }
+
+-- the numbers that a receiver crosses as, in that order
 abbrev pub numbersOf : Receiver → List ℕ
 numbersOf x =
     x .k .0
@@ -38,23 +63,23 @@ numbersOf x =
     ∷ x .found
     ∷ []
 
--- Numbers stand for a receiver where the fourth names a mode and the level is a byte. Other numbers are a state that is
+-- Numbers make a receiver where the mode's is that of a mode and the level is a byte. Other numbers are a state that is
 -- not well formed.
-abbrev pub standing : List ℕ → Bool
-standing numbers = leb (getD numbers 3 0) 3 && leb (getD numbers 6 0) 255
+abbrev pub numbersFit : Named → Bool
+numbersFit x = leb (x .mode) 3 && leb (x .level) 255
 
--- the receiver that numbers and bytes stand for
-unfoldable pub receiverOf : List ℕ → List ℕ → Receiver
-receiverOf numbers bytes =
+-- the receiver that numbers and bytes make
+unfoldable pub receiverLent : Named → (bytes : List ℕ) → Receiver
+receiverLent x bytes =
     record {
-      k = record { 0 = getD numbers 0 0 };
-      n = getD numbers 1 0;
-      q = record { 0 = getD numbers 2 0 };
-      mode = modeOf (getD numbers 3 0);
-      run = record { 0 = getD numbers 4 0 };
-      left = record { 0 = getD numbers 5 0 };
-      level = getD numbers 6 0;
-      found = getD numbers 7 0;
+      k = record { 0 = x .k };
+      n = x .n;
+      q = record { 0 = x .Q };
+      mode = modeOf (x .mode);
+      run = record { 0 = x .run };
+      left = record { 0 = x .left };
+      level = x .level;
+      found = x .found;
       bits = bytes;
     }
 
@@ -66,55 +91,56 @@ pub record Lent : Type 0 where
 
 -- What crosses of reads: the refusal's number (0: none) and place; the event, 0 for nothing, 1 for a row, 2 for a
 -- broken one; and the number of bits of a broken row, otherwise 0.
-pub record Told : Type 0 where
+pub record Reply : Type 0 where
   pub number : ℕ
   pub place : ℕ
   pub event : ℕ
   pub found : ℕ
 
--- a next receiver in the lent numbers and bytes, beside a row
-abbrev pub keeping : Receiver → List ℕ → Lent
-keeping next delivered = record { numbers = numbersOf next; bytes = next .bits; row = delivered }
+-- a next receiver put back in the lent numbers and bytes, beside a row
+abbrev pub putBack : Receiver → (bits : List ℕ) → Lent
+putBack next bits = record { numbers = numbersOf next; bytes = next .bits; row = bits }
 
 -- What crosses of an answer, and what is lent afterwards. The row's bytes are written where a row is delivered, all 128
 -- of them, and are otherwise left. A refusal leaves all that is lent.
-abbrev pub answered : Lent → Receiver → List ℕ → Answer Event → Told × Lent
-answered lent next delivered (given nothing) =
-    (record { number = 0; place = 0; event = 0; found = 0 }, keeping next (lent .row))
-answered lent next delivered (given (row bits)) =
-    (record { number = 0; place = 0; event = 1; found = 0 }, keeping next delivered)
-answered lent next delivered (given (broken found)) =
-    (record { number = 0; place = 0; event = 2; found = found }, keeping next (lent .row))
-answered lent next delivered (refused number place) =
+abbrev pub answered : Lent → Receiver → (bits : List ℕ) → Answer Event → Reply × Lent
+answered lent next bits (given nothing) =
+    (record { number = 0; place = 0; event = 0; found = 0 }, putBack next (lent .row))
+answered lent next bits (given (row delivered)) =
+    (record { number = 0; place = 0; event = 1; found = 0 }, putBack next bits)
+answered lent next bits (given (broken found)) =
+    (record { number = 0; place = 0; event = 2; found = found }, putBack next (lent .row))
+answered lent next bits (refused number place) =
     (record { number = number; place = place; event = 0; found = 0 }, lent)
-answered lent next delivered (refusedAfter number place count) =
+answered lent next bits (refusedAfter number place count) =
     (record { number = number; place = place; event = 0; found = 0 }, lent)
 
-abbrev pub brought : Lent → Outcome → Told × Lent
+abbrev pub brought : Lent → Outcome → Reply × Lent
 brought lent outcome = answered lent (outcome .receiver) (outcome .row) (outcome .answer)
 
--- refusal 1 of numbers that stand for no receiver
-abbrev pub noState : Told
-noState = record { number = 1; place = 0; event = 0; found = 0 }
+-- refusal 1 of numbers that make no receiver
+abbrev pub noReceiver : Reply
+noReceiver = record { number = 1; place = 0; event = 0; found = 0 }
 
 -- one read
-unfoldable pub steppedLent : Lent → ℕ → Told × Lent
+unfoldable pub steppedLent : Lent → (read : ℕ) → Reply × Lent
 steppedLent lent read =
-    choose (standing (lent .numbers)) (brought lent (stepped (receiverOf (lent .numbers) (lent .bytes)) read))
-    (noState, lent)
+    choose (numbersFit (named (lent .numbers)))
+    (brought lent (stepped (receiverLent (named (lent .numbers)) (lent .bytes)) read)) (noReceiver, lent)
 
 -- reads up to and with the first that brings an event, and how many were used: none with a refusal
-abbrev pub broughtBy : Lent → Outcome × ℕ → (Told × Lent) × ℕ
+abbrev pub broughtBy : Lent → Outcome × ℕ → (Reply × Lent) × ℕ
 broughtBy lent (outcome, used) = (brought lent outcome, used)
 
-unfoldable pub listenedLent : Lent → List ℕ → (Told × Lent) × ℕ
+unfoldable pub listenedLent : Lent → (reads : List ℕ) → (Reply × Lent) × ℕ
 listenedLent lent reads =
-    choose (standing (lent .numbers)) (broughtBy lent (listened (receiverOf (lent .numbers) (lent .bytes)) reads))
-    ((noState, lent), 0)
+    choose (numbersFit (named (lent .numbers)))
+    (broughtBy lent (listened (receiverLent (named (lent .numbers)) (lent .bytes)) reads)) ((noReceiver, lent), 0)
 
 -- 1 for a state that is well formed, otherwise 0
-unfoldable pub wellFormedLent : List ℕ → List ℕ → ℕ
-wellFormedLent numbers bytes = flag (standing numbers && wellFormed (receiverOf numbers bytes))
+unfoldable pub wellFormedLent : (numbers bytes : List ℕ) → ℕ
+wellFormedLent numbers bytes =
+    flag (numbersFit (named numbers) && wellFormed (receiverLent (named numbers) bytes))
 
 -- starting: the refusal's number, and the receiver with which to start, also after a refusal
 abbrev pub begunLent : Answer Event × Receiver → ℕ × List ℕ × List ℕ

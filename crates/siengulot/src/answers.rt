@@ -1,11 +1,11 @@
-// How an answer crosses: the refusal's number is returned, and its place and the count are put behind lent numbers.
+// How an answer crosses: the refusal's number is returned, and its place and the count are written to lent numbers.
 ghost use mathlib.Core.Path.{_≡_};
 ghost use Rattle.measure.specs.Refusals.{given, denied};
 ghost use Rattle.sender.specs.Answers.{sentSays};
 ghost use Rattle.line.specs.Answers.{smoothedSays, readSays};
 ghost use Rattle.counted.specs.Answers.{countedSays};
 ghost use Rattle.capture.specs.Answers.{writtenSays};
-ghost use Rattle.siengulot.specs.Crossing.{crossed};
+ghost use Rattle.siengulot.specs.Crossing.{crossed, flag as flagOf};
 use capture::Written;
 use counted::Received;
 use line::Read;
@@ -16,10 +16,16 @@ use sender::Sent;
 // The number of refusal 5, which is no case of a refusal.
 const RAN_OUT: usize = 5;
 
+// A yes or no.
+pub fn flag(yes: bool) -> usize
+    ensures { λ x. ⌜ flagOf yes ≡ x ⌝ }
+{
+    if yes { 1 } else { 0 }
+}
+
 // A result of so many entries.
 fn gives(length: usize, place: &mut usize, count: &mut usize) -> usize
-    ensures { λ x. ⌜ crossed (given length)
-        ≡ record { number = x; place = now (place .exit); count = now (count .exit) } ⌝ }
+    ensures { λ x. ⌜ crossed (given length) ≡ (x, now (place .exit), now (count .exit)) ⌝ }
 {
     *place = 0;
     *count = length;
@@ -28,8 +34,7 @@ fn gives(length: usize, place: &mut usize, count: &mut usize) -> usize
 
 // A refusal.
 pub fn refuses(refusal: Refusal, place: &mut usize, count: &mut usize) -> usize
-    ensures { λ x. ⌜ crossed (denied refusal)
-        ≡ record { number = x; place = now (place .exit); count = now (count .exit) } ⌝ }
+    ensures { λ x. ⌜ crossed (denied refusal) ≡ (x, now (place .exit), now (count .exit)) ⌝ }
 {
     *place = measure::place(refusal);
     *count = 0;
@@ -38,8 +43,7 @@ pub fn refuses(refusal: Refusal, place: &mut usize, count: &mut usize) -> usize
 
 // What sending answers.
 pub fn of_sent(answer: Sent, place: &mut usize, count: &mut usize) -> usize
-    ensures { λ x. ⌜ crossed (sentSays answer)
-        ≡ record { number = x; place = now (place .exit); count = now (count .exit) } ⌝ }
+    ensures { λ x. ⌜ crossed (sentSays answer) ≡ (x, now (place .exit), now (count .exit)) ⌝ }
 {
     match answer {
         Sent::Wave(cycles) => gives(cycles.0, place, count),
@@ -49,8 +53,7 @@ pub fn of_sent(answer: Sent, place: &mut usize, count: &mut usize) -> usize
 
 // What smooth answers.
 pub fn of_smoothed(answer: Smoothed, place: &mut usize, count: &mut usize) -> usize
-    ensures { λ x. ⌜ crossed (smoothedSays answer)
-        ≡ record { number = x; place = now (place .exit); count = now (count .exit) } ⌝ }
+    ensures { λ x. ⌜ crossed (smoothedSays answer) ≡ (x, now (place .exit), now (count .exit)) ⌝ }
 {
     match answer {
         Smoothed::Wave(cycles) => gives(cycles.0, place, count),
@@ -60,8 +63,7 @@ pub fn of_smoothed(answer: Smoothed, place: &mut usize, count: &mut usize) -> us
 
 // What warp and settle answer.
 pub fn of_read(answer: Read, place: &mut usize, count: &mut usize) -> usize
-    ensures { λ x. ⌜ crossed (readSays answer)
-        ≡ record { number = x; place = now (place .exit); count = now (count .exit) } ⌝ }
+    ensures { λ x. ⌜ crossed (readSays answer) ≡ (x, now (place .exit), now (count .exit)) ⌝ }
 {
     match answer {
         Read::Reads(reads) => gives(reads.0, place, count),
@@ -71,8 +73,7 @@ pub fn of_read(answer: Read, place: &mut usize, count: &mut usize) -> usize
 
 // What the counted receiver answers: also after refusal 5 the count is of the bits found.
 pub fn of_counted(answer: Received, place: &mut usize, count: &mut usize) -> usize
-    ensures { λ x. ⌜ crossed (countedSays answer)
-        ≡ record { number = x; place = now (place .exit); count = now (count .exit) } ⌝ }
+    ensures { λ x. ⌜ crossed (countedSays answer) ≡ (x, now (place .exit), now (count .exit)) ⌝ }
 {
     match answer {
         Received::Bits(found) => gives(found, place, count),
@@ -87,8 +88,7 @@ pub fn of_counted(answer: Received, place: &mut usize, count: &mut usize) -> usi
 
 // What writing a capture answers.
 pub fn of_written(answer: Written, place: &mut usize, count: &mut usize) -> usize
-    ensures { λ x. ⌜ crossed (writtenSays answer)
-        ≡ record { number = x; place = now (place .exit); count = now (count .exit) } ⌝ }
+    ensures { λ x. ⌜ crossed (writtenSays answer) ≡ (x, now (place .exit), now (count .exit)) ⌝ }
 {
     match answer {
         Written::Bytes(length) => gives(length, place, count),

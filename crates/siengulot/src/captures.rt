@@ -6,7 +6,7 @@ use crate::answers::of_written;
 use capture::Checked;
 use measure::ReadCycles;
 
-// What checking and reading answer: the summary is put behind the lent numbers, and a refusal leaves these.
+// What checking and reading answer: the summary is written to the lent numbers, and a refusal leaves these.
 fn of_checked(answer: Checked, summary: &mut [usize; 5], place: &mut usize) -> usize
     ensures { λ x. ⌜ summed (now (summary .entry)) (checkedSays answer)
         ≡ (x, now (place .exit), now (summary .exit)) ⌝ }
@@ -25,7 +25,7 @@ fn of_checked(answer: Checked, summary: &mut [usize; 5], place: &mut usize) -> u
 }
 
 // Checks a capture. Gives in `summary` its k, n and Q and its numbers of reads and runs.
-// Refuses with 3 (too many bytes), then by the first of 6, 7 and 8 from the left, with its place: `summary` is left.
+// Refuses with 3 (too many bytes), then with the first of 6, 7 and 8 from the left, at its place: `summary` is left.
 #[no_mangle]
 pub extern "C" fn siengulot_capture_check(
     bytes: &[u8],
@@ -35,12 +35,12 @@ pub extern "C" fn siengulot_capture_check(
     ensures { λ x. ⌜ summed (now (summary .entry)) (checked (now (bytes .entry)))
         ≡ (x, now (place .exit), now (summary .exit)) ⌝ }
 {
-    let answer = capture::check(bytes);
-    of_checked(answer, summary, place)
+    let checked = capture::check(bytes);
+    of_checked(checked, summary, place)
 }
 
 // Reads a capture. Gives its summary, as above, and its reads at the output's front, the rest of which is untouched.
-// Refuses as `siengulot_capture_check` does, and last by 4: `summary` and the output are left.
+// Refuses as `siengulot_capture_check` does, and last with 4: `summary` and the output are left.
 #[no_mangle]
 pub extern "C" fn siengulot_capture_read(
     bytes: &[u8],
@@ -51,8 +51,8 @@ pub extern "C" fn siengulot_capture_read(
     ensures { λ x. ⌜ crossing (summed (now (summary .entry))) (readBack (now (bytes .entry)) (now (out .entry)))
         ≡ ((x, now (place .exit), now (summary .exit)), now (out .exit)) ⌝ }
 {
-    let answer = capture::read_capture(bytes, out);
-    of_checked(answer, summary, place)
+    let read = capture::read_capture(bytes, out);
+    of_checked(read, summary, place)
 }
 
 // Writes reads as a capture. Gives in `count` its number of bytes, which stand at the output's front; the rest is
@@ -70,7 +70,7 @@ pub extern "C" fn siengulot_capture_write(
     count: &mut usize,
 ) -> usize
     ensures { λ x. ⌜ crossing crossed (written k n q (now (reads .entry)) (now (out .entry)))
-        ≡ (record { number = x; place = now (place .exit); count = now (count .exit) }, now (out .exit)) ⌝ }
+        ≡ ((x, now (place .exit), now (count .exit)), now (out .exit)) ⌝ }
 {
     let answer = capture::write_capture(ReadCycles(k), n, ReadCycles(q), reads, out);
     of_written(answer, place, count)

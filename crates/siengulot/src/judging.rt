@@ -1,9 +1,11 @@
 // Judging: settings against the margins.
 ghost use mathlib.Core.Path.{_≡_};
 ghost use mathlib.Core.List.{[], _∷_};
+ghost use Rattle.measure.specs.Refusals.{numberOf};
 ghost use Rattle.settings.specs.Answers.{judgement, quietJudgement};
 ghost use Rattle.siengulot.specs.Crossing.{judgedThree, judgedFive};
 use measure::ReadCycles;
+use measure::Refusal;
 use measure::TimeUnits;
 use measure::WriterCycles;
 use settings::Judged;
@@ -11,18 +13,37 @@ use settings::Margins;
 use settings::QuietJudged;
 use settings::QuietMargins;
 
-// Puts three margins one behind another.
-fn put_three(m: Margins, margins: &mut [i64; 3])
-    ensures { λ _. ⌜ m .m1 ∷ m .m2 ∷ m .m3 ∷ [] ≡ now (margins .exit) ⌝ }
+// What stands in `accepted`.
+const YES: usize = 1;
+
+const NO: usize = 0;
+
+// Gives three margins one after another, and a yes or no.
+fn give_three(m: Margins, yes: usize, margins: &mut [i64; 3], accepted: &mut usize) -> usize
+    ensures { λ x. ⌜ (x ≡ 0) × (yes ≡ now (accepted .exit))
+        × (m .m1 ∷ m .m2 ∷ m .m3 ∷ [] ≡ now (margins .exit)) ⌝ }
 {
     *margins = [m.m1, m.m2, m.m3];
+    *accepted = yes;
+    0
 }
 
-// Puts five margins one behind another.
-fn put_five(m: QuietMargins, margins: &mut [i64; 5])
-    ensures { λ _. ⌜ m .m1 ∷ m .m2 ∷ m .m3 ∷ m .m4 ∷ m .m5 ∷ [] ≡ now (margins .exit) ⌝ }
+// Gives five margins one after another, and a yes or no.
+fn give_five(m: QuietMargins, yes: usize, margins: &mut [i64; 5], accepted: &mut usize) -> usize
+    ensures { λ x. ⌜ (x ≡ 0) × (yes ≡ now (accepted .exit))
+        × (m .m1 ∷ m .m2 ∷ m .m3 ∷ m .m4 ∷ m .m5 ∷ [] ≡ now (margins .exit)) ⌝ }
 {
     *margins = [m.m1, m.m2, m.m3, m.m4, m.m5];
+    *accepted = yes;
+    0
+}
+
+// A refusal is a no.
+fn refuse(refusal: Refusal, accepted: &mut usize) -> usize
+    ensures { λ x. ⌜ (x ≡ numberOf refusal) × (now (accepted .exit) ≡ 0) ⌝ }
+{
+    *accepted = NO;
+    measure::number(refusal)
 }
 
 // The judge. Gives M1, M2 and M3, and 1 in `accepted` exactly if all three are zero or more, otherwise 0.
@@ -48,20 +69,9 @@ pub extern "C" fn siengulot_judge(
         TimeUnits(r),
     );
     match answer {
-        Judged::Yes(m) => {
-            put_three(m, margins);
-            *accepted = 1;
-            0
-        }
-        Judged::No(m) => {
-            put_three(m, margins);
-            *accepted = 0;
-            0
-        }
-        Judged::Refused(refusal) => {
-            *accepted = 0;
-            measure::number(refusal)
-        }
+        Judged::Yes(m) => give_three(m, YES, margins, accepted),
+        Judged::No(m) => give_three(m, NO, margins, accepted),
+        Judged::Refused(refusal) => refuse(refusal, accepted),
     }
 }
 
@@ -92,19 +102,8 @@ pub extern "C" fn siengulot_judge_quiet(
         WriterCycles(p1),
     );
     match answer {
-        QuietJudged::Yes(m) => {
-            put_five(m, margins);
-            *accepted = 1;
-            0
-        }
-        QuietJudged::No(m) => {
-            put_five(m, margins);
-            *accepted = 0;
-            0
-        }
-        QuietJudged::Refused(refusal) => {
-            *accepted = 0;
-            measure::number(refusal)
-        }
+        QuietJudged::Yes(m) => give_five(m, YES, margins, accepted),
+        QuietJudged::No(m) => give_five(m, NO, margins, accepted),
+        QuietJudged::Refused(refusal) => refuse(refusal, accepted),
     }
 }

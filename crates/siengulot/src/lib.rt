@@ -1,6 +1,5 @@
 // The way in from C: one entry point for each operation, thin over the proved rooms. Each returns the refusal's number,
-// 0 for none; each says
-// what it leaves behind the pointers. `include/siengulot.h` declares them.
+// 0 for none; each says what it leaves in what it was lent. `include/siengulot.h` declares them.
 mod answers;
 mod captures;
 mod judging;

@@ -1,6 +1,5 @@
 // The link: sending, the three passes of the line, and the counted receiver. Each result stands at the front of the
-// lent output, `count` is its
-// length, and the rest of the output is untouched.
+// lent output, `count` is its length, and the rest of the output is untouched.
 ghost use mathlib.Core.Path.{_≡_};
 ghost use Rattle.sender.specs.Answers.{sentMessage, sentPlan};
 ghost use Rattle.line.specs.Answers.{smoothed, warped, settled};
@@ -35,7 +34,7 @@ pub extern "C" fn siengulot_send(
     count: &mut usize,
 ) -> usize
     ensures { λ x. ⌜ crossing crossed (sentMessage a b p1 p2 (now (bits .entry)) (now (out .entry)))
-        ≡ (record { number = x; place = now (place .exit); count = now (count .exit) }, now (out .exit)) ⌝ }
+        ≡ ((x, now (place .exit), now (count .exit)), now (out .exit)) ⌝ }
 {
     let answer = sender::send(
         WriterCycles(a),
@@ -50,8 +49,7 @@ pub extern "C" fn siengulot_send(
 
 // Sends a plan: for each row a lead pad, a trail pad, and n bits of the one list of bits. Gives the plan's wave.
 // Refuses with 1 (a, b, n or a pad; no row; lists that do not fit one another), 3 (more than 1,024 rows, or 1,048,576
-// cycles), 2 (the place of the
-// first entry that is no bit), 4: the output is left, and `count` is 0.
+// cycles), 2 (the place of the first entry that is no bit), 4: the output is left, and `count` is 0.
 #[no_mangle]
 pub extern "C" fn siengulot_plan(
     a: usize,
@@ -66,7 +64,7 @@ pub extern "C" fn siengulot_plan(
 ) -> usize
     ensures { λ x. ⌜ crossing crossed
         (sentPlan a b n (now (leads .entry)) (now (trails .entry)) (now (bits .entry)) (now (out .entry)))
-        ≡ (record { number = x; place = now (place .exit); count = now (count .exit) }, now (out .exit)) ⌝ }
+        ≡ ((x, now (place .exit), now (count .exit)), now (out .exit)) ⌝ }
 {
     let answer = sender::send_plan(
         WriterCycles(a),
@@ -91,7 +89,7 @@ pub extern "C" fn siengulot_smooth(
     count: &mut usize,
 ) -> usize
     ensures { λ x. ⌜ crossing crossed (smoothed (now (wave .entry)) (now (out .entry)))
-        ≡ (record { number = x; place = now (place .exit); count = now (count .exit) }, now (out .exit)) ⌝ }
+        ≡ ((x, now (place .exit), now (count .exit)), now (out .exit)) ⌝ }
 {
     let answer = line::smooth(wave, out);
     of_smoothed(answer, place, count)
@@ -99,8 +97,7 @@ pub extern "C" fn siengulot_smooth(
 
 // Pass 2, warp. Gives the reads of a wave.
 // Refuses with 1 (w or r, or p not below w), 3 (more than 1,048,576 cycles or reads), 2 (the place of the first entry
-// that is no level and not unknown),
-// 4: the output is left, and `count` is 0.
+// that is no level and not unknown), 4: the output is left, and `count` is 0.
 #[no_mangle]
 pub extern "C" fn siengulot_warp(
     w: usize,
@@ -112,7 +109,7 @@ pub extern "C" fn siengulot_warp(
     count: &mut usize,
 ) -> usize
     ensures { λ x. ⌜ crossing crossed (warped w r p (now (wave .entry)) (now (out .entry)))
-        ≡ (record { number = x; place = now (place .exit); count = now (count .exit) }, now (out .exit)) ⌝ }
+        ≡ ((x, now (place .exit), now (count .exit)), now (out .exit)) ⌝ }
 {
     let answer = line::warp(wave, TimeUnits(w), TimeUnits(r), TimeUnits(p), out);
     of_read(answer, place, count)
@@ -120,8 +117,7 @@ pub extern "C" fn siengulot_warp(
 
 // Pass 3, settle. Gives the reads with each unknown one made the next choice, or low once choices have run out.
 // Refuses with 3 (more than 1,048,576 reads or choices), 2 (the place of the first read that is no level and not
-// unknown, or else of the first choice that
-// is no level, in its own list), 4: the output is left, and `count` is 0.
+// unknown, or else of the first choice that is no level, in its own list), 4: the output is left, and `count` is 0.
 #[no_mangle]
 pub extern "C" fn siengulot_settle(
     reads: &[u8],
@@ -131,7 +127,7 @@ pub extern "C" fn siengulot_settle(
     count: &mut usize,
 ) -> usize
     ensures { λ x. ⌜ crossing crossed (settled (now (reads .entry)) (now (choices .entry)) (now (out .entry)))
-        ≡ (record { number = x; place = now (place .exit); count = now (count .exit) }, now (out .exit)) ⌝ }
+        ≡ ((x, now (place .exit), now (count .exit)), now (out .exit)) ⌝ }
 {
     let answer = line::settle(reads, choices, out);
     of_read(answer, place, count)
@@ -139,9 +135,8 @@ pub extern "C" fn siengulot_settle(
 
 // The counted receiver. Gives the n bits of a message that starts with the level in force.
 // Refuses with 1 (k, n or level), 3 (more than 1,048,576 reads), 2 (the place of the first read that is no level), 4
-// (an output shorter than n): the
-// output is left, and `count` is 0. Then by 5, where the reads ran out: `count` is the number of bits found, which
-// stand at the output's front.
+// (an output shorter than n): the output is left, and `count` is 0. Then with 5, where the reads ran out: `count` is
+// the number of bits found, which stand at the output's front.
 #[no_mangle]
 pub extern "C" fn siengulot_counted(
     k: usize,
@@ -153,7 +148,7 @@ pub extern "C" fn siengulot_counted(
     count: &mut usize,
 ) -> usize
     ensures { λ x. ⌜ crossing crossed (countedBits k n level (now (reads .entry)) (now (out .entry)))
-        ≡ (record { number = x; place = now (place .exit); count = now (count .exit) }, now (out .exit)) ⌝ }
+        ≡ ((x, now (place .exit), now (count .exit)), now (out .exit)) ⌝ }
 {
     if LEVEL_MOST < level {
         return refuses(Refusal::Setting(0), place, count);

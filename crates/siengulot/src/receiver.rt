@@ -1,11 +1,13 @@
 // The row receiver: starting, one read, and reads up to the first event, on a receiver that C lends.
 ghost use mathlib.Core.Path.{_≡_};
 ghost use Rattle.board.specs.Answers.{begun, eventSays};
-ghost use Rattle.siengulot.specs.Receivers.{answered, noState, steppedLent, listenedLent, wellFormedLent};
+ghost use Rattle.siengulot.specs.Receivers.{answered, noReceiver, steppedLent, listenedLent, wellFormedLent};
 ghost use Rattle.siengulot.specs.Receivers.{begunLent};
-use crate::state::keep;
-use crate::state::receiver_of;
-use crate::state::stands;
+use crate::answers::flag;
+use crate::state::NUMBERS;
+use crate::state::numbers_fit;
+use crate::state::put_back;
+use crate::state::receiver_lent;
 use board::Event;
 use board::Receiver;
 use board::Start;
@@ -19,13 +21,13 @@ const ROW: usize = 1;
 
 const BROKEN: usize = 2;
 
-// Hands over what reads brought: the next receiver, and a row where one is delivered. A refusal leaves the receiver and
-// the row's bytes as they are lent.
+// Hands over what reads brought: the next receiver, the event, and a row's bits where one is delivered. A refusal
+// leaves the receiver and the row's bytes as they are lent.
 fn hand_over(
     next: Receiver,
-    happened: Event,
-    delivered: [u8; 128],
-    numbers: &mut [usize; 8],
+    came: Event,
+    bits: [u8; 128],
+    numbers: &mut [usize; NUMBERS],
     bytes: &mut [u8; 128],
     row: &mut [u8; 128],
     event: &mut usize,
@@ -33,8 +35,8 @@ fn hand_over(
     place: &mut usize,
 ) -> usize
     ensures { λ x. ⌜ answered
-        (record { numbers = now (numbers .entry); bytes = now (bytes .entry); row = now (row .entry) }) next delivered
-        (eventSays (next .n) delivered happened)
+        (record { numbers = now (numbers .entry); bytes = now (bytes .entry); row = now (row .entry) }) next bits
+        (eventSays (next .n) bits came)
         ≡ (
           record { number = x; place = now (place .exit); event = now (event .exit); found = now (found .exit) },
           record { numbers = now (numbers .exit); bytes = now (bytes .exit); row = now (row .exit) },
@@ -43,19 +45,19 @@ fn hand_over(
     *event = NOTHING;
     *found = 0;
     *place = 0;
-    match happened {
+    match came {
         Event::Nothing => {
-            keep(next, numbers, bytes);
+            put_back(next, numbers, bytes);
             0
         }
         Event::Row => {
-            keep(next, numbers, bytes);
-            *row = delivered;
+            put_back(next, numbers, bytes);
+            *row = bits;
             *event = ROW;
             0
         }
         Event::Broken(dropped) => {
-            keep(next, numbers, bytes);
+            put_back(next, numbers, bytes);
             *event = BROKEN;
             *found = dropped;
             0
@@ -67,9 +69,9 @@ fn hand_over(
     }
 }
 
-// Hands over refusal 1 of numbers that stand for no receiver.
-fn refuse_state(event: &mut usize, found: &mut usize, place: &mut usize) -> usize
-    ensures { λ x. ⌜ noState
+// Hands over refusal 1 of numbers that make no receiver.
+fn no_receiver(event: &mut usize, found: &mut usize, place: &mut usize) -> usize
+    ensures { λ x. ⌜ noReceiver
         ≡ record { number = x; place = now (place .exit); event = now (event .exit); found = now (found .exit) } ⌝ }
 {
     *event = NOTHING;
@@ -85,7 +87,7 @@ pub extern "C" fn siengulot_fresh(
     k: usize,
     n: usize,
     q: usize,
-    numbers: &mut [usize; 8],
+    numbers: &mut [usize; NUMBERS],
     bytes: &mut [u8; 128],
 ) -> usize
     ensures { λ x. ⌜ begunLent (begun k n q) ≡ (x, now (numbers .exit), now (bytes .exit)) ⌝ }
@@ -93,7 +95,7 @@ pub extern "C" fn siengulot_fresh(
     let started = Receiver::fresh(ReadCycles(k), n, ReadCycles(q));
     let next = started.receiver;
     let start = started.start;
-    keep(next, numbers, bytes);
+    put_back(next, numbers, bytes);
     match start {
         Start::Fresh => 0,
         Start::Refused(refusal) => measure::number(refusal),
@@ -102,14 +104,14 @@ pub extern "C" fn siengulot_fresh(
 
 // Tells whether a lent state is well formed: 1 for yes, 0 for no. Refuses nothing and writes nothing.
 #[no_mangle]
-pub extern "C" fn siengulot_well_formed(numbers: &[usize; 8], bytes: &[u8; 128]) -> usize
+pub extern "C" fn siengulot_well_formed(numbers: &[usize; NUMBERS], bytes: &[u8; 128]) -> usize
     ensures { λ x. ⌜ wellFormedLent (now (numbers .entry)) (now (bytes .entry)) ≡ x ⌝ }
 {
-    if !stands(numbers) {
+    if !numbers_fit(numbers) {
         return 0;
     }
-    let receiver = receiver_of(numbers, bytes);
-    if receiver.well_formed() { 1 } else { 0 }
+    let receiver = receiver_lent(numbers, bytes);
+    flag(receiver.well_formed())
 }
 
 // Gives a receiver one read, and in `event` what it brings: 0 nothing, 1 a row, whose bits stand in `row`, 2 a broken
@@ -118,7 +120,7 @@ pub extern "C" fn siengulot_well_formed(numbers: &[usize; 8], bytes: &[u8; 128])
 // left, and `event` and `found` are 0.
 #[no_mangle]
 pub extern "C" fn siengulot_step(
-    numbers: &mut [usize; 8],
+    numbers: &mut [usize; NUMBERS],
     bytes: &mut [u8; 128],
     read: u8,
     row: &mut [u8; 128],
@@ -133,35 +135,24 @@ pub extern "C" fn siengulot_step(
           record { numbers = now (numbers .exit); bytes = now (bytes .exit); row = now (row .exit) },
         ) ⌝ }
 {
-    if !stands(numbers) {
-        return refuse_state(event, found, place);
+    if !numbers_fit(numbers) {
+        return no_receiver(event, found, place);
     }
-    let receiver = receiver_of(numbers, bytes);
+    let receiver = receiver_lent(numbers, bytes);
     let stepped = receiver.step(read);
     let next = stepped.receiver;
-    let happened = stepped.event;
-    let delivered = stepped.row;
-    hand_over(
-        next,
-        happened,
-        delivered,
-        numbers,
-        bytes,
-        row,
-        event,
-        found,
-        place,
-    )
+    let came = stepped.event;
+    let bits = stepped.row;
+    hand_over(next, came, bits, numbers, bytes, row, event, found, place)
 }
 
 // Gives a receiver reads up to and with the first that brings an event, or all: `event`, `row` and `found` as above,
 // and in `used` how many reads that took.
 // Refuses with 1 a state that is not well formed, 3 (more than 1,048,576 reads), 2 (the place of the first read that is
-// no level where no event comes
-// before it): receiver and row are left, and `event`, `found` and `used` are 0.
+// no level where no event comes before it): receiver and row are left, and `event`, `found` and `used` are 0.
 #[no_mangle]
 pub extern "C" fn siengulot_listen(
-    numbers: &mut [usize; 8],
+    numbers: &mut [usize; NUMBERS],
     bytes: &mut [u8; 128],
     reads: &[u8],
     row: &mut [u8; 128],
@@ -181,25 +172,15 @@ pub extern "C" fn siengulot_listen(
           now (used .exit),
         ) ⌝ }
 {
-    if !stands(numbers) {
+    if !numbers_fit(numbers) {
         *used = 0;
-        return refuse_state(event, found, place);
+        return no_receiver(event, found, place);
     }
-    let receiver = receiver_of(numbers, bytes);
+    let receiver = receiver_lent(numbers, bytes);
     let listened = receiver.listen(reads);
     *used = listened.used.0;
     let next = listened.receiver;
-    let happened = listened.event;
-    let delivered = listened.row;
-    hand_over(
-        next,
-        happened,
-        delivered,
-        numbers,
-        bytes,
-        row,
-        event,
-        found,
-        place,
-    )
+    let came = listened.event;
+    let bits = listened.row;
+    hand_over(next, came, bits, numbers, bytes, row, event, found, place)
 }

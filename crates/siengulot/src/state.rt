@@ -1,10 +1,30 @@
-// A receiver as C lends it: eight numbers (k, n, Q, mode, run, left, level, found) and the 128 bytes of its bits.
+// A receiver as C lends it: its numbers, each at a place of its own, and the 128 bytes of its bits.
 ghost use mathlib.Core.Path.{_≡_};
 ghost use mathlib.Core.Bool.{true};
-ghost use Rattle.siengulot.specs.Receivers.{modeNumber, modeOf, numbersOf, standing, receiverOf};
+ghost use Rattle.siengulot.specs.Receivers.{modeNumber, modeOf, named, numbersOf, numbersFit, receiverLent};
 use board::Mode;
 use board::Receiver;
 use measure::ReadCycles;
+
+// Where each number stands: `enum siengulot_number` of the header.
+const K: usize = 0;
+
+const N: usize = 1;
+
+const Q: usize = 2;
+
+const MODE: usize = 3;
+
+const RUN: usize = 4;
+
+const LEFT: usize = 5;
+
+const LEVEL: usize = 6;
+
+const FOUND: usize = 7;
+
+// How many numbers there are.
+pub const NUMBERS: usize = 8;
 
 // The greatest number of a mode, and the greatest byte.
 const MODE_MOST: usize = 3;
@@ -23,7 +43,7 @@ fn mode_number(mode: Mode) -> usize
     }
 }
 
-// A number above 3 is asked of nobody: `stands` comes first.
+// A number above 3 never comes here: `numbers_fit` comes first.
 fn mode_of(number: usize) -> Mode
     ensures { λ x. ⌜ modeOf number ≡ x ⌝ }
 {
@@ -39,29 +59,29 @@ fn mode_of(number: usize) -> Mode
     Mode::Waiting
 }
 
-// Tells whether numbers stand for a receiver.
-pub fn stands(numbers: &[usize; 8]) -> bool
-    ensures { λ x. ⌜ standing (now (numbers .entry)) ≡ x ⌝ }
+// Tells whether numbers make a receiver.
+pub fn numbers_fit(numbers: &[usize; NUMBERS]) -> bool
+    ensures { λ x. ⌜ x ≡ numbersFit (named (now (numbers .entry))) ⌝ }
 {
-    if MODE_MOST < numbers[3] {
+    if MODE_MOST < numbers[MODE] {
         return false;
     }
-    numbers[6] <= BYTE_MOST
+    numbers[LEVEL] <= BYTE_MOST
 }
 
-// Gives the receiver that numbers and bytes stand for.
-pub fn receiver_of(numbers: &[usize; 8], bytes: &[u8; 128]) -> Receiver
-    requires { ⌜ standing (now numbers) ≡ true ⌝ }
-    ensures { λ x. ⌜ receiverOf (now (numbers .entry)) (now (bytes .entry)) ≡ x ⌝ }
+// Gives the receiver that numbers and bytes make.
+pub fn receiver_lent(numbers: &[usize; NUMBERS], bytes: &[u8; 128]) -> Receiver
+    requires { ⌜ numbersFit (named (now numbers)) ≡ true ⌝ }
+    ensures { λ x. ⌜ receiverLent (named (now (numbers .entry))) (now (bytes .entry)) ≡ x ⌝ }
 {
-    let k = numbers[0];
-    let n = numbers[1];
-    let q = numbers[2];
-    let mode = mode_of(numbers[3]);
-    let run = numbers[4];
-    let left = numbers[5];
-    let level = numbers[6] as u8;
-    let found = numbers[7];
+    let k = numbers[K];
+    let n = numbers[N];
+    let q = numbers[Q];
+    let mode = mode_of(numbers[MODE]);
+    let run = numbers[RUN];
+    let left = numbers[LEFT];
+    let level = numbers[LEVEL] as u8;
+    let found = numbers[FOUND];
     let bits = *bytes;
     Receiver {
         k: ReadCycles(k),
@@ -76,8 +96,8 @@ pub fn receiver_of(numbers: &[usize; 8], bytes: &[u8; 128]) -> Receiver
     }
 }
 
-// Puts a receiver's numbers and bytes where it is lent.
-pub fn keep(next: Receiver, numbers: &mut [usize; 8], bytes: &mut [u8; 128])
+// Puts a receiver back where it is lent: its numbers in their order, and its bytes.
+pub fn put_back(next: Receiver, numbers: &mut [usize; NUMBERS], bytes: &mut [u8; 128])
     ensures { λ _. ⌜ (numbersOf next ≡ now (numbers .exit)) × (next .bits ≡ now (bytes .exit)) ⌝ }
 {
     let held = next.mode;

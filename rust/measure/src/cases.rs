@@ -2,7 +2,8 @@
 
 use crate::inputs::{self, A, B, K, LEAD, N, Q};
 use crate::library::*;
-use siengulot_plain::board::{Event, Listener, Mode, Receiver, Report};
+use crate::numbers::{at, numbers_of, NUMBERS};
+use siengulot_plain::board::{Event, Listener, Receiver, Report};
 use siengulot_plain::{capture, counted, line, sender, settings};
 
 /// What an operation leaves: lent bytes, and the numbers it tells. Both sides have to leave the same.
@@ -408,38 +409,18 @@ fn count(k: usize, n: usize, reads: Vec<u8>) -> Work {
     )
 }
 
-/// The numbers by which a receiver crosses.
-fn numbers_of(receiver: &Receiver) -> [usize; 8] {
-    let mode = match receiver.mode {
-        Mode::Hunting => 0,
-        Mode::Ready => 1,
-        Mode::Counting => 2,
-        Mode::Waiting => 3,
-    };
-    [
-        receiver.k,
-        receiver.n,
-        receiver.q,
-        mode,
-        receiver.run,
-        receiver.left,
-        receiver.level.into(),
-        receiver.found,
-    ]
-}
-
 fn fresh(calls: usize) -> Work {
     two(
         calls,
         128,
         move |lent| {
-            let (mut numbers, mut bytes) = ([0; 8], [1; 128]);
+            let (mut numbers, mut bytes) = ([0; NUMBERS], [1; 128]);
             for i in 0..calls {
                 let (k, n, q) = (1 + i % 64, N, Q);
                 let refused =
                     unsafe { siengulot_fresh(k, n, q, numbers.as_mut_ptr(), bytes.as_mut_ptr()) };
                 assert_eq!(refused, 0);
-                lent.told[0] += (numbers[0] + usize::from(bytes[i % 128])) as i64;
+                lent.told[0] += (numbers[at::K] + usize::from(bytes[i % 128])) as i64;
             }
         },
         move |lent| {
@@ -498,7 +479,7 @@ fn step(reads: usize) -> Work {
         reads,
         128,
         move |lent| {
-            let (mut numbers, mut bytes, mut row) = ([0; 8], [0; 128], [0; 128]);
+            let (mut numbers, mut bytes, mut row) = ([0; NUMBERS], [0; 128], [0; 128]);
             let (mut event, mut found, mut place) = (0, 0, 0);
             unsafe { siengulot_fresh(K, N, Q, numbers.as_mut_ptr(), bytes.as_mut_ptr()) };
             for &read in &ours {
@@ -556,7 +537,7 @@ fn heard(event: &Option<Event>, lent: &mut Lent) {
 fn listen(k: usize, n: usize, q: usize, reads: Vec<u8>) -> Work {
     let (units, plain, listed) = (reads.len(), reads.clone(), reads.clone());
     let rattle = move |lent: &mut Lent| {
-        let (mut numbers, mut bytes, mut row) = ([0; 8], [0; 128], [0; 128]);
+        let (mut numbers, mut bytes, mut row) = ([0; NUMBERS], [0; 128], [0; 128]);
         let (mut event, mut found, mut used, mut place) = (0, 0, 0, 0);
         unsafe { siengulot_fresh(k, n, q, numbers.as_mut_ptr(), bytes.as_mut_ptr()) };
         let mut rest = &reads[..];

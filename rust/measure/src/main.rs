@@ -9,6 +9,8 @@ mod cases;
 mod inputs;
 #[path = "../../differential/library.rs"]
 mod library;
+#[path = "../../differential/numbers.rs"]
+mod numbers;
 
 use cases::{Lent, Work};
 use std::os::unix::process::parent_id;

@@ -2,15 +2,15 @@
 use Prim.Native.Nat.{ℕ}
 use mathlib.Core.Path.{_∙_, ap}
 use borrow.Author.Needs.{needs}
-use Rattle.board.specs.declared.Heard.{Heard}
+use Rattle.board.specs.declared.listening.Heard.{Heard}
 use Rattle.board.specs.Packed.{settingsOf}
 use Rattle.board.specs.Answers.{Outcome}
 use Rattle.board.specs.Listening.{heardSays}
 use Rattle.board.proofs.Receiver.answer.Statement.{statement}
 use Rattle.board.proofs.Receiver.answer.Tie as tie
 
-abbrev told : tie.Start → Heard → Outcome × ℕ
-told c heard = heardSays (c .args .self) (settingsOf (c .args .self)) (c .args .all) (c .args .bits) heard
+abbrev says : tie.Start → Heard → Outcome × ℕ
+says c heard = heardSays (c .args .self) (settingsOf (c .args .self)) (c .args .all) (c .args .bits) heard
 
 enum-known-heard : tie.Need-enum-known-heard
 enum-known-heard c = search needs
@@ -40,19 +40,19 @@ none-requires-2 : tie.Need-none-requires-2
 none-requires-2 c κs = search needs
 
 returns : tie.Need-returns
-returns c = ap (told (c .before .before .before .before)) (c .before .before .heard .given .1) ∙ c .refused .ensures
+returns c = ap (says (c .before .before .before .before)) (c .before .before .heard .given .1) ∙ c .refused .ensures
 
 returns-2 : tie.Need-returns-2
-returns-2 c = ap (told (c .before .before .before .before)) (c .before .before .heard2 .given .1)
+returns-2 c = ap (says (c .before .before .before .before)) (c .before .before .heard2 .given .1)
     ∙ rw (← c .idle .ensures)
 
 returns-3 : tie.Need-returns-3
 returns-3 c =
-    ap (told (c .before .before .before .before .before)) (c .before .before .before .heard3 .given .1)
+    ap (says (c .before .before .before .before .before)) (c .before .before .before .heard3 .given .1)
     ∙ rw (c .before .idle2 .ensures, c .none .ensures)
 
 returns-4 : tie.Need-returns-4
-returns-4 c = ap (told (c .before .before .before .before)) (c .before .before .heard4 .given .1)
+returns-4 c = ap (says (c .before .before .before .before)) (c .before .before .heard4 .given .1)
     ∙ rw (c .none2 .ensures)
 
 pub answer-spec : {M : Type 1} → statement M

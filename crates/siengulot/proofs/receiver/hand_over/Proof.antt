@@ -7,23 +7,23 @@ use Rattle.siengulot.proofs.receiver.hand_over.Tie as tie
 enum-told : tie.Need-enum-told
 enum-told c = search needs
 
-keep-requires : tie.Need-keep-requires
-keep-requires c κs = search needs
+put-back-requires : tie.Need-put-back-requires
+put-back-requires c κs = search needs
 
 enum-told-2 : tie.Need-enum-told-2
 enum-told-2 c = search needs
 
-keep-requires-2 : tie.Need-keep-requires-2
-keep-requires-2 c κs = search needs
+put-back-requires-2 : tie.Need-put-back-requires-2
+put-back-requires-2 c κs = search needs
 
-enum-known-happened : tie.Need-enum-known-happened
-enum-known-happened c = search needs
+enum-known-came : tie.Need-enum-known-came
+enum-known-came c = search needs
 
-keep-requires-3 : tie.Need-keep-requires-3
-keep-requires-3 c κs = search needs
+put-back-requires-3 : tie.Need-put-back-requires-3
+put-back-requires-3 c κs = search needs
 
-enum-known-happened-2 : tie.Need-enum-known-happened-2
-enum-known-happened-2 c = search needs
+enum-known-came-2 : tie.Need-enum-known-came-2
+enum-known-came-2 c = search needs
 
 place-requires : tie.Need-place-requires
 place-requires c κs = search needs
@@ -32,28 +32,28 @@ number-requires : tie.Need-number-requires
 number-requires c κs = search needs
 
 returns : tie.Need-returns
-returns c = rw (c .before .before .before .enum-told .given .1, c .keep .ensures .0, c .keep .ensures .1)
+returns c = rw (c .before .before .before .enum-told .given .1, c .put-back .ensures .0, c .put-back .ensures .1)
 
 returns-2 : tie.Need-returns-2
-returns-2 c = rw (c .before .before .before .enum-told2 .given .1, c .keep2 .ensures .0, c .keep2 .ensures .1)
+returns-2 c = rw (c .before .before .before .enum-told2 .given .1, c .put-back2 .ensures .0, c .put-back2 .ensures .1)
 
 returns-3 : tie.Need-returns-3
-returns-3 c = rw (c .before .before .before .before .happened .given .1, c .keep3 .ensures .0, c .keep3 .ensures .1)
+returns-3 c = rw (c .before .before .before .before .came .given .1, c .put-back3 .ensures .0, c .put-back3 .ensures .1)
 
 returns-4 : tie.Need-returns-4
-returns-4 c = rw (c .before .before .before .happened2 .given .1, c .number .ensures, c .before .place .ensures)
+returns-4 c = rw (c .before .before .before .came2 .given .1, c .number .ensures, c .before .place .ensures)
 
 pub hand-over-spec : {M : Type 1} → statement M
 hand-over-spec =
     tie.close
     (tie.spec
     enum-told
-    keep-requires
+    put-back-requires
     enum-told-2
-    keep-requires-2
-    enum-known-happened
-    keep-requires-3
-    enum-known-happened-2
+    put-back-requires-2
+    enum-known-came
+    put-back-requires-3
+    enum-known-came-2
     place-requires
     number-requires
     returns

@@ -9,8 +9,8 @@ use Rattle.siengulot.proofs.receiver.siengulot_fresh.Tie as tie
 fresh-requires : tie.Need-fresh-requires
 fresh-requires c κs = search needs
 
-keep-requires : tie.Need-keep-requires
-keep-requires c κs = search needs
+put-back-requires : tie.Need-put-back-requires
+put-back-requires c κs = search needs
 
 enum-told : tie.Need-enum-told
 enum-told c = search needs
@@ -24,15 +24,15 @@ number-requires c κs = search needs
 returns : tie.Need-returns
 returns c =
     ap begunLent (c .before .before .before .before .before .before .fresh .ensures)
-    ∙ rw (c .enum-told .given .1, c .before .before .keep .ensures .0, c .before .before .keep .ensures .1)
+    ∙ rw (c .enum-told .given .1, c .before .before .put-back .ensures .0, c .before .before .put-back .ensures .1)
 
 returns-2 : tie.Need-returns-2
 returns-2 c =
     ap begunLent (c .before .before .before .before .before .before .before .before .fresh .ensures)
     ∙ rw (
       c .before .before .start .given .1,
-      c .before .before .before .before .keep .ensures .0,
-      c .before .before .before .before .keep .ensures .1,
+      c .before .before .before .before .put-back .ensures .0,
+      c .before .before .before .before .put-back .ensures .1,
       c .number .ensures,
     )
 
@@ -41,7 +41,7 @@ siengulot-fresh-spec =
     tie.close
     (tie.spec
     fresh-requires
-    keep-requires
+    put-back-requires
     enum-told
     enum-known-start
     number-requires

@@ -1,57 +1,38 @@
 -- `siengulot_well_formed` meets its contract: the two tests are the definition's.
 use borrow.Author.Needs.{needs}
-use mathlib.Core.Path.{_∙_}
-use borrow.Author.Tests.{not-true, not-false}
-use Rattle.siengulot.specs.Receivers.{wellFormedLent}
+use Rattle.measure.proofs.Both.{passed, failed}
+use Rattle.siengulot.proofs.Brought.{ill-formed, well-formed-brought}
 use Rattle.siengulot.proofs.receiver.siengulot_well_formed.Statement.{statement}
 use Rattle.siengulot.proofs.receiver.siengulot_well_formed.Tie as tie
 
-stands-requires : tie.Need-stands-requires
-stands-requires c κs = search needs
+numbers-fit-requires : tie.Need-numbers-fit-requires
+numbers-fit-requires c κs = search needs
 
 returns : tie.Need-returns
-unfolding wellFormedLent
-returns c = simp (c .before .stands .ensures, not-true (c .before .stands .result) (c .if1 .taken))
+returns c = ill-formed _ _ (failed (c .before .numbers-fit .ensures) (c .if1 .taken))
 
-receiver-of-requires : tie.Need-receiver-of-requires
-receiver-of-requires c κs = c .before .stands .ensures ∙ not-false (c .before .stands .result) (c .if1 .left)
+receiver-lent-requires : tie.Need-receiver-lent-requires
+receiver-lent-requires c κs = passed (c .before .numbers-fit .ensures) (c .if1 .left)
 
 well-formed-requires : tie.Need-well-formed-requires
 well-formed-requires c κs = search needs
 
+flag-requires : tie.Need-flag-requires
+flag-requires c κs = search needs
+
 returns-2 : tie.Need-returns-2
-unfolding wellFormedLent
 returns-2 c =
     let tested = c .before .before .before in
-    let stood = tested .before .stands in
-    simp (
-      stood .ensures,
-      not-false (stood .result) (tested .if1 .left),
-      c .before .before .receiver-of .ensures,
-      ← c .before .well-formed .ensures,
-      c .if2 .taken,
-    )
-
-returns-3 : tie.Need-returns-3
-unfolding wellFormedLent
-returns-3 c =
-    let tested = c .before .before .before in
-    let stood = tested .before .stands in
-    simp (
-      stood .ensures,
-      not-false (stood .result) (tested .if1 .left),
-      c .before .before .receiver-of .ensures,
-      ← c .before .well-formed .ensures,
-      c .if2 .left,
-    )
+    well-formed-brought _ _ (passed (tested .before .numbers-fit .ensures) (tested .if1 .left))
+    (c .before .before .receiver-lent .ensures) (c .before .well-formed .ensures) (c .flag .ensures)
 
 pub siengulot-well-formed-spec : {M : Type 1} → statement M
 siengulot-well-formed-spec =
     tie.close
     (tie.spec
-    stands-requires
+    numbers-fit-requires
     returns
-    receiver-of-requires
+    receiver-lent-requires
     well-formed-requires
-    returns-2
-    returns-3)
+    flag-requires
+    returns-2)
