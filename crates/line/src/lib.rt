@@ -10,7 +10,7 @@ ghost use Rattle.measure.specs.Lists.{onto};
 ghost use Rattle.measure.specs.Ranges.{cycleLength, entriesMost};
 ghost use Rattle.line.specs.Smooth.{smooth as smoothing};
 ghost use Rattle.line.specs.Warp.{cycleStart, reconcile as agree, look, dropped, warp as warping};
-ghost use Rattle.line.specs.Settle.{next as nextOf, settle as settling};
+ghost use Rattle.line.specs.Settle.{nextChoice, settle as settling};
 ghost use Rattle.line.specs.Sharing.{readCount};
 ghost use Rattle.line.specs.Answers.{smoothed, timed as isTimed, warped, settled, smoothedSays, readSays};
 use measure::CYCLE_LEAST;
@@ -291,7 +291,7 @@ pub fn warp(wave: &[u8], w: TimeUnits, r: TimeUnits, p: TimeUnits, out: &mut [u8
 
 // The choice behind those used, or low where there is none.
 fn choice(choices: &[u8], used: usize) -> u8
-    ensures { λ v. ⌜ nextOf (drop used (now (choices .entry))) ≡ v ⌝ }
+    ensures { λ v. ⌜ nextChoice (drop used (now (choices .entry))) ≡ v ⌝ }
 {
     if used < choices.len() {
         choices[used]
