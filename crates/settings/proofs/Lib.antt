@@ -3,3 +3,5 @@ pub mod Ranged
 pub mod Size
 pub mod Signs
 pub mod Inequalities
+pub mod BothEnds
+pub mod NearlyMet
