@@ -1,4 +1,5 @@
--- What one read does in each mode: either it makes the run Q, and the receiver is ready, or the rule of the mode decides.
+-- What one read does in each mode: either it makes the run Q, and the receiver is ready, or the rule of the mode
+-- decides.
 use mathlib.Core.Path.{_≡_, refl, ap, _∙_}
 use mathlib.Core.Bool.{Bool, true, false}
 use mathlib.Core.List.{List, [], _∷_, _++_}
@@ -86,7 +87,7 @@ module _ (k n Q : ℕ) where
       → next G (waiting v ρ bs) v ≡ silently (waiting v (runAfter Q ρ v) bs)
   waits-on v ρ bs h = calm-step (waiting v ρ bs) v h ∙ rw (eq-eqb v v refl)
 
-  pub marks : (v ρ : ℕ) (bs : List ℕ) → 1 < Q → v < 2 → (v ≡ 0 → ρ ≡ 0)
+  pub marks : (v ρ : ℕ) (bs : List ℕ) → 1 < Q → v ≤ 1 → (v ≡ 0 → ρ ≡ 0)
       → (σ : ℕ) × (σ ≤ 1) × (next G (waiting v ρ bs) (1 - v) ≡ silently (counting k (1 - v) σ bs))
   marks zero ρ bs p h z = (
     1,

@@ -1,6 +1,6 @@
 -- What a read looks at are the cycles that overlap it in time, these and no others, and so it is the level that they
--- all have: the first one
--- left is the first that ends after the read's start, and the look goes on just as long as cycles start before its end.
+-- all have: the first one left is the first that ends after the read's start, and the look goes on just as long as
+-- cycles start before its end.
 use mathlib.Core.Path.{_≡_, refl, sym}
 use mathlib.Core.Logic.{⊎-elim, dite}
 use mathlib.Core.List.{List}
