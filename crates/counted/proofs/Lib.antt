@@ -1,5 +1,5 @@
 pub mod CasesHold
 pub mod Marks
 pub mod Samples
-pub mod Unsampled
+pub mod LateMarks
 pub mod AllFound

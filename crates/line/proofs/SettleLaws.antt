@@ -66,7 +66,8 @@ pub settle-end : (reads choices : List ℕ) (i : ℕ) → length reads ≤ i →
 unfolding settle
 settle-end reads choices i h = rw (drop-of-length-le reads h)
 
-pub next-there : (choices : List ℕ) (used : ℕ) → used < length choices → nextChoice (drop used choices) ≡ getD choices used 0
+pub next-there : (choices : List ℕ) (used : ℕ) → used < length choices
+    → nextChoice (drop used choices) ≡ getD choices used 0
 next-there choices used h = rw (drop-cons choices used 0 h)
 
 pub next-none : (choices : List ℕ) (used : ℕ) → length choices ≤ used → nextChoice (drop used choices) ≡ 0

@@ -38,7 +38,7 @@ module _ {starts reads : ℕ → ℕ} (clocks : Clocks starts reads) (levels : L
 
   pub shared-looked-at : (i : ℕ) → Shares starts reads j i → LooksAt starts reads levels j i
   shared-looked-at i shares = record {
-    left = still-left i (shares .after-the-start);
+    left = still-left i (omega (arith, shares .after-the-start));
     over = λ m left before. omega (arith, shares .before-the-end, cycles-in-order clocks (suc m) i before);
   }
 

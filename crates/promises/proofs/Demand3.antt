@@ -17,7 +17,7 @@ use Rattle.line.proofs.ClockBounds.{cycle-clock, read-clock}
 use Rattle.line.proofs.SmoothBy.{smoothBy}
 use Rattle.line.proofs.LineLaws.{Reads, over-levels, over-reads}
 use Rattle.board.specs.Rows.{State, fresh, ready, next}
-use Rattle.board.specs.Feeding.{Report, afterBy, reportsBy}
+use Rattle.board.specs.Feeding.{Report, Step, afterBy, reportsBy}
 use Rattle.promises.specs.Places.{Link, planReads, cyclesOf, withinLead, heard, deliveries}
 use Rattle.promises.specs.Replaced.{WhollyAfter, below, moved}
 use Rattle.promises.specs.Demand3.{RowsFit, Fitting, receiverSettings, Demand3Holds, GroundsHold}
@@ -28,6 +28,9 @@ use Rattle.promises.proofs.Recovery.{before-stretch, after-stretch, Rec
 use Rattle.promises.proofs.Deliveries.{lead-enough, heard-is, placed-is}
 
 module _ (x : Link) (fits : Fitting x) where
+  abbrev G : Step
+  G = next (receiverSettings x)
+
   -- M2 leaves no room for a read that takes no time, and M4 none for a quiet count of 0
   pub timed : 0 < x .r
   timed = lt-of-mul-lt-mul-left (x .k) (omega (arith, leb-true, rw m2-met at (fits .m2), fits .phase))
@@ -67,7 +70,7 @@ module _ (x : Link) (fits : Fitting x) where
       (plan-levels (x .a) (x .b) (x .rows)) (fits .choices)
 
   -- with nothing replaced
-  pub whole : reportsBy (next (receiverSettings x)) fresh 0 (planReads x) ≡ deliveries x 0 (x .rows)
+  pub whole : reportsBy G fresh 0 (planReads x) ≡ deliveries x 0 (x .rows)
   whole =
       placed-is x some-Q fit
       (undamaged (cycle-clock (x .w)) (read-clock (x .p) (x .r)) timed (omega arith) (omega (arith, fits .phase))
@@ -87,8 +90,8 @@ module _ (x : Link) (fits : Fitting x) where
       pub from : j ≤ h
       pub there : h < length (planReads x)
       pub enough : x .Q ≤ length (withinLead x c row)
-      pub readies : (s : State) → afterBy (next (receiverSettings x)) s (take (suc h - j) (drop j (planReads x))) ≡ ready (x .Q)
-      pub told : reportsBy (next (receiverSettings x)) (ready (x .Q)) (suc h) (drop (suc h) (planReads x))
+      pub readies : (s : State) → afterBy G s (take (suc h - j) (drop j (planReads x))) ≡ ready (x .Q)
+      pub told : reportsBy G (ready (x .Q)) (suc h) (drop (suc h) (planReads x))
           ≡ deliveries x c (row ∷ later)
 
     pub heard-row : Heard
@@ -97,10 +100,10 @@ module _ (x : Link) (fits : Fitting x) where
       there = omega (arith, rec .there, eq);
       enough = lead-enough x c row (rec .i0) (rec .lead) (rec .there);
       readies =
-          λ s. subst (λ (e : ℕ). afterBy (next (receiverSettings x)) s (take (e - j) (drop j (planReads x))) ≡ ready (x .Q))
+          λ s. subst (λ (e : ℕ). afterBy G s (take (e - j) (drop j (planReads x))) ≡ ready (x .Q))
           (sym eq) (rec .readies s);
       told =
-          subst (λ (e : ℕ). reportsBy (next (receiverSettings x)) (ready (x .Q)) e (drop e (planReads x))
+          subst (λ (e : ℕ). reportsBy G (ready (x .Q)) e (drop e (planReads x))
           ≡ deliveries x c (row ∷ later)) (sym eq)
           (placed-is x some-Q
           (later-fit (x .n) (x .Q) 1 (x .w) (x .r) earlier (row ∷ later)
@@ -135,8 +138,8 @@ grounds x fits = record {
   leads = λ earlier row later same. any earlier row later same .enough;
   samples =
       rw (← whole x fits)
-      (all-fed (next (receiverSettings x)) (λ at. ltb at (length (planReads x))) (planReads x) 0 fresh λ at p q. lt-ltb at
-      (length (planReads x)) (omega arith));
+      (all-fed (next (receiverSettings x)) (λ at. ltb at (length (planReads x))) (planReads x) 0 fresh
+      (λ at p q. lt-ltb at (length (planReads x)) (omega arith)));
   heard-after = λ j earlier row later same wholly. heard-row x fits j earlier row later same wholly .from;
   sampled-after = λ earlier row later same.
       let h : ℕ = heard x (cyclesOf x earlier) row in

@@ -21,7 +21,7 @@ use Rattle.line.proofs.LineLaws.{lineBy, Reads, line-reads}
 use Rattle.line.proofs.KnownCycles.{Known, stays-high, stays-low}
 use Rattle.counted.specs.Counted.{counted}
 use Rattle.counted.proofs.Samples.{counted-step}
-use Rattle.counted.proofs.Unsampled.{unsampled}
+use Rattle.counted.proofs.LateMarks.{counted-late}
 
 -- the mark of a single 1 is the only low of its wave
 low-in-mark : (a b p1 p2 c : ℕ) → getD (wave a b p1 p2 (1 ∷ [])) c 2 ≡ 0 → c < p1 + a
@@ -120,7 +120,7 @@ module _ (a b g k w r p p1 p2 j x m : ℕ) (pos : 0 < r) (below : p < w) (lies :
   -- M3 is minus two or less, and there is no trail: the sample would be read past the wave's end
   pub late-sample : p2 ≡ 0 → (a + b) * w + 2 ≤ (k + 2) * r + g * w → counted k 1 1 R ≡ []
   late-sample none m3 =
-      unsampled R k 1 1 (j + 1) (λ i p q. high-to i (omega arith) q)
+      counted-late k 1 1 R (j + 1) 2 (λ i p q. high-to i (omega arith) q)
       (dite (decLe (length R) (j + 1 + k)) (λ h. h)
       (λ h. absurd (omega (arith, rw shape at (ends (j + 1 + k) (omega arith))))))
     where
@@ -132,7 +132,7 @@ pub short-mark : (a b g k w r p p1 p2 j m : ℕ) → 0 < r → p < w → p + j *
     → length (unsettled g w r p (wave a b p1 p2 (1 ∷ []))) ≤ m → a * w + 2 ≤ 2 * r + g * w
     → counted k 1 1 (settledHigh g w r p m (wave a b p1 p2 (1 ∷ []))) ≡ []
 short-mark a b g k w r p p1 p2 j m pos below lies enough m1 =
-    unsampled reads k 1 1 (length reads)
+    counted-late k 1 1 reads (length reads) 2
     (λ q y h. dite (decLe q j) (λ le. high-to a b g k w r p p1 p2 j 1 m pos below lies enough q le h)
     (λ gt. high q h gt)) (omega arith)
   where
@@ -171,7 +171,7 @@ pub early-sample : (a b g k w r p p1 p2 : ℕ) → 0 < a → 0 < g → 0 < k →
     → counted k 1 1 (settledLow g w r p (wave a b p1 p2 (1 ∷ []))) ≢ 1 ∷ []
 early-sample a b g k w r p p1 p2 ha hg hk pos below touches early same =
     dite (decLe (suc k) (length reads)) sampled-low
-    (λ h. let none : [] ≡ 1 ∷ [] = sym (unsampled reads k 1 1 0 (λ i p q. absurd (omega arith)) (omega arith))
+    (λ h. let none : [] ≡ 1 ∷ [] = sym (counted-late k 1 1 reads 0 2 (λ i p q. absurd (omega arith)) (omega arith))
     ∙ same in omega (arith, ap length none))
   where
     sent : List ℕ

@@ -162,7 +162,8 @@ module _ {tw tr S D : ℕ → ℕ} {w1 w2 r1 r2 end : ℕ} (wclk : Clock tw w1 w
             (suc s + (m′ - suc s)) (waiting (codeLevel v x) τ (bs ++ (x ∷ [])))
             → Onward m′
         mark σ h f (τ, p, z, w) =
-            go (marks k n Q (codeLevel v x) τ (bs ++ (x ∷ [])) two (code-level-most v x lv) (λ e. z e (sampled-low σ e)))
+            go (marks k n Q (codeLevel v x) τ (bs ++ (x ∷ [])) two (code-level-most v x lv)
+            (λ e. z e (sampled-low σ e)))
           where
             to-wait : next (rules k n Q) (counting 1 (1 - v) σ bs) (D s)
                 ≡ silently (waiting (codeLevel v x) (runAfter Q σ (D s)) (bs ++ (x ∷ [])))

@@ -37,7 +37,8 @@ unfolding planWave wave cells
 wholly-after i read lo hi here shares = omega (arith, shares .before-the-end)
 
 pub tried : Tried
-unfolding planReads overTheLine settle warp warpFrom look dropped smoothFrom planWave wave cells next reportsBy fromMark placesWhere numbered withinLead heard markPlace samplePlace lastSample deliveries reportsAt moved
+unfolding planReads overTheLine settle warp warpFrom look dropped smoothFrom planWave wave cells next reportsBy fromMark
+    placesWhere numbered withinLead heard markPlace samplePlace lastSample deliveries reportsAt moved
 tried = record {
   fits = fitting;
   demand = demand-3 p10 fitting;

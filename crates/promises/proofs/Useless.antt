@@ -21,13 +21,15 @@ use Rattle.promises.specs.Useless.{ShutOut}
 
 too-few : (step : Step) → length (below 117 (reportsBy step fresh 0 (damaged p10 117 117 []))) < 2 → Demand3 p10 step
     → ⊥
-unfolding planReads overTheLine settle warp warpFrom look dropped smoothFrom planWave wave cells fromMark placesWhere numbered withinLead heard markPlace samplePlace lastSample deliveries reportsAt
+unfolding planReads overTheLine settle warp warpFrom look dropped smoothFrom planWave wave cells fromMark placesWhere
+    numbered withinLead heard markPlace samplePlace lastSample deliveries reportsAt
 too-few step few demand =
     let two = ap (λ (l : List Report). length l) (demand .before 117 117 [] (omega arith) (omega arith)) in
     omega arith
 
 pub shut-out : ShutOut
-unfolding planReads overTheLine settle warp warpFrom look dropped smoothFrom planWave wave cells next reportsBy reportsAt
+unfolding planReads overTheLine settle warp warpFrom look dropped smoothFrom planWave wave cells next reportsBy
+    reportsAt
 shut-out = record {
   refusing = too-few _ (omega arith);
   leaving = too-few _ (omega arith);
