@@ -9,3 +9,7 @@ pub mod KeepingLaws
 pub mod CellLaws
 pub mod ListenedLaws
 pub mod WellFormedStays
+pub mod ReportPlaces
+pub mod RowSteps
+pub mod Goes
+pub mod Fed

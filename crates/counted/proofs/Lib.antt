@@ -1,3 +1,5 @@
 pub mod CasesHold
 pub mod Marks
 pub mod Samples
+pub mod LateMarks
+pub mod AllFound

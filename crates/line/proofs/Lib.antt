@@ -1,6 +1,6 @@
 pub mod CasesHold
-pub mod Entries
 pub mod Clocks
+pub mod ClockBounds
 pub mod LookSteps
 pub mod LookLaws
 pub mod FirstLeft
@@ -8,9 +8,11 @@ pub mod ReadsThere
 pub mod SharedCycles
 pub mod WarpLaws
 pub mod SmoothLaws
+pub mod SmoothBy
 pub mod SettleLaws
 pub mod AgreeLaws
 pub mod UnderWay
 pub mod Times
 pub mod WarpRun
 pub mod LineLaws
+pub mod KnownCycles

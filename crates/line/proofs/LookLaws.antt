@@ -8,8 +8,8 @@ use native.Mathlib.Decide.{ℕ-discrete, decLt}
 use native.Mathlib.Omega.{arith}
 use lib.ListN.{length, drop, getD}
 use borrow.Author.Tests.{lt-ltb, le-ltb, eq-eqb, ne-eqb}
+use Rattle.measure.specs.Levels.{AtMost}
 use Rattle.line.specs.Warp.{reconcile, look}
-use Rattle.line.proofs.Entries.{AtMost, most-first}
 use Rattle.line.proofs.Clocks.{in-order}
 use Rattle.line.proofs.LookSteps.{look-more, look-last}
 
@@ -69,9 +69,9 @@ look-most starts t i [] all = omega arith
 look-most starts t i (level ∷ levels) all =
     dite (decLt (starts (suc i)) t)
     (λ more. rw (lt-ltb (starts (suc i)) t more) (reconciled (look starts t (suc i) levels)))
-    (λ last. rw (le-ltb (starts (suc i)) t (omega arith)) (most-first 2 level levels all))
+    (λ last. rw (le-ltb (starts (suc i)) t (omega arith)) (all .0))
   where
     reconciled : (rest : ℕ) → reconcile level rest ≤ 2
     reconciled rest =
-        dite (ℕ-discrete level rest) (λ e. rw (eq-eqb level rest e) (most-first 2 level levels all))
+        dite (ℕ-discrete level rest) (λ e. rw (eq-eqb level rest e) (all .0))
         (λ n. rw (ne-eqb level rest n) (omega arith))

@@ -10,9 +10,10 @@ use native.Mathlib.Omega.{arith}
 use lib.ListN.{length, drop, getD}
 use lib.Seq.{drop-drop}
 use borrow.Author.Tests.{le-leb, lt-leb}
+use Rattle.measure.specs.Levels.{AtMost}
+use Rattle.measure.proofs.LevelLaws.{getD-any, most-by-places, most-drop}
 use Rattle.line.specs.Warp.{look, dropped, warpFrom, warpBy}
 use Rattle.line.specs.Sharing.{firstLeft}
-use Rattle.line.proofs.Entries.{AtMost, getD-any, most-drop}
 use Rattle.line.proofs.Clocks.{Clocks, reads-in-order, reads-take}
 use Rattle.line.proofs.LookLaws.{look-most}
 
@@ -105,8 +106,9 @@ module _ {starts reads : ℕ → ℕ} (clocks : Clocks starts reads) (levels : L
 
   -- no read is more than unknown
   pub reads-most : AtMost 2 levels → AtMost 2 (warpBy starts reads levels)
-  reads-most all j h =
-      rw (getD-any (warpBy starts reads levels) j 0 2 h, read-looks j h)
+  reads-most all =
+      most-by-places 2 (warpBy starts reads levels) λ j h. rw
+      (getD-any (warpBy starts reads levels) j 0 2 h, read-looks j h)
       (look-most starts (reads (suc j)) (firstLeft starts reads levels j)
       (drop (firstLeft starts reads levels j) levels)
       (most-drop 2 (firstLeft starts reads levels j) levels all))

@@ -10,8 +10,9 @@ use native.Mathlib.Omega.{arith}
 use lib.ListN.{length, drop, getD, drop-of-length-le}
 use lib.Seq.{drop-cons, drop-drop}
 use borrow.Author.Tests.{eq-eqb, ne-eqb}
-use Rattle.line.specs.Settle.{next, settle}
-use Rattle.line.proofs.Entries.{AtMost, most-none, most-more, most-first, most-rest}
+use Rattle.line.specs.Settle.{nextChoice, settle}
+use Rattle.measure.specs.Levels.{AtMost, Levels}
+use Rattle.measure.proofs.LevelLaws.{most-drop}
 
 pub length-settle : (reads choices : List ℕ) → length (settle reads choices) ≡ length reads
 unfolding settle
@@ -32,33 +33,26 @@ settle-keeps (read ∷ reads) choices (suc j) known =
     (λ unknown. rw (eq-eqb read 2 unknown) (settle-keeps reads (drop 1 choices) j known))
     (λ this. rw (ne-eqb read 2 this) (settle-keeps reads choices j known))
 
-next-most : (choices : List ℕ) → AtMost 1 choices → next choices ≤ 1
+next-most : (choices : List ℕ) → Levels choices → nextChoice choices ≤ 1
 next-most [] all = omega arith
-next-most (choice ∷ choices) all = most-first 1 choice choices all
-
-others-most : (choices : List ℕ) → AtMost 1 choices → AtMost 1 (drop 1 choices)
-others-most [] all = most-none 1
-others-most (choice ∷ choices) all = most-rest 1 choice choices all
+next-most (choice ∷ choices) all = all .0
 
 -- every settled read is a level, 0 or 1, if the choices are
-pub settle-most : (reads choices : List ℕ) → AtMost 2 reads → AtMost 1 choices → AtMost 1 (settle reads choices)
+pub settle-most : (reads choices : List ℕ) → AtMost 2 reads → Levels choices → Levels (settle reads choices)
 unfolding settle
-settle-most [] choices all levels = most-none 1
+settle-most [] choices all levels = tt
 settle-most (read ∷ reads) choices all levels =
     dite (ℕ-discrete read 2)
     (λ unknown.
     rw (eq-eqb read 2 unknown)
-    (most-more 1 (next choices) (settle reads (drop 1 choices)) (next-most choices levels)
-    (settle-most reads (drop 1 choices) (most-rest 2 read reads all) (others-most choices levels))))
+    (next-most choices levels, settle-most reads (drop 1 choices) (all .1) (most-drop 1 1 choices levels)))
     (λ known.
-    rw (ne-eqb read 2 known)
-    (most-more 1 read (settle reads choices) (omega (arith, most-first 2 read reads all))
-    (settle-most reads choices (most-rest 2 read reads all) levels)))
+    rw (ne-eqb read 2 known) (omega (arith, all .0), settle-most reads choices (all .1) levels))
 
 -- from a place on, for a loop that counts by one
 pub settle-unknown : (reads choices : List ℕ) (i used : ℕ) → i < length reads → getD reads i 0 ≡ 2
     → settle (drop i reads) (drop used choices)
-    ≡ next (drop used choices) ∷ settle (drop (i + 1) reads) (drop (used + 1) choices)
+    ≡ nextChoice (drop used choices) ∷ settle (drop (i + 1) reads) (drop (used + 1) choices)
 unfolding settle
 settle-unknown reads choices i used h unknown =
     rw (drop-cons reads i 0 h, eq-eqb (getD reads i 0) 2 unknown, drop-drop 1 used choices, add-one i)
@@ -72,8 +66,9 @@ pub settle-end : (reads choices : List ℕ) (i : ℕ) → length reads ≤ i →
 unfolding settle
 settle-end reads choices i h = rw (drop-of-length-le reads h)
 
-pub next-there : (choices : List ℕ) (used : ℕ) → used < length choices → next (drop used choices) ≡ getD choices used 0
+pub next-there : (choices : List ℕ) (used : ℕ) → used < length choices
+    → nextChoice (drop used choices) ≡ getD choices used 0
 next-there choices used h = rw (drop-cons choices used 0 h)
 
-pub next-none : (choices : List ℕ) (used : ℕ) → length choices ≤ used → next (drop used choices) ≡ 0
+pub next-none : (choices : List ℕ) (used : ℕ) → length choices ≤ used → nextChoice (drop used choices) ≡ 0
 next-none choices used h = rw (drop-of-length-le choices h)

@@ -1,6 +1,6 @@
 -- What a read looks at are the cycles that overlap it in time, these and no others, and so it is the level that they
--- all have: the first one
--- left is the first that ends after the read's start, and the look goes on just as long as cycles start before its end.
+-- all have: the first one left is the first that ends after the read's start, and the look goes on just as long as
+-- cycles start before its end.
 use mathlib.Core.Path.{_≡_, refl, sym}
 use mathlib.Core.Logic.{⊎-elim, dite}
 use mathlib.Core.List.{List}
@@ -38,8 +38,8 @@ module _ {starts reads : ℕ → ℕ} (clocks : Clocks starts reads) (levels : L
 
   pub shared-looked-at : (i : ℕ) → Shares starts reads j i → LooksAt starts reads levels j i
   shared-looked-at i shares = record {
-    left = still-left i (shares .after-the-start);
-    onward = λ m left before. omega (arith, shares .before-the-end, cycles-in-order clocks (suc m) i before);
+    left = still-left i (omega (arith, shares .after-the-start));
+    over = λ m left before. omega (arith, shares .before-the-end, cycles-in-order clocks (suc m) i before);
   }
 
   pub looks-at-shared : (i : ℕ) → i < length levels → LooksAt starts reads levels j i → Shares starts reads j i
@@ -52,13 +52,13 @@ module _ {starts reads : ℕ → ℕ} (clocks : Clocks starts reads) (levels : L
       at-first e = rw (← e) (omega (arith, first .begun, clocks .reads-on j))
 
       later : firstLeft starts reads levels j < i → starts i < reads (suc j)
-      later after = before-this i after (looks .onward)
+      later after = before-this i after (looks .over)
         where
           before-this : (i : ℕ) → firstLeft starts reads levels j < i
               → ((m : ℕ) → firstLeft starts reads levels j ≤ m → m < i → starts (suc m) < reads (suc j))
               → starts i < reads (suc j)
-          before-this zero after onward = absurd (omega arith)
-          before-this (suc m) after onward = onward m (omega arith) (omega arith)
+          before-this zero after over = absurd (omega arith)
+          before-this (suc m) after over = over m (omega arith) (omega arith)
 
   -- what the read looks at makes it what it should be
   look-is : reads (suc j) ≤ starts (length levels) → ReadIs starts reads levels j (readAt starts reads levels j)

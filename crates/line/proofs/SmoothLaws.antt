@@ -11,9 +11,9 @@ use lib.Seq.{drop-cons}
 use lib.Dec.{eqb}
 use borrow.Author.Tests.{eq-eqb, ne-eqb}
 use Rattle.measure.specs.Choose.{choose}
+use Rattle.measure.specs.Levels.{AtMost, Levels}
 use Rattle.line.specs.Smooth.{smoothFrom, smooth}
 use Rattle.line.specs.Warp.{reconcile}
-use Rattle.line.proofs.Entries.{AtMost, most-none, most-more, most-first, most-rest}
 
 -- what a cycle becomes, from the level before and its own
 abbrev pub smoothOne : ℕ → ℕ → ℕ
@@ -53,16 +53,14 @@ pub smooth-keeps-first : (levels : List ℕ) → 0 < length levels → getD leve
 smooth-keeps-first levels h this = rw (smooth-first 1 levels h, this)
 
 -- no cycle becomes more than unknown
-pub smooth-most : (before : ℕ) (levels : List ℕ) → AtMost 1 levels → AtMost 2 (smoothFrom before levels)
+pub smooth-most : (before : ℕ) (levels : List ℕ) → Levels levels → AtMost 2 (smoothFrom before levels)
 unfolding smoothFrom
-smooth-most before [] all = most-none 2
-smooth-most before (level ∷ levels) all =
-    most-more 2 (smoothOne before level) (smoothFrom level levels) this
-    (smooth-most level levels (most-rest 1 level levels all))
+smooth-most before [] all = tt
+smooth-most before (level ∷ levels) all = (this, smooth-most level levels (all .1))
   where
     this : smoothOne before level ≤ 2
     this =
-        dite (ℕ-discrete before level) (λ e. rw (eq-eqb before level e) (omega (arith, most-first 1 level levels all)))
+        dite (ℕ-discrete before level) (λ e. rw (eq-eqb before level e) (omega (arith, all .0)))
         (λ n. rw (ne-eqb before level n) (omega arith))
 
 -- what a cycle becomes is what it and the one before agree on

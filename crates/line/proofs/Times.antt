@@ -1,44 +1,34 @@
 -- Times that pass the test of their ranges are in them: each part of a conjunction that holds does.
-use mathlib.Core.Path.{_≡_, refl}
-use mathlib.Core.Bool.{Bool, true, false, _&&_}
+use mathlib.Core.Path.{_≡_}
+use mathlib.Core.Bool.{true}
 use Prim.Native.Nat.{ℕ, _+_, _*_, _<_, _≤_}
 use native.Mathlib.Nat.{mul-le-mul, mul-le-mul-right, lt-of-mul-lt-mul-right}
 use native.Mathlib.Omega.{arith}
 use borrow.Author.Tests.{ltb-true, leb-true}
 use lib.Dec.{leb, ltb}
 use Rattle.measure.specs.Ranges.{cycleLength, entriesMost}
+use Rattle.measure.proofs.Both.{both, both-3}
 use Rattle.line.specs.Answers.{timed}
-
-and-left : (a b : Bool) → (a && b) ≡ true → a ≡ true
-and-left true b h = refl
-and-left false b h = h
-
-and-right : (a b : Bool) → (a && b) ≡ true → b ≡ true
-and-right true b h = h
-and-right false b h = absurd (never h)
-  where
-    never : false ≡ true → ⊥
-    never e = let z : _≡_ {A = ℕ} 0 1 = cc in omega arith
 
 module _ (x : ℕ) (fits : cycleLength x ≡ true) where
   pub cycle-least : 1 ≤ x
-  cycle-least = leb-true 1 x (and-left (leb 1 x) (leb x 65535) fits)
+  cycle-least = leb-true 1 x (both (leb 1 x) (leb x 65535) fits .0)
 
   pub cycle-most : x ≤ 65535
-  cycle-most = leb-true x 65535 (and-right (leb 1 x) (leb x 65535) fits)
+  cycle-most = leb-true x 65535 (both (leb 1 x) (leb x 65535) fits .1)
 
 module _ (w r p : ℕ) (fits : timed w r p ≡ true) where
-  lengths : (cycleLength w && cycleLength r) ≡ true
-  lengths = and-left (cycleLength w && cycleLength r) (ltb p w) fits
+  parts : (cycleLength w ≡ true) × (cycleLength r ≡ true) × (ltb p w ≡ true)
+  parts = both-3 (cycleLength w) (cycleLength r) (ltb p w) fits
 
   pub timed-w : cycleLength w ≡ true
-  timed-w = and-left (cycleLength w) (cycleLength r) lengths
+  timed-w = parts .0
 
   pub timed-r : cycleLength r ≡ true
-  timed-r = and-right (cycleLength w) (cycleLength r) lengths
+  timed-r = parts .1
 
   pub timed-p : p < w
-  timed-p = ltb-true p w (and-right (cycleLength w && cycleLength r) (ltb p w) fits)
+  timed-p = ltb-true p w (parts .2)
 
 -- so many cycles of a length in range take a time that fits a number of the code
 pub product-most : (n w : ℕ) → n ≤ 2 * entriesMost → cycleLength w ≡ true → n * w ≤ 137436856320

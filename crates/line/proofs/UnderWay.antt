@@ -71,8 +71,7 @@ module _ (starts : ℕ → ℕ) (t : ℕ) (levels : List ℕ) where
       (way .more (omega arith) ∙ is, way .gone (omega arith) ∙ leaves)
 
   -- The last cycle looked at does not end before the read, and the next takes time: the read is what is found, and that
-  -- cycle is left unless
-  -- it ends with the read.
+  -- cycle is left unless it ends with the read.
   pub way-ends : (read left level next end v u : ℕ) → UnderWay starts t levels read left level next → starts next ≡ end
       → t ≤ end
       → starts next < starts (suc next) → level ≡ v → choose (ltb t end) (next - 1) next ≡ u → (read ≡ v) × (left ≡ u)

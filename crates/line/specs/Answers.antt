@@ -16,18 +16,18 @@ use Rattle.line.specs.declared.Read.{Read}
 use Rattle.line.specs.declared.Read.the-variants.{Reads, Refused}
 
 -- smooth takes levels: a 2 is refused
-unfoldable pub smoothed : List ℕ → List ℕ → Answer ℕ × List ℕ
+unfoldable pub smoothed : (levels output : List ℕ) → Answer ℕ × List ℕ
 smoothed levels output =
     limited entriesMost (length levels) output
     (entered 1 levels output
     (lent (smooth levels) output))
 
 -- w and r are in range and p is below w
-abbrev pub timed : ℕ → ℕ → ℕ → Bool
+abbrev pub timed : (w r p : ℕ) → Bool
 timed w r p = cycleLength w && cycleLength r && ltb p w
 
 -- warp takes levels and unknowns; refusal 3 also where the reads would be over the limit
-unfoldable pub warped : ℕ → ℕ → ℕ → List ℕ → List ℕ → Answer ℕ × List ℕ
+unfoldable pub warped : (w r p : ℕ) (levels output : List ℕ) → Answer ℕ × List ℕ
 warped w r p levels output =
     ranged (timed w r p) output
     (limited entriesMost (length levels) output
@@ -36,7 +36,7 @@ warped w r p levels output =
     (lent (warp w r p levels) output))))
 
 -- settle takes reads, known or not, and choices; a bad read is found before a bad choice
-unfoldable pub settled : List ℕ → List ℕ → List ℕ → Answer ℕ × List ℕ
+unfoldable pub settled : (reads choices output : List ℕ) → Answer ℕ × List ℕ
 settled reads choices output =
     limited entriesMost (length reads) output
     (limited entriesMost (length choices) output

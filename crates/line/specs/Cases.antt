@@ -7,32 +7,32 @@ use Rattle.line.specs.Warp.{warp}
 use Rattle.line.specs.Settle.{settle}
 
 -- the wave that P1 prints
-abbrev sent : List ℕ
-sent = 1 ∷ 1 ∷ 0 ∷ 0 ∷ 1 ∷ 1 ∷ 1 ∷ 0 ∷ 0 ∷ 0 ∷ 0 ∷ 0 ∷ 1 ∷ []
+abbrev sentWave : List ℕ
+sentWave = 1 ∷ 1 ∷ 0 ∷ 0 ∷ 1 ∷ 1 ∷ 1 ∷ 0 ∷ 0 ∷ 0 ∷ 0 ∷ 0 ∷ 1 ∷ []
 
 -- what P2 prints of it
-abbrev smoothed : List ℕ
-smoothed = 1 ∷ 1 ∷ 2 ∷ 0 ∷ 2 ∷ 1 ∷ 1 ∷ 2 ∷ 0 ∷ 0 ∷ 0 ∷ 0 ∷ 2 ∷ []
+abbrev smoothedWave : List ℕ
+smoothedWave = 1 ∷ 1 ∷ 2 ∷ 0 ∷ 2 ∷ 1 ∷ 1 ∷ 2 ∷ 0 ∷ 0 ∷ 0 ∷ 0 ∷ 2 ∷ []
 
 -- what P3 prints of that
-abbrev warped : List ℕ
-warped = 1 ∷ 2 ∷ 2 ∷ 2 ∷ 2 ∷ 1 ∷ 2 ∷ 2 ∷ 0 ∷ 0 ∷ 0 ∷ 2 ∷ []
+abbrev warpedReads : List ℕ
+warpedReads = 1 ∷ 2 ∷ 2 ∷ 2 ∷ 2 ∷ 1 ∷ 2 ∷ 2 ∷ 0 ∷ 0 ∷ 0 ∷ 2 ∷ []
 
 abbrev P2 : Case
-P2 = record { kind = List ℕ; gives = smooth sent; printed = smoothed }
+P2 = record { kind = List ℕ; gives = smooth sentWave; printed = smoothedWave }
 
 -- P3: w 4, r 4, at phase 1 and at phase 0
 abbrev P3-1 : Case
-P3-1 = record { kind = List ℕ; gives = warp 4 4 1 smoothed; printed = warped }
+P3-1 = record { kind = List ℕ; gives = warp 4 4 1 smoothedWave; printed = warpedReads }
 
 abbrev P3-0 : Case
-P3-0 = record { kind = List ℕ; gives = warp 4 4 0 smoothed; printed = smoothed }
+P3-0 = record { kind = List ℕ; gives = warp 4 4 0 smoothedWave; printed = smoothedWave }
 
 -- P4: choices 1 0 0 1
 abbrev P4 : Case
 P4 = record {
   kind = List ℕ;
-  gives = settle warped (1 ∷ 0 ∷ 0 ∷ 1 ∷ []);
+  gives = settle warpedReads (1 ∷ 0 ∷ 0 ∷ 1 ∷ []);
   printed = 1 ∷ 1 ∷ 0 ∷ 0 ∷ 1 ∷ 1 ∷ 0 ∷ 0 ∷ 0 ∷ 0 ∷ 0 ∷ 0 ∷ [];
 }
 

@@ -6,12 +6,12 @@ use lib.Dec.{eqb}
 use Rattle.measure.specs.Choose.{choose}
 
 -- the next choice; where none is left it is low
-abbrev pub next : List ℕ → ℕ
-next [] = 0
-next (choice ∷ choices) = choice
+abbrev pub nextChoice : List ℕ → ℕ
+nextChoice [] = 0
+nextChoice (choice ∷ choices) = choice
 
 -- An unknown read becomes the next choice, which is then used up. A known read stays and leaves the choices alone.
 unfoldable pub settle : List ℕ → List ℕ → List ℕ
 settle [] choices = []
 settle (read ∷ reads) choices =
-    choose (eqb read 2) (next choices ∷ settle reads (drop 1 choices)) (read ∷ settle reads choices)
+    choose (eqb read 2) (nextChoice choices ∷ settle reads (drop 1 choices)) (read ∷ settle reads choices)

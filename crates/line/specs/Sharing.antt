@@ -11,7 +11,7 @@ pub record Shares (starts reads : ℕ → ℕ) (j i : ℕ) : Type 0 where
   pub after-the-start : reads j < starts (suc i)
 
 -- the first cycle that is left for read j: each read drops the cycles that end at or before its own end
-unfoldable pub firstLeft : (ℕ → ℕ) → (ℕ → ℕ) → List ℕ → ℕ → ℕ
+unfoldable pub firstLeft : (starts reads : ℕ → ℕ) (levels : List ℕ) (j : ℕ) → ℕ
 firstLeft starts reads levels zero = 0
 firstLeft starts reads levels (suc j) =
     firstLeft starts reads levels j
@@ -20,7 +20,7 @@ firstLeft starts reads levels (suc j) =
 -- read j looks at cycle i: it comes to it from the first one left, over cycles that are all over before the read is
 pub record LooksAt (starts reads : ℕ → ℕ) (levels : List ℕ) (j i : ℕ) : Type 0 where
   pub left : firstLeft starts reads levels j ≤ i
-  pub onward : (m : ℕ) → firstLeft starts reads levels j ≤ m → m < i → starts (suc m) < reads (suc j)
+  pub over : (m : ℕ) → firstLeft starts reads levels j ≤ m → m < i → starts (suc m) < reads (suc j)
 
 -- v is read j: the level that the cycles sharing time with it all have, and otherwise unknown
 pub record ReadIs (starts reads : ℕ → ℕ) (levels : List ℕ) (j v : ℕ) : Type 0 where
@@ -30,7 +30,7 @@ pub record ReadIs (starts reads : ℕ → ℕ) (levels : List ℕ) (j v : ℕ) :
   pub known : (v ≡ 2 → ⊥) → (i : ℕ) → i < length levels → Shares starts reads j i → getD levels i 2 ≡ v
 
 -- how many reads so many cycles have: as many whole reads as fit between the phase and their end, and none of no cycle
-abbrev pub readCount : ℕ → ℕ → ℕ → ℕ → ℕ
+abbrev pub readCount : (w r p cycles : ℕ) → ℕ
 readCount w r p zero = 0
 readCount w r p (suc cycles) = (suc cycles * w - p) / r
 

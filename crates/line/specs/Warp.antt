@@ -19,20 +19,20 @@ reconcile one other = choose (eqb one other) one 2
 
 -- What a read that ends at time t is. It starts with cycle i, the first one left, and goes on to the next while the
 -- cycle just looked at is over before t.
-unfoldable pub look : (ℕ → ℕ) → ℕ → ℕ → List ℕ → ℕ
+unfoldable pub look : (starts : ℕ → ℕ) (t i : ℕ) → List ℕ → ℕ
 look starts t i [] = 2
 look starts t i (level ∷ levels) =
     choose (ltb (starts (suc i)) t) (reconcile level (look starts t (suc i) levels)) level
 
 -- how many cycles, from cycle i on, are over by time t: the next read does without them
-unfoldable pub dropped : (ℕ → ℕ) → ℕ → ℕ → List ℕ → ℕ
+unfoldable pub dropped : (starts : ℕ → ℕ) (t i : ℕ) → List ℕ → ℕ
 dropped starts t i [] = 0
 dropped starts t i (level ∷ levels) = choose (leb (starts (suc i)) t) (suc (dropped starts t (suc i) levels)) 0
 
 -- The reads from read j on, with cycle i the first one left. There is a read only if it ends by `end`, when the last
 -- writer cycle is over.
 -- The first argument bounds how many are made, so that the recursion ends.
-unfoldable pub warpFrom : ℕ → (ℕ → ℕ) → (ℕ → ℕ) → ℕ → ℕ → ℕ → List ℕ → List ℕ
+unfoldable pub warpFrom : (most : ℕ) (starts reads : ℕ → ℕ) (end j i : ℕ) → List ℕ → List ℕ
 warpFrom zero starts reads end j i levels = []
 warpFrom (suc most) starts reads end j i levels =
     choose (leb (reads (suc j)) end)
@@ -43,9 +43,9 @@ warpFrom (suc most) starts reads end j i levels =
 
 -- a wave warped by two clocks: no read is shorter than one time unit, so there are at most as many as the wave has
 -- units
-abbrev pub warpBy : (ℕ → ℕ) → (ℕ → ℕ) → List ℕ → List ℕ
+abbrev pub warpBy : (starts reads : ℕ → ℕ) → List ℕ → List ℕ
 warpBy starts reads levels = warpFrom (starts (length levels)) starts reads (starts (length levels)) 0 0 levels
 
 -- the pass, with 01's two clocks
-unfoldable pub warp : ℕ → ℕ → ℕ → List ℕ → List ℕ
+unfoldable pub warp : (w r p : ℕ) → List ℕ → List ℕ
 warp w r p levels = warpBy (cycleStart w) (readStart p r) levels

@@ -10,7 +10,7 @@ ghost use Rattle.measure.specs.Lists.{onto};
 ghost use Rattle.measure.specs.Ranges.{cycleLength, entriesMost};
 ghost use Rattle.line.specs.Smooth.{smooth as smoothing};
 ghost use Rattle.line.specs.Warp.{cycleStart, reconcile as agree, look, dropped, warp as warping};
-ghost use Rattle.line.specs.Settle.{next as nextOf, settle as settling};
+ghost use Rattle.line.specs.Settle.{nextChoice, settle as settling};
 ghost use Rattle.line.specs.Sharing.{readCount};
 ghost use Rattle.line.specs.Answers.{smoothed, timed as isTimed, warped, settled, smoothedSays, readSays};
 use measure::CYCLE_LEAST;
@@ -60,7 +60,8 @@ fn smooth_into(wave: &[u8], out: &mut [u8])
 
 // Pass 1, smooth. Gives the wave with each cycle unknown at which the level changed; the line was high before the
 // first.
-// Refuses a wave over its limit (3), an entry that is no level (2, its place), and an output shorter than the wave (4).
+// Refuses with 3 a wave over its limit, with 2 an entry that is no level, and its place, and with 4 an output shorter
+// than the wave.
 // The output's front holds the smoothed wave, and its rest is untouched; a refusal leaves it whole as it was.
 pub fn smooth(wave: &[u8], out: &mut [u8]) -> Smoothed
     ensures { λ x. ⌜ smoothed (now (wave .entry)) (now (out .entry)) ≡ (smoothedSays x, now (out .exit)) ⌝ }
@@ -260,9 +261,8 @@ fn warp_into(wave: &[u8], w: TimeUnits, r: TimeUnits, p: TimeUnits, n: ReadCycle
 }
 
 // Pass 2, warp. Gives the reads of a wave whose cycles are w long, by a reader whose reads are r long and start at p.
-// Refuses times out of range and a p that is not below w (1), a wave over its limit and one whose reads would be (3),
-// an entry that is no
-// level and not unknown (2, its place), and an output shorter than the reads (4).
+// Refuses with 1 times out of range and a p that is not below w, with 3 a wave over its limit and one whose reads would
+// be, with 2 an entry that is no level and not unknown, and its place, and with 4 an output shorter than the reads.
 // The output's front holds the reads, and its rest is untouched; a refusal leaves it whole as it was.
 pub fn warp(wave: &[u8], w: TimeUnits, r: TimeUnits, p: TimeUnits, out: &mut [u8]) -> Read
     ensures { λ x. ⌜ warped (w .0) (r .0) (p .0) (now (wave .entry)) (now (out .entry))
@@ -289,9 +289,9 @@ pub fn warp(wave: &[u8], w: TimeUnits, r: TimeUnits, p: TimeUnits, out: &mut [u8
     Read::Reads(n)
 }
 
-// The choice behind those used, or low where there is none.
+// The choice after those used, or low where there is none.
 fn choice(choices: &[u8], used: usize) -> u8
-    ensures { λ v. ⌜ nextOf (drop used (now (choices .entry))) ≡ v ⌝ }
+    ensures { λ v. ⌜ nextChoice (drop used (now (choices .entry))) ≡ v ⌝ }
 {
     if used < choices.len() {
         choices[used]
@@ -320,9 +320,8 @@ fn settle_into(reads: &[u8], choices: &[u8], out: &mut [u8])
 }
 
 // Pass 3, settle. Gives the reads with each unknown one made the next choice, or low where none is left.
-// Refuses reads or choices over their limit (3), a read that is no level and not unknown and then a choice that is no
-// level (2, its place
-// in its own list), and an output shorter than the reads (4).
+// Refuses with 3 reads or choices over their limit, with 2 a read that is no level and not unknown, and then a choice
+// that is no level, and its place in its own list, and with 4 an output shorter than the reads.
 // The output's front holds the settled reads, and its rest is untouched; a refusal leaves it whole as it was.
 pub fn settle(reads: &[u8], choices: &[u8], out: &mut [u8]) -> Read
     ensures { λ x. ⌜ settled (now (reads .entry)) (now (choices .entry)) (now (out .entry))

@@ -1,34 +1,28 @@
--- What a cell is to a receiver: its two levels, the bit they say, and a smoothed wave that holds the cells of a
--- message.
-use mathlib.Core.Path.{_≡_, refl}
+-- What a cell is to a receiver: a stretch is known in the smoothed wave from its cycle g on, so each cell that a wave
+-- carries is a cell of the smoothed wave.
 use mathlib.Core.List.{List, [], _∷_}
-use Prim.Native.Nat.{ℕ, zero, suc, _+_, _-_, _<_}
+use Prim.Native.Nat.{ℕ, _+_, _*_, _≤_}
 use native.Mathlib.Omega.{arith}
-use Rattle.measure.specs.Cells.{bitOf}
-use Rattle.sender.specs.Sending.{codeLevel}
-use Rattle.promises.specs.Levels.{Levels}
+use lib.ListN.{length, getD}
+use Rattle.sender.specs.Sending.{opposite, codeLevel}
+use Rattle.sender.proofs.Waves.{Carries}
+use Rattle.line.proofs.SmoothBy.{smoothBy, stretch-known}
 use Rattle.promises.proofs.Timing.{Cell}
 
--- a message
-abbrev pub Bits : List ℕ → Type 0
-Bits bits = Levels bits
-
-pub code-level : (v x : ℕ) → v < 2 → x < 2 → codeLevel v x < 2
-code-level v zero h p = omega arith
-code-level v (suc zero) h p = h
-code-level v (suc (suc x)) h p = absurd (omega arith)
-
--- the sample differs from the mark exactly if the bit is 1
-pub bit-code : (v x : ℕ) → v < 2 → x < 2 → bitOf (1 - v) (codeLevel v x) ≡ x
-bit-code zero zero h p = refl
-bit-code zero (suc zero) h p = refl
-bit-code zero (suc (suc x)) h p = absurd (omega arith)
-bit-code (suc zero) zero h p = refl
-bit-code (suc zero) (suc zero) h p = refl
-bit-code (suc zero) (suc (suc x)) h p = absurd (omega arith)
-bit-code (suc (suc v)) x h p = absurd (omega arith)
-
 -- the smoothed wave S holds the cells of a message from cycle c on, from the level v
-abbrev pub Holds : ℕ → ℕ → ℕ → (ℕ → ℕ) → ℕ → ℕ → List ℕ → Type 0
+abbrev pub Holds : (a b g : ℕ) (S : ℕ → ℕ) (c v : ℕ) → List ℕ → Type 0
 Holds a b g S c v [] = Unit {0}
 Holds a b g S c v (x ∷ xs) = Cell S a b g c v (codeLevel v x) × Holds a b g S (c + (a + b)) (codeLevel v x) xs
+
+pub holds : (a b g : ℕ) (l bits : List ℕ) (c v : ℕ) → c + length bits * (a + b) ≤ length l
+    → Carries a b (λ i. getD l i 2) c v bits
+    → Holds a b g (λ i. getD (smoothBy g 0 1 l) i 2) c v bits
+holds a b g l [] c v h p = tt
+holds a b g l (x ∷ xs) c v h p = (
+  record {
+    mark = λ i q r. stretch-known g l 0 1 c a (opposite v) (omega arith) (p .0) (omega arith) i q r;
+    code = λ i q r. stretch-known g l 0 1 (c + a) b (codeLevel v x) (omega arith) (p .1) (omega arith) i (omega arith)
+        (omega arith);
+  },
+  holds a b g l xs (c + (a + b)) (codeLevel v x) (omega arith) (p .2),
+)

@@ -1,39 +1,39 @@
 -- Accepted settings meet the margins of the inner theorem, which ask one time unit less; source 002's settings are
--- accepted by three orders.
+-- accepted by three orders. The two runs on either side of its conjecture are computed: for these alone the rooms'
+-- definitions are unfolded.
 use mathlib.Core.Path.{_≡_, refl}
 use mathlib.Core.Logic.{dite}
 use mathlib.Core.Bool.{Bool, true, false}
-use mathlib.Core.List.{List, [], _∷_}
+use mathlib.Core.List.{[], _∷_}
 use Prim.Native.Nat.{ℕ, zero, suc, _≤_, _<_}
 use native.Mathlib.Decide.{decLe}
 use native.Mathlib.Omega.{arith}
 use lib.ListN.{length}
-use borrow.Author.Tests.{le-leb, lt-leb, le-ltb, eq-eqb}
-use Rattle.measure.specs.Ranges.{bitsMost, entriesMost}
+use borrow.Author.Tests.{le-leb, lt-leb}
+use Rattle.settings.specs.Margins.{accepted}
+use Rattle.settings.proofs.Inequalities.{accepted-keeps, keeps-accepted}
 use Rattle.sender.specs.Sending.{cells, wave}
+use Rattle.sender.proofs.Waves.{wave-levels}
 use Rattle.line.specs.Smooth.{smoothFrom}
 use Rattle.line.specs.Warp.{look, dropped, warpFrom, warp}
 use Rattle.line.specs.Settle.{settle}
+use Rattle.line.specs.Passes.{overTheLine}
+use Rattle.line.proofs.ClockBounds.{cycle-clock, read-clock}
+use Rattle.line.proofs.LineLaws.{over-levels, over-reads}
 use Rattle.counted.specs.Counted.{fromMark, counted}
-use Rattle.counted.specs.Answers.{countedBits}
-use Rattle.line.proofs.Entries.{AtMost}
-use Rattle.settings.proofs.Inequalities.{accepted-keeps, keeps-accepted}
-use Rattle.settings.specs.Margins.{accepted}
-use Rattle.promises.specs.CountedReturns.{overTheLine, found, EveryMessageReturned, AcceptedReturn}
+use Rattle.counted.proofs.AllFound.{all-found}
+use Rattle.promises.specs.CountedReturns.{messageReads, received, EveryMessageReturned, AcceptedReturn}
 use Rattle.promises.specs.CountedReturns.{OperationReturns, WithinOnePartIn, Source002, shortestRead, longestRead}
 use Rattle.promises.specs.CountedReturns.{Conjecture002}
 use Rattle.promises.proofs.Timing.{Margins}
-use Rattle.promises.proofs.LevelLists.{most-levels, none-above}
-use Rattle.promises.proofs.Stretches.{wave-most}
-use Rattle.promises.proofs.Reading.{cycle-clock, read-clock, reads-of-01, levels-of-01}
 use Rattle.promises.proofs.Received.{returns}
 use Rattle.promises.proofs.SignedMargins.{accepted-margins}
 
 -- margins of minus one or more and a read that takes time
 pub returned : (a b k w r : ℕ) → 0 < r → Margins a b 1 k w w r r → EveryMessageReturned a b k w r
-returned a b k w r pos ok p p1 p2 bits choices below hb hc =
+returned a b k w r pos ok p1 p2 p bits choices below hb hc =
     returns (cycle-clock w) (read-clock p r) pos (omega arith) (omega arith) (omega arith) ok p1 p2 bits
-    _ hb (reads-of-01 w r p (wave a b p1 p2 bits) choices pos below (wave-most a b p1 p2 bits) (most-levels choices hc))
+    _ hb (over-reads w r p (wave a b p1 p2 bits) choices pos below (wave-levels a b p1 p2 bits) hc)
 
 -- M2 leaves no room for a read that takes no time
 takes-time : (a b k w r p : ℕ) → p < w → accepted a b k w r ≡ true → 0 < r
@@ -41,30 +41,15 @@ takes-time a b k w zero p below h = absurd (omega (arith, accepted-keeps a b k w
 takes-time a b k w (suc r) p below h = omega arith
 
 pub accepted-return : AcceptedReturn
-accepted-return a b k w r h p p1 p2 bits choices below =
-    returned a b k w r (takes-time a b k w r p below h) (accepted-margins a b k w r h) p p1 p2 bits choices below
+accepted-return a b k w r h p1 p2 p bits choices below =
+    returned a b k w r (takes-time a b k w r p below h) (accepted-margins a b k w r h) p1 p2 p bits choices below
 
 pub operation-returns : OperationReturns
-unfolding countedBits
-operation-returns a b k w r p p1 p2 bits choices output h below hb hc ranged few short room =
-    rw (
-      ranged,
-      le-leb (length bits) bitsMost few,
-      le-ltb entriesMost (length reads) short,
-      none-above 1 reads levels,
-      le-ltb (length reads) (length reads) (omega arith),
-      le-ltb (length output) (length bits) room,
-      accepted-return a b k w r h p p1 p2 bits choices below hb hc,
-      eq-eqb (length bits) (length bits) refl,
-    )
-  where
-    reads : List ℕ
-    reads = overTheLine a b w r p p1 p2 bits choices
-
-    levels : AtMost 1 reads
-    levels =
-        levels-of-01 w r p (wave a b p1 p2 bits) choices (takes-time a b k w r p below h) below
-        (wave-most a b p1 p2 bits) (most-levels choices hc)
+operation-returns a b k w r p1 p2 p bits choices output h below hb hc ranged few short room =
+    all-found k (length bits) 1 (messageReads a b w r p1 p2 p bits choices) output bits ranged few (omega arith) short
+    (over-levels w r p (wave a b p1 p2 bits) choices (takes-time a b k w r p below h) below
+    (wave-levels a b p1 p2 bits) hc)
+    room (accepted-return a b k w r h p1 p2 p bits choices below hb hc) refl
 
 unless : (b : Bool) → (b ≡ true → ⊥) → b ≡ false
 unless true h = absurd (h refl)
@@ -96,12 +81,12 @@ not-faster r short = unless (accepted 5 13 10 100 r) (λ h. omega (arith, accept
 not-slower : (r : ℕ) → longestRead < r → accepted 5 13 10 100 r ≡ false
 not-slower r long = unless (accepted 5 13 10 100 r) (λ h. omega (arith, accepted-keeps 5 13 10 100 r h))
 
-too-fast : found 5 13 10 100 66 35 1 0 (1 ∷ []) [] ≡ 0 ∷ []
-unfolding cells wave smoothFrom look dropped warpFrom warp settle fromMark counted
+too-fast : received 5 13 10 100 66 1 0 35 (1 ∷ []) [] ≡ 0 ∷ []
+unfolding cells wave smoothFrom look dropped warpFrom warp settle overTheLine fromMark counted
 too-fast = refl
 
-too-slow : found 5 13 10 100 142 97 0 10 (0 ∷ []) (1 ∷ 1 ∷ []) ≡ 1 ∷ []
-unfolding cells wave smoothFrom look dropped warpFrom warp settle fromMark counted
+too-slow : received 5 13 10 100 142 0 10 97 (0 ∷ []) (1 ∷ 1 ∷ []) ≡ 1 ∷ []
+unfolding cells wave smoothFrom look dropped warpFrom warp settle overTheLine fromMark counted
 too-slow = refl
 
 pub conjecture-002 : Conjecture002

@@ -2,20 +2,19 @@
 -- is the last of them, and the last sample is counted from the read after it.
 use mathlib.Core.Path.{_≡_, refl, subst, ap, _∙_}
 use mathlib.Core.Bool.{Bool, true, false}
-use mathlib.Core.List.{List, [], _∷_, append-nil}
-use Prim.Native.Nat.{ℕ, zero, suc, _+_, _*_, _-_, _≤_, _<_, suc-le-suc}
+use mathlib.Core.List.{List, _∷_}
+use Prim.Native.Nat.{ℕ, zero, suc, _+_, _-_, _≤_, _<_, suc-le-suc}
 use native.Mathlib.Nat.{add-zero, add-suc, suc-add, zero-add}
 use native.Mathlib.Omega.{arith}
 use lib.ListN.{length, getD, drop}
 use borrow.Author.Tests.{le-leb, lt-leb}
-use Rattle.sender.specs.Sending.{Row, planWave}
+use Rattle.sender.specs.Sending.{Row}
+use Rattle.sender.proofs.PlanWaves.{length-one}
 use Rattle.line.specs.Warp.{cycleStart, readStart}
+use Rattle.line.proofs.ClockBounds.{mono, read-clock}
 use Rattle.board.specs.Feeding.{Report}
-use Rattle.promises.specs.Places.{Link, readsOf, cyclesOf, passing, numbered, wholly, withinLead, heard}
-use Rattle.promises.specs.Places.{lastSample, samplePlace, deliveries}
-use Rattle.promises.proofs.Clock.{mono}
-use Rattle.promises.proofs.Stretches.{length-wave}
-use Rattle.promises.proofs.Reading.{read-clock}
+use Rattle.promises.specs.Places.{Link, planReads, placesWhere, numbered, wholly, withinLead}
+use Rattle.promises.specs.Places.{heard, lastSample, samplePlace, deliveries}
 use Rattle.promises.proofs.Sampling.{samples-on, sampled-at}
 use Rattle.promises.proofs.OneRow.{deliveredAt}
 use Rattle.promises.proofs.Quiets.{Lead}
@@ -24,8 +23,8 @@ use Rattle.promises.proofs.ManyRows.{Fit, Placed, no-row, a-row}
 module _ (test : ℕ → Bool) where
   -- d places that do not pass
   passing-none : (d many place : ℕ) → ((i : ℕ) → place ≤ i → i < place + d → test i ≡ false)
-      → passing test place (d + many) ≡ passing test (place + d) many
-  unfolding passing
+      → placesWhere test place (d + many) ≡ placesWhere test (place + d) many
+  unfolding placesWhere
   passing-none zero many place f = rw (zero-add, add-zero)
   passing-none (suc d) many place f =
       rw (suc-add, f place (omega arith) (omega arith), add-suc, ← suc-add)
@@ -33,8 +32,8 @@ module _ (test : ℕ → Bool) where
 
   -- q places and one more that pass
   numbered-all : (q many place : ℕ) → q < many → ((i : ℕ) → place ≤ i → i ≤ place + q → test i ≡ true)
-      → numbered (suc q) (passing test place many) ≡ place + q
-  unfolding passing numbered
+      → numbered (suc q) (placesWhere test place many) ≡ place + q
+  unfolding placesWhere numbered
   numbered-all q zero place h f = absurd (omega arith)
   numbered-all zero (suc many) place h f = rw (f place (omega arith) (omega arith), add-zero)
   numbered-all (suc q) (suc many) place h f =
@@ -42,8 +41,8 @@ module _ (test : ℕ → Bool) where
       (numbered-all q many (suc place) (omega arith) (λ i p r. f i (omega arith) (omega arith)))
 
   many-pass : (q many place : ℕ) → q ≤ many → ((i : ℕ) → place ≤ i → i < place + q → test i ≡ true)
-      → q ≤ length (passing test place many)
-  unfolding passing
+      → q ≤ length (placesWhere test place many)
+  unfolding placesWhere
   many-pass zero many place h f = omega arith
   many-pass (suc q) zero place h f = absurd (omega arith)
   many-pass (suc q) (suc many) place h f =
@@ -53,28 +52,28 @@ module _ (test : ℕ → Bool) where
   -- the first i0 places do not pass, and the next Q do
   module _ (i0 Q many : ℕ) (fits : i0 + Q ≤ many) (fail : (i : ℕ) → i < i0 → test i ≡ false)
       (pass : (i : ℕ) → i0 ≤ i → i < i0 + Q → test i ≡ true) where
-    skipped : passing test 0 many ≡ passing test i0 (many - i0)
+    skipped : placesWhere test 0 many ≡ placesWhere test i0 (many - i0)
     skipped =
-        ap (λ (m : ℕ). passing test 0 m) all ∙ passing-none i0 (many - i0) 0 (λ i p q. fail i (omega arith))
+        ap (λ (m : ℕ). placesWhere test 0 m) all ∙ passing-none i0 (many - i0) 0 (λ i p q. fail i (omega arith))
         ∙ rw zero-add
       where
         all : many ≡ i0 + (many - i0)
         all = omega arith
 
-    pub enough : Q ≤ length (passing test 0 many)
+    pub enough : Q ≤ length (placesWhere test 0 many)
     enough = rw skipped (many-pass Q (many - i0) i0 (omega arith) pass)
 
-    pub the-Qth : 0 < Q → suc (numbered Q (passing test 0 many)) ≡ i0 + Q
+    pub the-Qth : 0 < Q → suc (numbered Q (placesWhere test 0 many)) ≡ i0 + Q
     the-Qth some = rw skipped (go Q some (omega arith) pass)
       where
         go : (Q : ℕ) → 0 < Q → Q ≤ many - i0 → ((i : ℕ) → i0 ≤ i → i < i0 + Q → test i ≡ true)
-            → suc (numbered Q (passing test i0 (many - i0))) ≡ i0 + Q
+            → suc (numbered Q (placesWhere test i0 (many - i0))) ≡ i0 + Q
         go zero p h f = absurd (omega arith)
         go (suc q) p h f = omega (arith, numbered-all q (many - i0) i0 (omega arith) (λ i y z. f i y (omega arith)))
 
 module _ (x : Link) where
   abbrev R : List ℕ
-  R = readsOf x
+  R = planReads x
 
   abbrev tw : ℕ → ℕ
   tw = cycleStart (x .w)
@@ -104,17 +103,13 @@ module _ (x : Link) where
     unfolding heard withinLead
     heard-is = the-Qth (wholly x (suc c) (c + row .lead)) i0 (x .Q) (length R) there outside inside
 
-  cycles-of-row : (row : Row) → cyclesOf x (row ∷ []) ≡ row .lead + (length (row .bits) * (x .a + x .b) + row .trail)
-  unfolding planWave
-  cycles-of-row row = rw (append-nil, length-wave (x .a) (x .b) (row .lead) (row .trail) (row .bits))
-
   -- rows that are placed are placed where 01's words place them
   pub placed-is : {c : ℕ} {rows : List Row} {fs : List Report} → 0 < x .Q → Fit (x .n) (x .Q) 1 (x .w) (x .r) rows
       → Placed tw tr (λ i. getD R i 2) 1 (x .k) (x .Q) (x .a + x .b) (length R) c rows fs → fs ≡ deliveries x c rows
   unfolding deliveries lastSample
   placed-is some fit no-row = refl
   placed-is {c} some fit (a-row {i0 = i0} {s = s} {row = row} {rows = rows} {fs = fs} lead samples within more) =
-      rw (heard-is c row i0 lead (omega (arith, samples-on samples)) some, sampled, cycles-of-row row)
+      rw (heard-is c row i0 lead (omega (arith, samples-on samples)) some, sampled, length-one (x .a) (x .b) row)
       (ap (λ (l : List Report). deliveredAt s (row .bits) ∷ l) (placed-is some (fit .3) more))
     where
       sampled : samplePlace (x .k) (x .n) 1 (i0 + x .Q) (drop (i0 + x .Q) R) ≡ s

@@ -9,25 +9,28 @@ use lib.Dec.{ltb}
 use lib.ListN.{length, take, drop}
 use borrow.Author.Tests.{lt-ltb, leb-true}
 use Rattle.settings.proofs.Inequalities.{m1-met, m2-met, m3-met, m4-met, m5-met}
+use Rattle.measure.specs.Levels.{Levels}
 use Rattle.sender.specs.Sending.{Row, planWave}
+use Rattle.sender.proofs.PlanWaves.{plan-levels}
 use Rattle.line.specs.Warp.{cycleStart, readStart}
+use Rattle.line.proofs.ClockBounds.{cycle-clock, read-clock}
+use Rattle.line.proofs.SmoothBy.{smoothBy}
+use Rattle.line.proofs.LineLaws.{Reads, over-levels, over-reads}
 use Rattle.board.specs.Rows.{State, fresh, ready, next}
-use Rattle.board.specs.Feeding.{Report, afterBy, reportsBy}
-use Rattle.promises.specs.Places.{Link, readsOf, cyclesOf, withinLead, heard, deliveries}
+use Rattle.board.specs.Feeding.{Report, Step, afterBy, reportsBy}
+use Rattle.promises.specs.Places.{Link, planReads, cyclesOf, withinLead, heard, deliveries}
 use Rattle.promises.specs.Replaced.{WhollyAfter, below, moved}
-use Rattle.promises.specs.Demand3.{RowsFit, Fitting, settings, Demand3Holds, GroundsHold}
+use Rattle.promises.specs.Demand3.{RowsFit, Fitting, receiverSettings, Demand3Holds, GroundsHold}
 use Rattle.promises.proofs.Timing.{Margins}
-use Rattle.promises.proofs.Smoothing.{smoothBy}
-use Rattle.promises.proofs.LevelLists.{most-levels}
-use Rattle.promises.proofs.Reading.{Reads, cycle-clock, read-clock, reads-of-01}
-use Rattle.promises.proofs.Sent.{plan-most}
-use Rattle.promises.proofs.ManyRows.{Fit}
-use Rattle.promises.proofs.Fed.{all-pass}
-use Rattle.promises.proofs.Parts.{later-fit}
+use Rattle.promises.proofs.ManyRows.{Fit, later-fit}
+use Rattle.promises.proofs.Seams.{all-fed}
 use Rattle.promises.proofs.Recovery.{before-stretch, after-stretch, Recovered, undamaged, recovered}
 use Rattle.promises.proofs.Deliveries.{lead-enough, heard-is, placed-is}
 
 module _ (x : Link) (fits : Fitting x) where
+  abbrev G : Step
+  G = next (receiverSettings x)
+
   -- M2 leaves no room for a read that takes no time, and M4 none for a quiet count of 0
   pub timed : 0 < x .r
   timed = lt-of-mul-lt-mul-left (x .k) (omega (arith, leb-true, rw m2-met at (fits .m2), fits .phase))
@@ -53,20 +56,26 @@ module _ (x : Link) (fits : Fitting x) where
   some-Q = lt-of-mul-lt-mul-right (x .r) (omega (arith, quiet, fits .phase, timed))
 
   reads : Reads (cycleStart (x .w)) (readStart (x .p) (x .r)) (smoothBy 1 0 1 (planWave (x .a) (x .b) (x .rows)))
-      (readsOf x)
-  unfolding readsOf
+      (planReads x)
+  unfolding planReads
   reads =
-      reads-of-01 (x .w) (x .r) (x .p) (planWave (x .a) (x .b) (x .rows)) (x .choices) timed
-      (omega (arith, fits .phase))
-      (plan-most (x .a) (x .b) (x .rows)) (most-levels (x .choices) (fits .choices))
+      over-reads (x .w) (x .r) (x .p) (planWave (x .a) (x .b) (x .rows)) (x .choices) timed (fits .phase)
+      (plan-levels (x .a) (x .b) (x .rows)) (fits .choices)
+
+  -- the settled reads are levels
+  pub read-levels : Levels (planReads x)
+  unfolding planReads
+  read-levels =
+      over-levels (x .w) (x .r) (x .p) (planWave (x .a) (x .b) (x .rows)) (x .choices) timed (fits .phase)
+      (plan-levels (x .a) (x .b) (x .rows)) (fits .choices)
 
   -- with nothing replaced
-  pub whole : reportsBy (next (settings x)) fresh 0 (readsOf x) ≡ deliveries x 0 (x .rows)
+  pub whole : reportsBy G fresh 0 (planReads x) ≡ deliveries x 0 (x .rows)
   whole =
       placed-is x some-Q fit
       (undamaged (cycle-clock (x .w)) (read-clock (x .p) (x .r)) timed (omega arith) (omega (arith, fits .phase))
       (omega arith) ok (x .n) (x .Q) quiet (fits .some-bits)
-      (x .rows) fit (readsOf x) reads)
+      (x .rows) fit (planReads x) reads)
 
   -- a row whose lead is read wholly from read j on
   module _ (j : ℕ) (earlier : List Row) (row : Row) (later : List Row) (same : x .rows ≡ earlier ++ row ∷ later)
@@ -79,10 +88,10 @@ module _ (x : Link) (fits : Fitting x) where
 
     pub record Heard : Type 0 where
       pub from : j ≤ h
-      pub there : h < length (readsOf x)
+      pub there : h < length (planReads x)
       pub enough : x .Q ≤ length (withinLead x c row)
-      pub readies : (s : State) → afterBy (next (settings x)) s (take (suc h - j) (drop j (readsOf x))) ≡ ready (x .Q)
-      pub told : reportsBy (next (settings x)) (ready (x .Q)) (suc h) (drop (suc h) (readsOf x))
+      pub readies : (s : State) → afterBy G s (take (suc h - j) (drop j (planReads x))) ≡ ready (x .Q)
+      pub told : reportsBy G (ready (x .Q)) (suc h) (drop (suc h) (planReads x))
           ≡ deliveries x c (row ∷ later)
 
     pub heard-row : Heard
@@ -91,10 +100,10 @@ module _ (x : Link) (fits : Fitting x) where
       there = omega (arith, rec .there, eq);
       enough = lead-enough x c row (rec .i0) (rec .lead) (rec .there);
       readies =
-          λ s. subst (λ (e : ℕ). afterBy (next (settings x)) s (take (e - j) (drop j (readsOf x))) ≡ ready (x .Q))
+          λ s. subst (λ (e : ℕ). afterBy G s (take (e - j) (drop j (planReads x))) ≡ ready (x .Q))
           (sym eq) (rec .readies s);
       told =
-          subst (λ (e : ℕ). reportsBy (next (settings x)) (ready (x .Q)) e (drop e (readsOf x))
+          subst (λ (e : ℕ). reportsBy G (ready (x .Q)) e (drop e (planReads x))
           ≡ deliveries x c (row ∷ later)) (sym eq)
           (placed-is x some-Q
           (later-fit (x .n) (x .Q) 1 (x .w) (x .r) earlier (row ∷ later)
@@ -103,10 +112,10 @@ module _ (x : Link) (fits : Fitting x) where
       where
         rec : Recovered (cycle-clock (x .w)) (read-clock (x .p) (x .r)) timed (omega arith)
             (omega (arith, fits .phase)) (omega arith) ok (x .n) (x .Q) quiet
-            (fits .some-bits) (x .rows) fit (readsOf x) reads j c row later
+            (fits .some-bits) (x .rows) fit (planReads x) reads j c row later
         rec = recovered (cycle-clock (x .w)) (read-clock (x .p) (x .r)) timed (omega arith)
             (omega (arith, fits .phase)) (omega arith) ok (x .n) (x .Q) quiet
-            (fits .some-bits) (x .rows) fit (readsOf x) reads j earlier row later same λ i q lo hi here shares. omega
+            (fits .some-bits) (x .rows) fit (planReads x) reads j earlier row later same λ i q lo hi here shares. omega
             (arith, wholly i q lo hi here shares)
 
         eq : suc h ≡ rec .i0 + x .Q
@@ -115,11 +124,11 @@ module _ (x : Link) (fits : Fitting x) where
 pub demand-3 : Demand3Holds
 demand-3 x fits = record {
   before = λ i j junk ij le.
-      before-stretch (next (settings x)) (readsOf x) i j junk (omega arith)
+      before-stretch (next (receiverSettings x)) (planReads x) i j junk (omega arith)
       ∙ ap (λ (l : List Report). below i l) (whole x fits);
   after = λ i j junk ij le earlier row later same wholly.
       let at = heard-row x fits j earlier row later same wholly in
-      after-stretch (next (settings x)) (readsOf x) i j junk (heard x (cyclesOf x earlier) row) (ready (x .Q))
+      after-stretch (next (receiverSettings x)) (planReads x) i j junk (heard x (cyclesOf x earlier) row) (ready (x .Q))
       (omega arith) (at .from) (at .there) (at .readies)
       ∙ ap (λ (l : List Report). moved i j junk l) (at .told);
 }
@@ -129,13 +138,13 @@ grounds x fits = record {
   leads = λ earlier row later same. any earlier row later same .enough;
   samples =
       rw (← whole x fits)
-      (all-pass (next (settings x)) (λ at. ltb at (length (readsOf x))) (readsOf x) 0 fresh λ at p q. lt-ltb at
-      (length (readsOf x)) (omega arith));
+      (all-fed (next (receiverSettings x)) (λ at. ltb at (length (planReads x))) (planReads x) 0 fresh
+      (λ at p q. lt-ltb at (length (planReads x)) (omega arith)));
   heard-after = λ j earlier row later same wholly. heard-row x fits j earlier row later same wholly .from;
   sampled-after = λ earlier row later same.
       let h : ℕ = heard x (cyclesOf x earlier) row in
       rw (← any earlier row later same .told)
-      (all-pass (next (settings x)) (λ at. ltb h at) (drop (suc h) (readsOf x)) (suc h)
+      (all-fed (next (receiverSettings x)) (λ at. ltb h at) (drop (suc h) (planReads x)) (suc h)
       (ready (x .Q)) λ at p q. lt-ltb h at p);
 }
   where

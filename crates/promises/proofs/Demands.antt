@@ -35,17 +35,14 @@ use Rattle.capture.specs.Capture.{withRuns, capture, readsOf as unrolledReads, 
 use Rattle.capture.specs.Writing.{captureOf}
 use Rattle.capture.specs.Answers.{summary, unrolled, checked, readBack, written}
 use Rattle.capture.proofs.RoundTrips.{written-read-back, read-written-back}
-use Rattle.promises.specs.Levels.{Levels}
-use Rattle.promises.specs.Places.{Link, readsOf, cyclesOf, heard}
+use Rattle.measure.specs.Levels.{Levels}
+use Rattle.promises.specs.Places.{Link, planReads, cyclesOf, heard}
 use Rattle.promises.specs.Replaced.{damaged, below, above}
-use Rattle.promises.specs.Demand3.{Fitting, settings}
+use Rattle.promises.specs.Demand3.{Fitting, receiverSettings}
 use Rattle.promises.specs.Operations.{Leaves}
 use Rattle.promises.specs.Demands.{oneOf, RefusesBy, Refuses, RefusesReads, unstarted, Demand1, Demand2}
 use Rattle.promises.specs.Demands.{reportsOf, OfTheOperation, Demand3Met, Demands}
-use Rattle.promises.proofs.LevelLists.{most-levels, levels-most}
-use Rattle.promises.proofs.Reading.{levels-of-01}
-use Rattle.promises.proofs.Sent.{plan-most}
-use Rattle.promises.proofs.Demand3.{timed as timed-reads, demand-3, grounds}
+use Rattle.promises.proofs.Demand3.{read-levels, demand-3, grounds}
 use Rattle.promises.proofs.OneByOne.{operation-reports}
 use Rattle.promises.proofs.Operations.{operations-leave}
 
@@ -433,19 +430,12 @@ levels-drop zero list this = this
 levels-drop (suc i) [] this = tt
 levels-drop (suc i) (x ∷ list) this = levels-drop i list (this .1)
 
--- settled reads are levels, and so they are with a stretch of levels in them
-read-levels : (x : Link) → Fitting x → Levels (readsOf x)
-unfolding readsOf
-read-levels x fits =
-    levels-most (readsOf x)
-    (levels-of-01 (x .w) (x .r) (x .p) (planWave (x .a) (x .b) (x .rows)) (x .choices) (timed-reads x fits)
-    (fits .phase) (plan-most (x .a) (x .b) (x .rows)) (most-levels (x .choices) (fits .choices)))
-
+-- settled reads with a stretch of levels in them are levels
 damaged-levels : (x : Link) → Fitting x → (i j : ℕ) (junk : List ℕ) → Levels junk → Levels (damaged x i j junk)
 damaged-levels x fits i j junk levels =
-    levels-append (take i (readsOf x) ++ junk) (drop j (readsOf x))
-    (levels-append (take i (readsOf x)) junk (levels-take i (readsOf x) (read-levels x fits)) levels)
-    (levels-drop j (readsOf x) (read-levels x fits))
+    levels-append (take i (planReads x) ++ junk) (drop j (planReads x))
+    (levels-append (take i (planReads x)) junk (levels-take i (planReads x) (read-levels x fits)) levels)
+    (levels-drop j (planReads x) (read-levels x fits))
 
 of-the-operation : (x : Link) → Fitting x → settingsFit (x .k) (x .n) (x .Q) ≡ true → OfTheOperation x
 of-the-operation x fits range = record {
@@ -458,7 +448,7 @@ of-the-operation x fits range = record {
 }
   where
     same : (i j : ℕ) (junk : List ℕ) → Levels junk
-        → reportsOf x (damaged x i j junk) ≡ reports (settings x) fresh 0 (damaged x i j junk)
+        → reportsOf x (damaged x i j junk) ≡ reports (receiverSettings x) fresh 0 (damaged x i j junk)
     same i j junk levels =
         operation-reports (x .k) (x .n) (x .Q) (damaged x i j junk) range
         (damaged-levels x fits i j junk levels) .reports-all

@@ -1,38 +1,33 @@
 -- The exact rule for every settling count and for clocks that wander within bounds: every message is returned exactly
--- if the margins are minus
--- one or more. Where one is less, clocks of constant length at the worse end of their bounds lose a message of one bit.
+-- if the margins are minus one or more. Where one is less, clocks of constant length at the worse end of their bounds
+-- lose a message of one bit.
 use mathlib.Core.Path.{_≡_}
 use mathlib.Core.List.{List, [], _∷_}
 use Prim.Native.Nat.{ℕ, suc, _+_, _*_, _-_, _≤_, _<_}
 use native.Mathlib.Omega.{arith}
 use lib.ListN.{length}
+use Rattle.measure.specs.Levels.{Levels}
 use Rattle.sender.specs.Sending.{wave}
-use Rattle.line.specs.Warp.{cycleStart, readStart, warpBy}
-use Rattle.line.specs.Settle.{settle}
+use Rattle.sender.proofs.Waves.{wave-levels}
+use Rattle.line.specs.Warp.{cycleStart, readStart}
+use Rattle.line.proofs.ClockBounds.{Clock, within-bounds, cycle-clock, read-clock, wider}
+use Rattle.line.proofs.LineLaws.{lineBy, line-reads}
 use Rattle.counted.specs.Counted.{counted}
-use Rattle.promises.specs.Levels.{Levels}
 use Rattle.promises.specs.WhatNoMeans.{OneBit}
-use Rattle.promises.proofs.Clock.{Clock}
 use Rattle.promises.proofs.Timing.{Margins}
-use Rattle.promises.proofs.LevelLists.{most-levels}
-use Rattle.promises.proofs.Smoothing.{smoothBy, smooth-by-most}
-use Rattle.promises.proofs.Stretches.{wave-most}
-use Rattle.promises.proofs.Reading.{within-bounds, cycle-clock, read-clock, line-reads}
 use Rattle.promises.proofs.Received.{returns}
 use Rattle.promises.proofs.Witness.{Loses, margins-or, highBit, lowBit, least, many, loses-1, loses-2, loses-3}
 
 -- every message is returned, with any pads, any phase below the first writer cycle and any choices
-abbrev pub Returned : ℕ → ℕ → ℕ → ℕ → ℕ → ℕ → ℕ → ℕ → Type 0
+abbrev pub Returned : (a b g k w1 w2 r1 r2 : ℕ) → Type 0
 Returned a b g k w1 w2 r1 r2 = (tw tr : ℕ → ℕ) → Clock tw w1 w2 → Clock tr r1 r2 → tw 0 ≤ tr 0 → tr 0 < tw 1
     → (p1 p2 : ℕ) (bits choices : List ℕ) → Levels bits → Levels choices
-    → counted k (length bits) 1 (settle (warpBy tw tr (smoothBy g 0 1 (wave a b p1 p2 bits))) choices) ≡ bits
+    → counted k (length bits) 1 (lineBy tw tr g (wave a b p1 p2 bits) choices) ≡ bits
 
 pub enough : (a b g k w1 w2 r1 r2 : ℕ) → 0 < g → 0 < r1 → Margins a b g k w1 w2 r1 r2 → Returned a b g k w1 w2 r1 r2
 enough a b g k w1 w2 r1 r2 hg hr ok tw tr wclk rclk phase below p1 p2 bits choices hb hc =
-    returns wclk rclk hr phase below hg ok p1 p2 bits (settle (warpBy tw tr (smoothBy g 0 1 l)) choices) hb
-    (line-reads (within-bounds wclk rclk hr phase below) (smoothBy g 0 1 l) choices
-    (smooth-by-most g 0 1 l (wave-most a b p1 p2 bits))
-    (most-levels choices hc))
+    returns wclk rclk hr phase below hg ok p1 p2 bits (lineBy tw tr g l choices) hb
+    (line-reads (within-bounds wclk rclk hr phase below) g l choices (wave-levels a b p1 p2 bits) hc)
   where
     l : List ℕ
     l = wave a b p1 p2 bits
@@ -71,10 +66,6 @@ module _ (a b g k w r : ℕ) (ha : 0 < a) (hg : 0 < g) (hk : 0 < k) (hw : 0 < w)
     highBit w lead 0 (many a b g w r lead 0) hw (omega arith),
     loses-3 a b g k w r ha hg hk hw hr lead ((g - 1) * w) (lies g w r hg hw hr) h,
   )
-
--- a clock of constant length within the bounds
-wider : {t : ℕ → ℕ} (lo hi x : ℕ) → lo ≤ x → x ≤ hi → Clock t x x → Clock t lo hi
-wider lo hi x p q c = record { low = λ i. omega (arith, c .low i); high = λ i. omega (arith, c .high i) }
 
 module _ (a b g k w1 w2 r1 r2 : ℕ) (ha : 0 < a) (hg : 0 < g) (hk : 0 < k) (hw : 0 < w1) (hr : 0 < r1) (ww : w1 ≤ w2)
     (rr : r1 ≤ r2) where

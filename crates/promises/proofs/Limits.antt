@@ -1,6 +1,5 @@
 -- 01's limits leave room for a lost message wherever one bit fits at all: at the last phase with no pads it has the
--- fewest reads, and where a
--- lead is needed, the cell is short enough for it.
+-- fewest reads, and where a lead is needed, the cell is short enough for it.
 use mathlib.Core.Path.{_≡_, refl, sym, _∙_}
 use mathlib.Core.Logic.{dite}
 use mathlib.Core.Bool.{true, false, false≢true}
@@ -11,78 +10,78 @@ use native.Mathlib.Decide.{decLe}
 use native.Mathlib.Omega.{arith}
 use lib.ListN.{length, length-replicate}
 use Rattle.measure.specs.Ranges.{padMost, entriesMost}
+use Rattle.settings.proofs.BothEnds.{InRange, in-range}
 use Rattle.sender.specs.Sending.{wave}
-use Rattle.line.specs.Smooth.{smooth}
-use Rattle.line.specs.Warp.{warp}
-use Rattle.line.proofs.Clocks.{even-clocks}
-use Rattle.line.proofs.ReadsThere.{read-there, read-ends}
-use Rattle.line.proofs.SmoothLaws.{length-smooth}
-use Rattle.line.proofs.WarpLaws.{warp-by}
+use Rattle.sender.proofs.Cells.{length-wave}
+use Rattle.sender.proofs.Waves.{wave-levels}
+use Rattle.line.specs.Warp.{cycleStart, readStart}
+use Rattle.line.proofs.SettleLaws.{length-settle}
+use Rattle.line.proofs.SmoothBy.{smoothBy, length-smooth-by}
+use Rattle.line.proofs.LineLaws.{Reads, few-reads, reads-few, over-the-line, over-reads}
+use Rattle.promises.specs.CountedReturns.{messageReads}
 use Rattle.promises.specs.WhatNoMeans.{almostAccepted, OneBit, Lost, WithinLimits, LostWithinLimits}
-use Rattle.promises.proofs.Ranged.{InRange, in-range}
-use Rattle.promises.proofs.Smoothing.{smooth-is}
-use Rattle.promises.proofs.Stretches.{length-wave}
 use Rattle.promises.proofs.SignedMargins.{margins-almost}
 use Rattle.promises.proofs.Need.{unsettled}
 use Rattle.promises.proofs.Witness.{Loses, margins-or, highBit, lowBit, least, many, loses-1, loses-2, loses-3}
 use Rattle.promises.proofs.WhatNoMeans.{loses-lost}
 
--- the reads are within their limit exactly if one more would end after the wave
-module _ (w r p : ℕ) (l : List ℕ) (pos : 0 < r) (below : p < w) where
-  few-reads : length l * w < p + suc entriesMost * r → length (warp w r p (smooth l)) ≤ entriesMost
-  few-reads h =
-      dite (decLe (length (warp w r p (smooth l))) entriesMost) (λ y. y)
-      (λ y. absurd (omega (arith, ends (omega arith))))
-    where
-      ends : entriesMost < length (warp w r p (smooth l)) → p + suc entriesMost * r ≤ length l * w
-      ends more =
-          rw (length-smooth l) at
-          (read-ends (even-clocks w r p pos below) (smooth l) entriesMost (rw (warp-by w r p (smooth l)) at more))
+-- one bit's wave and its reads
+module _ (a b w r : ℕ) (pos : 0 < r) (m : OneBit w) where
+  abbrev l : List ℕ
+  l = wave a b (m .p1) (m .p2) (m .bit ∷ [])
 
-  reads-few : length (warp w r p (smooth l)) ≤ entriesMost → length l * w < p + suc entriesMost * r
-  reads-few h =
-      dite (decLe (p + suc entriesMost * r) (length l * w)) (λ y. absurd (omega (arith, there y))) (λ y. omega arith)
-    where
-      there : p + suc entriesMost * r ≤ length l * w → entriesMost < length (warp w r p (smooth l))
-      there ends =
-          rw (warp-by w r p (smooth l))
-          (read-there (even-clocks w r p pos below) (smooth l) entriesMost (rw (length-smooth l) ends))
+  abbrev R : List ℕ
+  R = messageReads a b w r (m .p1) (m .p2) (m .p) (m .bit ∷ []) (m .choices)
+
+  reads : Reads (cycleStart w) (readStart (m .p) r) (smoothBy 1 0 1 l) R
+  reads =
+      over-reads w r (m .p) l (m .choices) pos (m .phase) (wave-levels a b (m .p1) (m .p2) (m .bit ∷ []))
+      (m .are-choices)
+
+  size : length (smoothBy 1 0 1 l) ≡ m .p1 + (a + b) + m .p2
+  size = length-smooth-by 1 0 1 l ∙ length-wave a b (m .p1) (m .p2) (m .bit ∷ []) ∙ omega arith
+
+  -- the reads are within their limit exactly if one more would end after the wave
+  few : (m .p1 + (a + b) + m .p2) * w < m .p + suc entriesMost * r → length R ≤ entriesMost
+  few h = few-reads reads entriesMost (rw size h)
+
+  ends-late : length R ≤ entriesMost → (m .p1 + (a + b) + m .p2) * w < m .p + suc entriesMost * r
+  ends-late h = rw size at (reads-few reads entriesMost h)
+
+  -- the witnesses are reads of 01's line
+  same-reads : length R ≡ length (unsettled 1 w r (m .p) l)
+  same-reads = rw (over-the-line w r (m .p) l (m .choices)) (length-settle _ _)
 
 module _ (a b k w r : ℕ) (range : InRange a b k w r) (fits : (a + b) * w < w - 1 + suc entriesMost * r) where
   -- one bit with no trail, a lead and a phase that leave its reads within the limit
   within : (m : OneBit w) → m .p2 ≡ 0 → m .p1 ≤ padMost → (m .p1 + (a + b)) * w < m .p + suc entriesMost * r
-      → length (m .choices) ≤ length (warp w r (m .p) (smooth (wave a b (m .p1) (m .p2) (m .bit ∷ []))))
+      → length (m .choices) ≤ length (messageReads a b w r (m .p1) (m .p2) (m .p) (m .bit ∷ []) (m .choices))
       → WithinLimits a b w r m
   within m none lead short chosen = record {
     lead = lead;
     trail = omega arith;
-    cycles = omega (arith, size, range .mark, range .code);
-    reads = few;
-    chosen = omega (arith, few, chosen);
+    cycles = omega (
+      arith,
+      length-wave a b (m .p1) (m .p2) (m .bit ∷ []),
+      range .mark,
+      range .code,
+    );
+    reads = all;
+    chosen = omega (arith, all, chosen);
   }
     where
-      l : List ℕ
-      l = wave a b (m .p1) (m .p2) (m .bit ∷ [])
-
-      size : length l ≡ m .p1 + (a + b)
-      size = length-wave a b (m .p1) (m .p2) (m .bit ∷ []) ∙ omega arith
-
-      few : length (warp w r (m .p) (smooth l)) ≤ entriesMost
-      few = few-reads w r (m .p) l (range .read .0) (m .phase) (rw size short)
-
-  -- the witnesses are reads of 01's line
-  same-reads : (p : ℕ) (l : List ℕ) → length (unsettled w r p 1 l) ≡ length (warp w r p (smooth l))
-  same-reads p l = rw (warp-by w r p (smooth l), smooth-is l)
+      all : length (messageReads a b w r (m .p1) (m .p2) (m .p) (m .bit ∷ []) (m .choices)) ≤ entriesMost
+      all = few a b w r (range .read .0) m (rw none (omega (arith, short)))
 
   abbrev Within : Type 0
   Within = (n : OneBit w) × WithinLimits a b w r n × Lost a b k w r n
 
   -- the last phase, no pads and high choices
-  high : (x : ℕ) (is : x < 2) → Loses a b 1 k w r (highBit w 0 x (many a b 1 w r 0 x) (range .cycle .0) is) → Within
+  high : (x : ℕ) (is : x ≤ 1) → Loses a b 1 k w r (highBit w 0 x (many a b 1 w r 0 x) (range .cycle .0) is) → Within
   high x is loses = (
     m,
     within m refl (omega arith) (omega (arith, fits))
-        (rw length-replicate (omega (arith, same-reads (w - 1) (wave a b 0 0 (x ∷ []))))),
+        (rw length-replicate (omega (arith, same-reads a b w r (range .read .0) m))),
     loses-lost a b k w r m loses,
   )
     where
@@ -153,17 +152,12 @@ lost-within-limits a b k w r ranges m limits =
     (omega (
       arith,
       m .phase,
-      size,
       mul-le-mul-right w (longer (m .p1) (a + b) (m .p2)),
-      rw size at
-          (reads-few w r (m .p) (wave a b (m .p1) (m .p2) (m .bit ∷ [])) (range .read .0) (m .phase) (limits .reads)),
+      ends-late a b w r (range .read .0) m (limits .reads),
     ))
   where
     range : InRange a b k w r
     range = in-range a b k w r ranges
 
-    size : length (wave a b (m .p1) (m .p2) (m .bit ∷ [])) ≡ m .p1 + (1 * (a + b) + m .p2)
-    size = length-wave a b (m .p1) (m .p2) (m .bit ∷ [])
-
-    longer : (x y z : ℕ) → y ≤ x + (1 * y + z)
+    longer : (x y z : ℕ) → y ≤ x + y + z
     longer x y z = omega arith

@@ -1,28 +1,41 @@
--- Rows one behind another: from ready with the first lead heard, each row is delivered and the next lead heard, so the
+-- Rows one after another: from ready with the first lead heard, each row is delivered and the next lead heard, so the
 -- reports are the rows at their last samples.
 use mathlib.Core.Path.{_≡_, refl, subst}
-use mathlib.Core.List.{List, [], _∷_}
+use mathlib.Core.List.{List, [], _∷_, _++_}
 use Prim.Native.Nat.{ℕ, zero, suc, _+_, _*_, _≤_, _<_}
 use native.Mathlib.Nat.{add-assoc}
 use native.Mathlib.Omega.{arith}
 use lib.ListN.{length}
+use Rattle.measure.specs.Levels.{Levels}
 use Rattle.sender.specs.Sending.{Row}
+use Rattle.sender.proofs.PlanWaves.{final, size}
+use Rattle.line.proofs.ClockBounds.{Clock, mono}
+use Rattle.line.proofs.LineLaws.{Settled}
 use Rattle.board.specs.Rows.{State, hunting, ready}
 use Rattle.board.specs.Feeding.{Report}
-use Rattle.promises.proofs.Clock.{Clock, mono}
-use Rattle.promises.proofs.Timing.{Settled, Waits, Margins}
-use Rattle.promises.proofs.Cells.{Bits}
-use Rattle.promises.proofs.Sent.{final, Line, size}
+use Rattle.board.proofs.Goes.{Goes, here, join}
+use Rattle.promises.proofs.Timing.{Waits, Margins}
+use Rattle.promises.proofs.Sent.{Filled, Line}
 use Rattle.promises.proofs.Sampling.{Samples}
-use Rattle.promises.proofs.Goes.{Goes, here, join}
 use Rattle.promises.proofs.OneRow.{deliveredAt, Ended, RowFrom, one-row, two}
 use Rattle.promises.proofs.Quiets.{Lead, lead-reads, silent, waits, readied}
 
 -- each row has n bits and a lead with M5 -1 or more
-abbrev pub Fit : ℕ → ℕ → ℕ → ℕ → ℕ → List Row → Type 0
+abbrev pub Fit : (n Q g w1 r2 : ℕ) → List Row → Type 0
 Fit n Q g w1 r2 [] = Unit {0}
 Fit n Q g w1 r2 (row ∷ rows) =
-    Bits (row .bits) × (length (row .bits) ≡ n) × ((Q + 1) * r2 + g * w1 ≤ suc (row .lead * w1)) × Fit n Q g w1 r2 rows
+    Levels (row .bits)
+    × (length (row .bits) ≡ n)
+    × ((Q + 1) * r2 + g * w1 ≤ suc (row .lead * w1))
+    × Fit n Q g w1 r2 rows
+
+pub later-fit : (n Q g w1 r2 : ℕ) (qs rs : List Row) → Fit n Q g w1 r2 (qs ++ rs) → Fit n Q g w1 r2 rs
+later-fit n Q g w1 r2 [] rs h = h
+later-fit n Q g w1 r2 (q ∷ qs) rs h = later-fit n Q g w1 r2 qs rs (h .3)
+
+pub filled : (n Q g w1 r2 : ℕ) (rows : List Row) → 0 < n → Fit n Q g w1 r2 rows → Filled rows
+filled n Q g w1 r2 [] p h = tt
+filled n Q g w1 r2 (row ∷ rows) p h = (omega (arith, h .1), filled n Q g w1 r2 rows p (h .3))
 
 -- Rows from cycle c on, each reported at its last sample: the n-th that the counted rule finds from the read on after
 -- its lead has been heard. N reads are there.

@@ -1,6 +1,5 @@
 -- The margins are needed: where one is minus two or less, a read of a message of one bit settles wrongly, since it
--- shares time with a cycle that
--- is not known.
+-- shares time with a cycle that is not known.
 use mathlib.Core.Path.{_≡_, sym, ap, _∙_}
 use mathlib.Core.Logic.{_≢_, dite}
 use mathlib.Core.List.{List, [], _∷_}
@@ -9,20 +8,20 @@ use native.Mathlib.Nat.{zero-add, mul-le-mul-right, lt-of-mul-lt-mul-right}
 use native.Mathlib.Decide.{ℕ-discrete, decLe}
 use native.Mathlib.Omega.{arith}
 use lib.ListN.{length, getD, replicate, List·getD-eq-default}
+use Rattle.measure.specs.Levels.{Levels}
+use Rattle.measure.proofs.LevelLaws.{most-replicate}
 use Rattle.sender.specs.Sending.{wave}
+use Rattle.sender.proofs.Cells.{length-wave}
+use Rattle.sender.proofs.Waves.{wave-levels, wave-carries, wave-leads, wave-trails}
 use Rattle.line.specs.Warp.{cycleStart, readStart, warpBy}
-use Rattle.line.specs.Settle.{settle}
-use Rattle.line.proofs.Entries.{AtMost, most-none}
 use Rattle.line.proofs.Clocks.{even-clocks}
+use Rattle.line.proofs.ClockBounds.{cycle-of}
+use Rattle.line.proofs.SmoothBy.{smoothBy, length-smooth-by}
+use Rattle.line.proofs.LineLaws.{lineBy, Reads, line-reads}
+use Rattle.line.proofs.KnownCycles.{Known, stays-high, stays-low}
 use Rattle.counted.specs.Counted.{counted}
 use Rattle.counted.proofs.Samples.{counted-step}
-use Rattle.promises.proofs.Clock.{cycle-of}
-use Rattle.promises.proofs.LevelLists.{most-replicate}
-use Rattle.promises.proofs.Smoothing.{smoothBy, length-smooth-by, smooth-by-most}
-use Rattle.promises.proofs.Stretches.{length-wave, wave-most, wave-carries, wave-leads, wave-trails}
-use Rattle.promises.proofs.Reading.{Reads, line-reads}
-use Rattle.promises.proofs.Unsampled.{unsampled}
-use Rattle.promises.proofs.Kept.{Known, stays-high, stays-low}
+use Rattle.counted.proofs.LateMarks.{counted-late}
 
 -- the mark of a single 1 is the only low of its wave
 low-in-mark : (a b p1 p2 c : ℕ) → getD (wave a b p1 p2 (1 ∷ [])) c 2 ≡ 0 → c < p1 + a
@@ -40,41 +39,43 @@ low-in-mark a b p1 p2 c e =
     )
 
 -- the reads of constant clocks over a wave with the settling count g, before they are settled
-abbrev pub unsettled : ℕ → ℕ → ℕ → ℕ → List ℕ → List ℕ
-unsettled w r p g l = warpBy (cycleStart w) (readStart p r) (smoothBy g 0 1 l)
+abbrev pub unsettled : (g w r p : ℕ) (l : List ℕ) → List ℕ
+unsettled g w r p l = warpBy (cycleStart w) (readStart p r) (smoothBy g 0 1 l)
 
--- settled by high choices alone, and by no choices
-abbrev pub settledHigh : ℕ → ℕ → ℕ → ℕ → ℕ → List ℕ → List ℕ
-settledHigh w r p g m l = settle (unsettled w r p g l) (replicate m 1)
+-- settled by these choices, by m high ones alone, and by none
+abbrev pub settledBy : (g w r p : ℕ) (l choices : List ℕ) → List ℕ
+settledBy g w r p l choices = lineBy (cycleStart w) (readStart p r) g l choices
 
-abbrev pub settledLow : ℕ → ℕ → ℕ → ℕ → List ℕ → List ℕ
-settledLow w r p g l = settle (unsettled w r p g l) []
+abbrev pub settledHigh : (g w r p m : ℕ) (l : List ℕ) → List ℕ
+settledHigh g w r p m l = settledBy g w r p l (replicate m 1)
 
-module _ (w r p g : ℕ) (l choices : List ℕ) (pos : 0 < r) (below : p < w) (levels : AtMost 1 l)
-    (chosen : AtMost 1 choices) where
-  reads : Reads (cycleStart w) (readStart p r) (smoothBy g 0 1 l) (settle (unsettled w r p g l) choices)
-  reads = line-reads (even-clocks w r p pos below) (smoothBy g 0 1 l) choices (smooth-by-most g 0 1 l levels) chosen
+abbrev pub settledLow : (g w r p : ℕ) (l : List ℕ) → List ℕ
+settledLow g w r p l = settledBy g w r p l []
 
-  ends-by : (q : ℕ) → q < length (settle (unsettled w r p g l) choices) → p + suc q * r ≤ length l * w
+module _ (g w r p : ℕ) (l choices : List ℕ) (pos : 0 < r) (below : p < w) (levels : Levels l)
+    (chosen : Levels choices) where
+  reads : Reads (cycleStart w) (readStart p r) (smoothBy g 0 1 l) (settledBy g w r p l choices)
+  reads = line-reads (even-clocks w r p pos below) g l choices levels chosen
+
+  ends-by : (q : ℕ) → q < length (settledBy g w r p l choices) → p + suc q * r ≤ length l * w
   ends-by q h = rw length-smooth-by at (reads .ends q h)
 
-  is-level : (q : ℕ) → q < length (settle (unsettled w r p g l) choices)
-      → getD (settle (unsettled w r p g l) choices) q 2 < 2
+  is-level : (q : ℕ) → q < length (settledBy g w r p l choices) → getD (settledBy g w r p l choices) q 2 ≤ 1
   is-level q h = reads .settled .level q (reads .ends q h)
 
 -- All choices are high, and read j starts one time unit before the mark has settled.
 module _ (a b g k w r p p1 p2 j x m : ℕ) (pos : 0 < r) (below : p < w) (lies : p + j * r + 1 ≡ (p1 + g) * w)
-    (enough : length (unsettled w r p g (wave a b p1 p2 (x ∷ []))) ≤ m) where
+    (enough : length (unsettled g w r p (wave a b p1 p2 (x ∷ []))) ≤ m) where
   abbrev l : List ℕ
   l = wave a b p1 p2 (x ∷ [])
 
   abbrev R : List ℕ
-  R = settledHigh w r p g m l
+  R = settledHigh g w r p m l
 
-  ends : (q : ℕ) → q < length R → p + suc q * r ≤ (p1 + (1 * (a + b) + p2)) * w
+  ends : (q : ℕ) → q < length R → p + suc q * r ≤ (p1 + 1 * (a + b) + p2) * w
   ends q h =
       rw (length-wave a b p1 p2 (x ∷ []))
-      at (ends-by w r p g l (replicate m 1) pos below (wave-most a b p1 p2 (x ∷ []))
+      at (ends-by g w r p l (replicate m 1) pos below (wave-levels a b p1 p2 (x ∷ []))
       (most-replicate 1 m 1 (omega arith)) q h)
 
   -- a read that is not high: each cycle that it shares time with was low
@@ -86,7 +87,7 @@ module _ (a b g k w r p p1 p2 j x m : ℕ) (pos : 0 < r) (below : p < w) (lies :
       (omega (
         arith,
         d,
-        is-level w r p g l (replicate m 1) pos below (wave-most a b p1 p2 (x ∷ []))
+        is-level g w r p l (replicate m 1) pos below (wave-levels a b p1 p2 (x ∷ []))
             (most-replicate 1 m 1 (omega arith)) q h,
       ))
 
@@ -95,7 +96,7 @@ module _ (a b g k w r p p1 p2 j x m : ℕ) (pos : 0 < r) (below : p < w) (lies :
       → (c : ℕ) × (c * w ≤ p + q * r) × (p + q * r < suc c * w) × Known g l c 0
   start-low q h d =
       let (c, y, z, u, v) =
-      cycle-of (cycleStart w) (p + q * r) (p1 + (1 * (a + b) + p2)) 0 (omega arith)
+      cycle-of (cycleStart w) (p + q * r) (p1 + 1 * (a + b) + p2) 0 (omega arith)
       (rw zero-add (omega (arith, ends q h))) in
       (c, u, v, low q h d c (omega arith) v)
 
@@ -119,24 +120,24 @@ module _ (a b g k w r p p1 p2 j x m : ℕ) (pos : 0 < r) (below : p < w) (lies :
   -- M3 is minus two or less, and there is no trail: the sample would be read past the wave's end
   pub late-sample : p2 ≡ 0 → (a + b) * w + 2 ≤ (k + 2) * r + g * w → counted k 1 1 R ≡ []
   late-sample none m3 =
-      unsampled R k 1 1 (j + 1) (λ i p q. high-to i (omega arith) q)
+      counted-late k 1 1 R (j + 1) 2 (λ i p q. high-to i (omega arith) q)
       (dite (decLe (length R) (j + 1 + k)) (λ h. h)
       (λ h. absurd (omega (arith, rw shape at (ends (j + 1 + k) (omega arith))))))
     where
-      shape : p1 + (1 * (a + b) + p2) ≡ p1 + (a + b)
+      shape : p1 + 1 * (a + b) + p2 ≡ p1 + (a + b)
       shape = omega arith
 
 -- M1 is minus two or less: no read lies wholly within the settled mark of a 1, so every read is high
 pub short-mark : (a b g k w r p p1 p2 j m : ℕ) → 0 < r → p < w → p + j * r + 1 ≡ (p1 + g) * w
-    → length (unsettled w r p g (wave a b p1 p2 (1 ∷ []))) ≤ m → a * w + 2 ≤ 2 * r + g * w
-    → counted k 1 1 (settledHigh w r p g m (wave a b p1 p2 (1 ∷ []))) ≡ []
+    → length (unsettled g w r p (wave a b p1 p2 (1 ∷ []))) ≤ m → a * w + 2 ≤ 2 * r + g * w
+    → counted k 1 1 (settledHigh g w r p m (wave a b p1 p2 (1 ∷ []))) ≡ []
 short-mark a b g k w r p p1 p2 j m pos below lies enough m1 =
-    unsampled reads k 1 1 (length reads)
+    counted-late k 1 1 reads (length reads) 2
     (λ q y h. dite (decLe q j) (λ le. high-to a b g k w r p p1 p2 j 1 m pos below lies enough q le h)
     (λ gt. high q h gt)) (omega arith)
   where
     reads : List ℕ
-    reads = settledHigh w r p g m (wave a b p1 p2 (1 ∷ []))
+    reads = settledHigh g w r p m (wave a b p1 p2 (1 ∷ []))
 
     high : (q : ℕ) → q < length reads → (q ≤ j → ⊥) → getD reads q 2 ≡ 1
     high q h gt =
@@ -164,21 +165,20 @@ short-mark a b g k w r p p1 p2 j m pos below lies enough m1 =
             wider q j gt = omega arith
 
 -- M2 is minus two or less, and there are no choices: the first read touches the cell's start and settles low, and its
--- sample starts before the
--- code has settled
+-- sample starts before the code has settled
 pub early-sample : (a b g k w r p p1 p2 : ℕ) → 0 < a → 0 < g → 0 < k → 0 < r → p < w → p1 * w < p + r
     → p + k * r < (p1 + (a + g)) * w
-    → counted k 1 1 (settledLow w r p g (wave a b p1 p2 (1 ∷ []))) ≢ 1 ∷ []
+    → counted k 1 1 (settledLow g w r p (wave a b p1 p2 (1 ∷ []))) ≢ 1 ∷ []
 early-sample a b g k w r p p1 p2 ha hg hk pos below touches early same =
     dite (decLe (suc k) (length reads)) sampled-low
-    (λ h. let none : [] ≡ 1 ∷ [] = sym (unsampled reads k 1 1 0 (λ i p q. absurd (omega arith)) (omega arith))
+    (λ h. let none : [] ≡ 1 ∷ [] = sym (counted-late k 1 1 reads 0 2 (λ i p q. absurd (omega arith)) (omega arith))
     ∙ same in omega (arith, ap length none))
   where
     sent : List ℕ
     sent = wave a b p1 p2 (1 ∷ [])
 
     reads : List ℕ
-    reads = settledLow w r p g sent
+    reads = settledLow g w r p sent
 
     -- the cycles of the mark and the first g of the code are not known high
     unknown : (c : ℕ) → p1 ≤ c → c < p1 + (a + g) → Known g sent c 1 → ⊥
@@ -201,7 +201,7 @@ early-sample a b g k w r p p1 p2 ha hg hk pos below touches early same =
         (unknown c x y
         (stays-high (even-clocks w r p pos below) g sent q c
         (record { before-the-end = u; after-the-start = v }) e)))
-        (λ d. omega (arith, d, is-level w r p g sent [] pos below (wave-most a b p1 p2 (1 ∷ [])) (most-none 1) q there))
+        (λ d. omega (arith, d, is-level g w r p sent [] pos below (wave-levels a b p1 p2 (1 ∷ [])) tt q there))
 
     sampled-low : k < length reads → ⊥
     sampled-low h =

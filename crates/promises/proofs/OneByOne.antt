@@ -13,7 +13,7 @@ use Rattle.board.specs.Packed.{receiverOf}
 use Rattle.board.specs.Answers.{reached, begun, stepped}
 use Rattle.board.proofs.RowRules.{Valid, valid-fresh, valid-next}
 use Rattle.board.proofs.Standing.{ranged-of, state-of-receiver, well-formed-of}
-use Rattle.promises.specs.Levels.{Levels}
+use Rattle.measure.specs.Levels.{Levels}
 use Rattle.promises.specs.OneByOne.{answers, AllGiven, reported, OperationReports}
 
 module _ (g : Settings) where

@@ -8,16 +8,20 @@ use native.Mathlib.Decide.{ℕ-discrete, decLe}
 use native.Mathlib.Omega.{arith}
 use lib.ListN.{length, length-append}
 use Rattle.measure.specs.Cells.{bitOf}
+use Rattle.measure.specs.Levels.{Levels}
 use Rattle.sender.specs.Sending.{codeLevel}
+use Rattle.sender.proofs.Cells.{code-level-most}
+use Rattle.sender.proofs.Waves.{bit-code}
+use Rattle.sender.proofs.PlanWaves.{final}
+use Rattle.line.proofs.ClockBounds.{Clock, mono, span-low, span-high}
+use Rattle.line.proofs.LineLaws.{Settled}
 use Rattle.board.specs.Rows.{row, runAfter, hunting, ready, counting, waiting, next}
 use Rattle.board.specs.Feeding.{Report}
-use Rattle.promises.proofs.Clock.{Clock, mono, span-low, span-high}
-use Rattle.promises.proofs.Timing.{Cell, Settled, Waits, Heard, Margins, hear, counts, takes-time}
-use Rattle.promises.proofs.Cells.{Bits, Holds, code-level, bit-code}
-use Rattle.promises.proofs.Sent.{final}
+use Rattle.board.proofs.RowSteps.{rules, silently, run-grows, opened, sample-last, sample-more, marks}
+use Rattle.board.proofs.Goes.{Goes, here, then, step, join, stay, linger, downto}
+use Rattle.promises.proofs.Timing.{Cell, Waits, Heard, Margins, hear, counts, takes-time}
+use Rattle.promises.proofs.Cells.{Holds}
 use Rattle.promises.proofs.Sampling.{Samples, none, more}
-use Rattle.promises.proofs.Steps.{rules, silently, run-most, opened, sample-last, sample-more, marks}
-use Rattle.promises.proofs.Goes.{Goes, here, then, step, join, stay, linger, downto}
 
 -- a row that is delivered with a read
 abbrev pub deliveredAt : ℕ → List ℕ → Report
@@ -25,7 +29,7 @@ deliveredAt place bits = record { place = place; event = row bits }
 
 -- Before read j the receiver hunts with the run ρ, and the cells of a row, which end at cycle c, leave the level u.
 pub record Ended (tw tr S : ℕ → ℕ) (g Q c u j ρ : ℕ) : Type 0 where
-  pub level : u < 2
+  pub level : u ≤ 1
   pub runs : ρ < Q
   pub nought : u ≡ 0 → ρ ≡ 0
   pub since : ℕ
@@ -59,8 +63,8 @@ module _ {tw tr S D : ℕ → ℕ} {w1 w2 r1 r2 end : ℕ} (wclk : Clock tw w1 w
       go (no h) = omega (arith, two)
 
   -- The receiver counts after the mark m of the cell at c, for which it waited at v from read j on, and has the bits
-  -- bs. It delivers those and the bits
-  -- of the cells from c on, with the last sample that the counted rule finds from read j on.
+  -- bs. It delivers those and the bits of the cells from c on, with the last sample that the counted rule finds from
+  -- read j on.
   abbrev Delivered : ℕ → ℕ → ℕ → ℕ → List ℕ → List ℕ → ℕ → Type 0
   Delivered j m ρ v bs bits c =
       (s : ℕ) × (σ : ℕ)
@@ -69,7 +73,7 @@ module _ {tw tr S D : ℕ → ℕ} {w1 w2 r1 r2 end : ℕ} (wclk : Clock tw w1 w
       × Samples k D (length bits) v j s
 
   -- one cell: from its mark to its sample
-  module _ (x c v j m ρ : ℕ) (bs : List ℕ) (lv : v < 2) (lx : x < 2) (lr : ρ ≤ 1)
+  module _ (x c v j m ρ : ℕ) (bs : List ℕ) (lv : v ≤ 1) (lx : x ≤ 1) (lr : ρ ≤ 1)
       (cell : Cell S a b g c v (codeLevel v x))
       (heard : Heard tw tr D a b g k r2 c v (codeLevel v x) j m) where
     short : k + 1 < Q
@@ -104,10 +108,10 @@ module _ {tw tr S D : ℕ → ℕ} {w1 w2 r1 r2 end : ℕ} (wclk : Clock tw w1 w
           runAfter Q σ (D (m + k)),
           join k n Q D f
               (then (sample-last k n Q (1 - v) σ bs (D (m + k)) x
-              (omega (arith, run-most Q σ (D (m + k)), short)) bit-is l) here),
+              (omega (arith, run-grows Q σ (D (m + k)), short)) bit-is l) here),
           record {
-            level = code-level v x lv lx;
-            runs = omega (arith, run-most Q σ (D (m + k)), short);
+            level = code-level-most v x lv;
+            runs = omega (arith, run-grows Q σ (D (m + k)), short);
             nought = sampled-low σ;
             since = c + (a + g);
             settled = omega (arith, heard .late, rclk .low (m + k));
@@ -136,7 +140,7 @@ module _ {tw tr S D : ℕ → ℕ} {w1 w2 r1 r2 end : ℕ} (wclk : Clock tw w1 w
         later = go (ℕ-discrete s m′)
           where
             go : Dec (s ≡ m′) → s < m′
-            go (yes e) = absurd (omega (arith, heard .sample, next′ .differs, ap D e, code-level v x lv lx))
+            go (yes e) = absurd (omega (arith, heard .sample, next′ .differs, ap D e, code-level-most v x lv))
             go (no d) = omega (arith, next′ .from)
 
         close : m′ < m + Q
@@ -158,7 +162,8 @@ module _ {tw tr S D : ℕ → ℕ} {w1 w2 r1 r2 end : ℕ} (wclk : Clock tw w1 w
             (suc s + (m′ - suc s)) (waiting (codeLevel v x) τ (bs ++ (x ∷ [])))
             → Onward m′
         mark σ h f (τ, p, z, w) =
-            go (marks k n Q (codeLevel v x) τ (bs ++ (x ∷ [])) two (code-level v x lv lx) (λ e. z e (sampled-low σ e)))
+            go (marks k n Q (codeLevel v x) τ (bs ++ (x ∷ [])) two (code-level-most v x lv)
+            (λ e. z e (sampled-low σ e)))
           where
             to-wait : next (rules k n Q) (counting 1 (1 - v) σ bs) (D s)
                 ≡ silently (waiting (codeLevel v x) (runAfter Q σ (D s)) (bs ++ (x ∷ [])))
@@ -179,12 +184,12 @@ module _ {tw tr S D : ℕ → ℕ} {w1 w2 r1 r2 end : ℕ} (wclk : Clock tw w1 w
         wait : (σ : ℕ) × (σ < ρ + k) × Goes k n Q D (suc m) (counting k (1 - v) ρ bs) [] s (counting 1 (1 - v) σ bs)
             → Onward m′
         wait (σ, p, f) =
-            mark σ (omega (arith, run-most Q σ (D s), short)) f
+            mark σ (omega (arith, run-grows Q σ (D s), short)) f
             (linger k n Q D (m′ - suc s) (suc s) (codeLevel v x) (runAfter Q σ (D s)) (bs ++ (x ∷ []))
             (λ i y z. next′ .before i (omega arith) (omega (arith, place)))
-            (omega (arith, run-most Q σ (D s), close, later)))
+            (omega (arith, run-grows Q σ (D s), close, later)))
 
-  body : (xs : List ℕ) (x c v j m ρ : ℕ) (bs : List ℕ) → v < 2 → x < 2 → Bits xs → ρ ≤ 1
+  body : (xs : List ℕ) (x c v j m ρ : ℕ) (bs : List ℕ) → v ≤ 1 → x ≤ 1 → Levels xs → ρ ≤ 1
       → Cell S a b g c v (codeLevel v x)
       → Heard tw tr D a b g k r2 c v (codeLevel v x) j m → Holds a b g S (c + (a + b)) (codeLevel v x) xs
       → length bs + suc (length xs) ≡ n
@@ -192,13 +197,13 @@ module _ {tw tr S D : ℕ → ℕ} {w1 w2 r1 r2 end : ℕ} (wclk : Clock tw w1 w
   body [] x c v j m ρ bs lv lx hb lr cell heard hs l e = last x c v j m ρ bs lv lx lr cell heard (omega arith)
   body (y ∷ ys) x c v j m ρ bs lv lx hb lr cell heard hs l e =
       go (hear wclk rclk pos see ok (c + (a + b)) (codeLevel v x) (codeLevel (codeLevel v x) y) (m + k) lu
-      (code-level (codeLevel v x) y lu (hb .0)) inside (hs .0) (heard .next))
+      (code-level-most (codeLevel v x) y lu) inside (hs .0) (heard .next))
       λ m′ σ q h. body ys y (c + (a + b)) (codeLevel v x) (m + k) m′ σ (bs ++ (x ∷ [])) lu (hb .0) (hb .1) q (hs .0) h
       (hs .1)
       (rw length-append (omega arith)) (subst (λ (i : ℕ). tw i ≤ end) further e)
     where
-      lu : codeLevel v x < 2
-      lu = code-level v x lv lx
+      lu : codeLevel v x ≤ 1
+      lu = code-level-most v x lv
 
       further : c + suc (suc (length ys)) * (a + b) ≡ c + (a + b) + suc (length ys) * (a + b)
       further = omega arith
@@ -231,12 +236,12 @@ module _ {tw tr S D : ℕ → ℕ} {w1 w2 r1 r2 end : ℕ} (wclk : Clock tw w1 w
       × Ended tw tr S g Q (c + length bits * (a + b)) (final 1 bits) (suc s) σ
       × Samples k D (length bits) 1 j s
 
-  pub one-row : (bits : List ℕ) (c j : ℕ) → 0 < n → Bits bits → Holds a b g S c 1 bits → Waits tw tr D g c 1 j
+  pub one-row : (bits : List ℕ) (c j : ℕ) → 0 < n → Levels bits → Holds a b g S c 1 bits → Waits tw tr D g c 1 j
       → length bits ≡ n
       → tw (c + length bits * (a + b)) ≤ end → RowFrom bits c j
   one-row [] c j some hb hs wait l e = absurd (omega arith)
   one-row (x ∷ xs) c j some hb hs wait l e =
-      go (hear wclk rclk pos see ok c 1 (codeLevel 1 x) j (omega arith) (code-level 1 x (omega arith) (hb .0)) inside
+      go (hear wclk rclk pos see ok c 1 (codeLevel 1 x) j (omega arith) (code-level-most 1 x (omega arith)) inside
       (hs .0) wait)
     where
       inside : tw (c + (a + b)) ≤ end

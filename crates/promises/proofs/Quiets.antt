@@ -6,12 +6,13 @@ use Prim.Native.Nat.{ℕ, zero, suc, _+_, _*_, _-_, _≤_, _<_}
 use native.Mathlib.Nat.{add-assoc, lt-of-mul-lt-mul-right, mul-le-mul-right}
 use native.Mathlib.Decide.{ℕ-discrete, decLe}
 use native.Mathlib.Omega.{arith}
+use Rattle.line.proofs.ClockBounds.{Clock, mono, span-high, reach-low}
+use Rattle.line.proofs.LineLaws.{Settled}
 use Rattle.board.specs.Rows.{State, hunting, ready}
 use Rattle.board.specs.Feeding.{Report}
-use Rattle.promises.proofs.Clock.{Clock, mono, span-high, reach-low}
-use Rattle.promises.proofs.Timing.{Settled, Waits, Margins, Crossing, quiet, cross}
-use Rattle.promises.proofs.Steps.{hunts}
-use Rattle.promises.proofs.Goes.{Goes, here, step, join, one-way, hunt, rise, lift}
+use Rattle.board.proofs.RowSteps.{hunts}
+use Rattle.board.proofs.Goes.{Goes, here, step, join, one-way, hunt, rise, lift}
+use Rattle.promises.proofs.Timing.{Waits, Margins, Crossing, quiet, cross}
 use Rattle.promises.proofs.OneRow.{Ended, two, few}
 
 -- The Q reads from i0 on are the first that lie wholly within a lead, from cycle c on, without its first g cycles.

@@ -1,39 +1,39 @@
 -- The counted receiver returns the message: in front of each cell it waits at the level before it, hears the mark and
--- samples the code, and so
--- waits in front of the next.
-use mathlib.Core.Path.{_≡_, refl, subst, _∙_}
+-- samples the code, and so waits in front of the next.
+use mathlib.Core.Path.{_≡_, subst, _∙_}
 use mathlib.Core.List.{List, [], _∷_}
 use Prim.Native.Nat.{ℕ, suc, _+_, _*_, _≤_, _<_}
 use native.Mathlib.Omega.{arith}
 use lib.ListN.{length, getD, drop}
+use Rattle.measure.specs.Levels.{Levels}
 use Rattle.sender.specs.Sending.{codeLevel, wave}
+use Rattle.sender.proofs.Cells.{length-wave, code-level-most}
+use Rattle.sender.proofs.Waves.{bit-code, wave-carries, wave-leads}
+use Rattle.line.proofs.ClockBounds.{Clock, mono}
+use Rattle.line.proofs.SmoothBy.{smoothBy, length-smooth-by, flat}
+use Rattle.line.proofs.LineLaws.{Settled, Reads}
 use Rattle.counted.specs.Counted.{counted}
 use Rattle.counted.proofs.Samples.{counted-step}
-use Rattle.promises.specs.Levels.{Levels}
-use Rattle.promises.proofs.Clock.{Clock, mono}
-use Rattle.promises.proofs.Timing.{Settled, Waits, Heard, Margins, quiet, hear}
-use Rattle.promises.proofs.Cells.{Holds, code-level, bit-code}
-use Rattle.promises.proofs.Smoothing.{smoothBy, length-smooth-by, flat}
-use Rattle.promises.proofs.Stretches.{length-wave, wave-carries, wave-leads, holds}
-use Rattle.promises.proofs.Reading.{Reads}
+use Rattle.counted.proofs.AllFound.{counted-nothing}
+use Rattle.promises.proofs.Timing.{Waits, Heard, Margins, quiet, hear}
+use Rattle.promises.proofs.Cells.{Holds, holds}
 
 -- from read j on, in front of the cell at cycle c
 module _ {tw tr S : ℕ → ℕ} {w1 w2 r1 r2 end : ℕ} (rs : List ℕ) (wclk : Clock tw w1 w2) (rclk : Clock tr r1 r2)
     (pos : 0 < r1)
     (see : Settled tw tr S (λ i. getD rs i 2) end) (there : (i : ℕ) → tr (suc i) ≤ end → i < length rs)
     {a b g k : ℕ} (ok : Margins a b g k w1 w2 r1 r2) where
-  pub received : (bits : List ℕ) (c v j : ℕ) → Levels bits → v < 2 → Holds a b g S c v bits
+  pub received : (bits : List ℕ) (c v j : ℕ) → Levels bits → v ≤ 1 → Holds a b g S c v bits
       → Waits tw tr (λ i. getD rs i 2) g c v j
       → tw (c + length bits * (a + b)) ≤ end → counted k (length bits) v (drop j rs) ≡ bits
-  unfolding counted
-  received [] c v j hb lv hs wait e = refl
+  received [] c v j hb lv hs wait e = counted-nothing k v (drop j rs)
   received (x ∷ xs) c v j hb lv hs wait e =
       go (hear wclk rclk pos see ok c v (codeLevel v x) j lv level inside (hs .0) wait)
       λ m w. received xs (c + (a + b)) (codeLevel v x) (m + k) (hb .1) level (hs .1) w
       (subst (λ (i : ℕ). tw i ≤ end) (further c (length xs) (a + b)) e)
     where
-      level : codeLevel v x < 2
-      level = code-level v x lv (hb .0)
+      level : codeLevel v x ≤ 1
+      level = code-level-most v x lv
 
       inside : tw (c + (a + b)) ≤ end
       inside = omega (arith, e, mono wclk (c + (a + b)) (c + suc (length xs) * (a + b)) (omega arith))
@@ -51,8 +51,7 @@ module _ {tw tr S : ℕ → ℕ} {w1 w2 r1 r2 end : ℕ} (rs : List ℕ) (wclk :
           ∙ rw (q .differs, q .sample, bit-code v x lv (hb .0), more m (q .next))
 
 -- margins of minus one or more and any clocks within their bounds, the phase below the first writer cycle: the
--- receiver, started high, returns
--- the message
+-- receiver, started high, returns the message
 module _ {tw tr : ℕ → ℕ} {w1 w2 r1 r2 : ℕ} (wclk : Clock tw w1 w2) (rclk : Clock tr r1 r2) (pos : 0 < r1)
     (phase : tw 0 ≤ tr 0) (below : tr 0 < tw 1) {a b g k : ℕ} (settles : 0 < g) (ok : Margins a b g k w1 w2 r1 r2) where
   pub returns : (p1 p2 : ℕ) (bits rs : List ℕ) → Levels bits → Reads tw tr (smoothBy g 0 1 (wave a b p1 p2 bits)) rs

@@ -8,23 +8,24 @@ use native.Mathlib.Omega.{arith}
 use lib.ListN.{length, getD, take, drop, length-append, length-drop, length-take, take-append-drop}
 use lib.Seq.{getD-drop, length-take-le, drop-drop}
 use Rattle.sender.specs.Sending.{Row, planWave}
+use Rattle.sender.proofs.PlanWaves.{size, length-rows}
 use Rattle.line.specs.Sharing.{Shares}
+use Rattle.line.proofs.ClockBounds.{Clock, mono, cycle-of}
+use Rattle.line.proofs.SmoothBy.{smoothBy, length-smooth-by}
+use Rattle.line.proofs.LineLaws.{Reads}
 use Rattle.board.specs.Rows.{State, fresh, ready, next}
 use Rattle.board.specs.Feeding.{Report, Step, afterBy, reportsBy}
 use Rattle.board.proofs.FeedingLaws.{after-append}
+use Rattle.board.proofs.RowSteps.{rules}
+use Rattle.board.proofs.Goes.{Goes}
+use Rattle.board.proofs.Fed.{feeds, leads}
 use Rattle.promises.specs.Replaced.{below, above, moved}
-use Rattle.promises.proofs.Clock.{Clock, mono}
 use Rattle.promises.proofs.Timing.{Margins}
-use Rattle.promises.proofs.Smoothing.{smoothBy, length-smooth-by}
-use Rattle.promises.proofs.Reading.{Reads}
-use Rattle.promises.proofs.Sent.{Line, size, length-plan, sent, settles-in-code}
-use Rattle.promises.proofs.Steps.{rules}
-use Rattle.promises.proofs.Goes.{Goes}
+use Rattle.promises.proofs.Sent.{Line, sent, settles-in-code, later-line}
 use Rattle.promises.proofs.OneRow.{two}
 use Rattle.promises.proofs.Quiets.{Lead, from-any}
-use Rattle.promises.proofs.ManyRows.{Fit, Placed, heard-lead, heard-rows, delivered}
-use Rattle.promises.proofs.Fed.{movedTo, first-part, last-part, moves, feeds}
-use Rattle.promises.proofs.Parts.{cycle-of, later-line, later-fit, filled, leads}
+use Rattle.promises.proofs.ManyRows.{Fit, later-fit, filled, Placed, heard-lead, heard-rows, delivered}
+use Rattle.promises.proofs.Seams.{movedTo, first-part, last-part, moves}
 
 -- below the stretch the reports are those of the reads as they were
 pub before-stretch : (step : Step) (R : List ℕ) (i j : ℕ) (junk : List ℕ) → i ≤ length R
@@ -97,7 +98,7 @@ module _ {tw tr : ℕ → ℕ} {w1 w2 r1 r2 : ℕ} (wclk : Clock tw w1 w2) (rclk
       (filled n Q g w1 r2 rows some fit)
 
   total : 0 + size (a + b) 0 rows ≡ L
-  total = rw length-smooth-by (omega (arith, length-plan a b 0 rows))
+  total = rw length-smooth-by (omega (arith, length-rows a b 0 rows))
 
   begun : tr 0 ≤ tw g
   begun = omega (arith, mono wclk 1 g settles)
@@ -118,8 +119,7 @@ module _ {tw tr : ℕ → ℕ} {w1 w2 r1 r2 : ℕ} (wclk : Clock tw w1 w2) (rclk
           subst (λ (x : List Report). Told x 0 rows) (sym (feeds k n Q D f R (zero-add _) (λ h y. rw zero-add) .0)) p
 
   -- The lead of a row, from cycle c on, is read wholly from read j on. Then the receiver is ready after its Q reads
-  -- from any state before read j, and from there
-  -- exactly that row and those after it are reported.
+  -- from any state before read j, and from there exactly that row and those after it are reported.
   pub record Recovered (j c : ℕ) (row : Row) (later : List Row) : Type 0 where
     pub i0 : ℕ
     pub lead : Lead tw tr g Q c (row .lead) i0
@@ -153,7 +153,7 @@ module _ {tw tr : ℕ → ℕ} {w1 w2 r1 r2 : ℕ} (wclk : Clock tw w1 w2) (rclk
           (reads .there) row later (c + t) fit′))
         where
           at : c + t ≡ length (planWave a b earlier)
-          at = omega (arith, length-plan a b 0 earlier)
+          at = omega (arith, length-rows a b 0 earlier)
 
           within : c + (t + row .lead) ≤ L
           within = omega (arith, total′)

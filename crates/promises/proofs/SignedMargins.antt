@@ -9,7 +9,8 @@ use lib.IntN.{ℤ, pos, negsuc, _+ℤ_}
 use borrow.Author.Tests.{lt-ltb, le-leb, leb-true}
 use Rattle.settings.specs.Margins.{m1, m2, m3, zeroOrMore, accepted}
 use Rattle.measure.proofs.Both.{both-3}
-use Rattle.settings.proofs.Inequalities.{margin-least, accepted-keeps}
+use Rattle.settings.proofs.Inequalities.{accepted-keeps}
+use Rattle.settings.proofs.NearlyMet.{m1-nearly, m2-nearly, m3-nearly}
 use Rattle.promises.specs.WhatNoMeans.{minusOneOrMore, almostAccepted}
 use Rattle.promises.proofs.Timing.{Margins}
 
@@ -20,17 +21,14 @@ one-more (negsuc zero) = refl
 one-more (negsuc (suc n)) = rw (lt-ltb 1 (suc (suc n)) (omega arith))
 
 module _ (a b k w r : ℕ) where
-  m1-almost : minusOneOrMore (m1 a w r) ≡ leb (1 * w + 2 * r) (a * w + 1)
-  unfolding m1
-  m1-almost = one-more (m1 a w r) ∙ margin-least 1 a 1 w 2 r
+  m1-almost : minusOneOrMore (m1 a w r) ≡ leb (2 * r + w) (a * w + 1)
+  m1-almost = one-more (m1 a w r) ∙ m1-nearly 1 a b k w r
 
-  m2-almost : minusOneOrMore (m2 a k w r) ≡ leb (1 * r + (a + 1) * w) (k * r + 1)
-  unfolding m2
-  m2-almost = one-more (m2 a k w r) ∙ margin-least 1 k 1 r (a + 1) w
+  m2-almost : minusOneOrMore (m2 a k w r) ≡ leb ((a + 1) * w + r) (k * r + 1)
+  m2-almost = one-more (m2 a k w r) ∙ m2-nearly 1 a b k w r
 
-  m3-almost : minusOneOrMore (m3 a b k w r) ≡ leb (1 * w + (k + 2) * r) ((a + b) * w + 1)
-  unfolding m3
-  m3-almost = one-more (m3 a b k w r) ∙ margin-least 1 (a + b) 1 w (k + 2) r
+  m3-almost : minusOneOrMore (m3 a b k w r) ≡ leb ((k + 2) * r + w) ((a + b) * w + 1)
+  m3-almost = one-more (m3 a b k w r) ∙ m3-nearly 1 a b k w r
 
   pub almost-margins : almostAccepted a b k w r ≡ true → Margins a b 1 k w w r r
   unfolding almostAccepted
@@ -38,9 +36,9 @@ module _ (a b k w r : ℕ) where
       let (one, two, three) =
       both-3 (minusOneOrMore (m1 a w r)) (minusOneOrMore (m2 a k w r)) (minusOneOrMore (m3 a b k w r)) h in
       record {
-        m1 = omega (arith, leb-true (1 * w + 2 * r) (a * w + 1) (sym m1-almost ∙ one));
-        m2 = omega (arith, leb-true (1 * r + (a + 1) * w) (k * r + 1) (sym m2-almost ∙ two));
-        m3 = omega (arith, leb-true (1 * w + (k + 2) * r) ((a + b) * w + 1) (sym m3-almost ∙ three));
+        m1 = omega (arith, leb-true (2 * r + w) (a * w + 1) (sym m1-almost ∙ one));
+        m2 = omega (arith, leb-true ((a + 1) * w + r) (k * r + 1) (sym m2-almost ∙ two));
+        m3 = omega (arith, leb-true ((k + 2) * r + w) ((a + b) * w + 1) (sym m3-almost ∙ three));
       }
 
   pub margins-almost : Margins a b 1 k w w r r → almostAccepted a b k w r ≡ true
@@ -50,9 +48,9 @@ module _ (a b k w r : ℕ) where
         m1-almost,
         m2-almost,
         m3-almost,
-        le-leb (1 * w + 2 * r) (a * w + 1) (omega (arith, ok .m1)),
-        le-leb (1 * r + (a + 1) * w) (k * r + 1) (omega (arith, ok .m2)),
-        le-leb (1 * w + (k + 2) * r) ((a + b) * w + 1) (omega (arith, ok .m3)),
+        le-leb (2 * r + w) (a * w + 1) (omega (arith, ok .m1)),
+        le-leb ((a + 1) * w + r) (k * r + 1) (omega (arith, ok .m2)),
+        le-leb ((k + 2) * r + w) ((a + b) * w + 1) (omega (arith, ok .m3)),
       )
 
   pub accepted-margins : accepted a b k w r ≡ true → Margins a b 1 k w w r r

@@ -1,21 +1,14 @@
 -- One cell of the line, read by another clock: the margins place its mark within its settled mark subcell and its
 -- sample within its settled code subcell.
-use mathlib.Core.Path.{_≡_, refl, subst, sym, ap}
+use mathlib.Core.Path.{_≡_, subst}
 use mathlib.Core.Logic.{_≢_}
 use Prim.Native.Nat.{ℕ, zero, suc, _+_, _*_, _-_, _≤_, _<_, suc-le-suc}
 use native.Mathlib.Nat.{add-zero, add-suc, lt-of-mul-lt-mul-right, mul-le-mul-left}
 use native.Mathlib.Numerals.{add-one}
 use native.Mathlib.Omega.{arith}
 use native.Mathlib.Decide.{ℕ-discrete, decLe}
-use Rattle.promises.proofs.Clock.{Clock, span-low, span-high, reach-low, mono}
-
--- What is known of settled reads D of a smoothed wave S, up to the time end: where all cycles that share more than a
--- point
--- of time with read j have the level v, the read is v; and every read is a level.
-pub record Settled (tw tr S D : ℕ → ℕ) (end : ℕ) : Type 0 where
-  pub agrees : (j v : ℕ) → v < 2 → tr (suc j) ≤ end
-      → ((i : ℕ) → tw i < tr (suc j) → tr j < tw (suc i) → S i ≡ v) → D j ≡ v
-  pub level : (j : ℕ) → tr (suc j) ≤ end → D j < 2
+use Rattle.line.proofs.ClockBounds.{Clock, span-high, reach-low, mono}
+use Rattle.line.proofs.LineLaws.{Settled}
 
 -- M1, M2 and M3 are -1 or more, with no difference written, for clocks from w1 to w2 and r1 to r2 and the settling
 -- count g
@@ -73,7 +66,7 @@ Crossing tr r2 x j = (m : ℕ) × (j ≤ m) × (x ≤ tr m) × (tr m < x + r2) �
 module _ {tw tr S D : ℕ → ℕ} {w1 w2 r1 r2 end : ℕ} (wclk : Clock tw w1 w2) (rclk : Clock tr r1 r2) (pos : 0 < r1)
     (see : Settled tw tr S D end) where
   -- S is v on the cycles from c0 up to c1, and the read lies within them
-  pub quiet : (c0 c1 j v : ℕ) → v < 2 → tr (suc j) ≤ end → ((i : ℕ) → c0 ≤ i → i < c1 → S i ≡ v)
+  pub quiet : (c0 c1 j v : ℕ) → v ≤ 1 → tr (suc j) ≤ end → ((i : ℕ) → c0 ≤ i → i < c1 → S i ≡ v)
       → tw c0 ≤ tr j → tr (suc j) ≤ tw c1 → D j ≡ v
   quiet c0 c1 j v lv e s lo hi = see .agrees j v lv e λ i p q. s i (after i q) (before i p)
     where
@@ -136,7 +129,7 @@ module _ {tw tr S D : ℕ → ℕ} {w1 w2 r1 r2 end : ℕ} (wclk : Clock tw w1 w
     within : (c n : ℕ) → tr n < tw (c + g) + r2 → tr (suc n) ≤ tw (c + a)
     within c n h = omega (arith, rclk .high n, reach-low wclk c g a (omega (arith, room)), ok .m1)
 
-    module _ (c v u j : ℕ) (lv : v < 2) (lu : u < 2) (e : tw (c + (a + b)) ≤ end) (cell : Cell S a b g c v u)
+    module _ (c v u j : ℕ) (lv : v ≤ 1) (lu : u ≤ 1) (e : tw (c + (a + b)) ≤ end) (cell : Cell S a b g c v u)
         (wait : Waits tw tr D g c v j) where
       -- the sample of a mark that ends after the edge and starts soon after it
       sampled : (m : ℕ) → j ≤ m → ((i : ℕ) → j ≤ i → i < m → D i ≡ v) → D m ≡ 1 - v → tr m < tw (c + g) + r2

@@ -1,5 +1,5 @@
 -- P10's two rows: the hypotheses are met by computation, and what demand 3 says of the replaced stretch is computed
--- beside it.
+-- beside it. For that the rooms' definitions are unfolded.
 use mathlib.Core.Path.{refl}
 use mathlib.Core.List.{[], _∷_}
 use native.Mathlib.Omega.{arith}
@@ -8,11 +8,12 @@ use Rattle.sender.specs.Sending.{cells, wave, planWave}
 use Rattle.line.specs.Smooth.{smoothFrom}
 use Rattle.line.specs.Warp.{look, dropped, warpFrom, warp}
 use Rattle.line.specs.Settle.{settle}
+use Rattle.line.specs.Passes.{overTheLine}
 use Rattle.counted.specs.Counted.{fromMark}
 use Rattle.board.specs.Rows.{next}
 use Rattle.board.specs.Feeding.{reportsBy}
-use Rattle.promises.specs.Places.{readsOf, cyclesOf, passing, numbered, withinLead, heard, markPlace, samplePlace}
-use Rattle.promises.specs.Places.{lastSample, deliveries}
+use Rattle.promises.specs.Places.{planReads, cyclesOf, placesWhere, numbered, withinLead, heard, markPlace}
+use Rattle.promises.specs.Places.{samplePlace, lastSample, deliveries}
 use Rattle.promises.specs.Replaced.{WhollyAfter, reportsAt, moved}
 use Rattle.promises.specs.Demand3.{Fitting}
 use Rattle.promises.specs.Tried.{first, second, p10, false-quiet, Tried}
@@ -36,7 +37,8 @@ unfolding planWave wave cells
 wholly-after i read lo hi here shares = omega (arith, shares .before-the-end)
 
 pub tried : Tried
-unfolding readsOf settle warp warpFrom look dropped smoothFrom planWave wave cells next reportsBy fromMark passing numbered withinLead heard markPlace samplePlace lastSample deliveries reportsAt moved
+unfolding planReads overTheLine settle warp warpFrom look dropped smoothFrom planWave wave cells next reportsBy fromMark
+    placesWhere numbered withinLead heard markPlace samplePlace lastSample deliveries reportsAt moved
 tried = record {
   fits = fitting;
   demand = demand-3 p10 fitting;

@@ -8,10 +8,11 @@ use Rattle.sender.specs.Sending.{cells, wave, planWave}
 use Rattle.line.specs.Smooth.{smoothFrom}
 use Rattle.line.specs.Warp.{look, dropped, warpFrom, warp}
 use Rattle.line.specs.Settle.{settle}
+use Rattle.line.specs.Passes.{overTheLine}
 use Rattle.counted.specs.Counted.{fromMark}
 use Rattle.board.specs.Rows.{fresh, next}
 use Rattle.board.specs.Feeding.{Report, Step, reportsBy}
-use Rattle.promises.specs.Places.{readsOf, passing, numbered, withinLead, heard, markPlace, samplePlace}
+use Rattle.promises.specs.Places.{planReads, placesWhere, numbered, withinLead, heard, markPlace, samplePlace}
 use Rattle.promises.specs.Places.{lastSample, deliveries}
 use Rattle.promises.specs.Replaced.{damaged, reportsAt, below}
 use Rattle.promises.specs.Demand3.{Demand3}
@@ -20,13 +21,15 @@ use Rattle.promises.specs.Useless.{ShutOut}
 
 too-few : (step : Step) → length (below 117 (reportsBy step fresh 0 (damaged p10 117 117 []))) < 2 → Demand3 p10 step
     → ⊥
-unfolding readsOf settle warp warpFrom look dropped smoothFrom planWave wave cells fromMark passing numbered withinLead heard markPlace samplePlace lastSample deliveries reportsAt
+unfolding planReads overTheLine settle warp warpFrom look dropped smoothFrom planWave wave cells fromMark placesWhere
+    numbered withinLead heard markPlace samplePlace lastSample deliveries reportsAt
 too-few step few demand =
     let two = ap (λ (l : List Report). length l) (demand .before 117 117 [] (omega arith) (omega arith)) in
     omega arith
 
 pub shut-out : ShutOut
-unfolding readsOf settle warp warpFrom look dropped smoothFrom planWave wave cells next reportsBy reportsAt
+unfolding planReads overTheLine settle warp warpFrom look dropped smoothFrom planWave wave cells next reportsBy
+    reportsAt
 shut-out = record {
   refusing = too-few _ (omega arith);
   leaving = too-few _ (omega arith);

@@ -1,5 +1,5 @@
 -- The exact rule at 01's clocks and settling: 01's margins at minus one or more are those of the inner rule, whose lost
--- message is lost on 01's line.
+-- message is lost on 01's line. The harmless "no" is computed, and for that the margins are unfolded.
 use mathlib.Core.Path.{_≡_, refl, sym, _∙_}
 use mathlib.Core.Bool.{Bool, true, false, false≢true}
 use mathlib.Core.List.{[], _∷_}
@@ -7,11 +7,9 @@ use Prim.Native.Nat.{ℕ, _≤_}
 use native.Mathlib.Omega.{arith}
 use Rattle.settings.specs.Margins.{m1, m2, m3, accepted}
 use Rattle.sender.specs.Sending.{wave}
-use Rattle.line.specs.Smooth.{smooth}
-use Rattle.line.proofs.WarpLaws.{warp-by}
+use Rattle.line.proofs.LineLaws.{over-the-line}
 use Rattle.promises.specs.CountedReturns.{EveryMessageReturned}
 use Rattle.promises.specs.WhatNoMeans.{almostAccepted, OneBit, Lost, MarginsAreExact, HarmlessNo}
-use Rattle.promises.proofs.Smoothing.{smooth-is}
 use Rattle.promises.proofs.SignedMargins.{almost-margins, margins-almost}
 use Rattle.promises.proofs.CountedReturns.{returned}
 use Rattle.promises.proofs.Witness.{Loses, margins-or}
@@ -20,10 +18,7 @@ use Rattle.promises.proofs.Exact.{lost-1, lost-2, lost-3}
 -- what is lost with a settling count of 1 is lost on 01's line
 pub loses-lost : (a b k w r : ℕ) (m : OneBit w) → Loses a b 1 k w r m → Lost a b k w r m
 loses-lost a b k w r m loses =
-    rw (
-      warp-by w r (m .p) (smooth (wave a b (m .p1) (m .p2) (m .bit ∷ []))),
-      smooth-is (wave a b (m .p1) (m .p2) (m .bit ∷ [])),
-    ) loses
+    rw (over-the-line w r (m .p) (wave a b (m .p1) (m .p2) (m .bit ∷ [])) (m .choices)) loses
 
 unless-false : (b : Bool) → (b ≡ false → ⊥) → b ≡ true
 unless-false true h = refl
@@ -42,7 +37,7 @@ module _ (a b k w r : ℕ) (ha : 1 ≤ a) (hk : 1 ≤ k) (hw : 1 ≤ w) (hr : 1 
 
   refute : EveryMessageReturned a b k w r → (m : OneBit w) × Lost a b k w r m → ⊥
   refute every (m, lost) =
-      lost (every (m .p) (m .p1) (m .p2) (m .bit ∷ []) (m .choices) (m .phase) (m .is-bit, tt) (m .are-choices))
+      lost (every (m .p1) (m .p2) (m .p) (m .bit ∷ []) (m .choices) (m .phase) (m .is-bit, tt) (m .are-choices))
 
 pub margins-are-exact : MarginsAreExact
 margins-are-exact a b k w r ha hk hw hr = record {

@@ -1,6 +1,5 @@
 -- A message of one bit is lost for each margin of minus two or less: with all choices high at the last phase, or with
--- no choices at the phase
--- at which the first read ends one time unit into the cell.
+-- no choices at the phase at which the first read ends one time unit into the cell.
 use mathlib.Core.Path.{_≡_, refl, sym, ap, _∙_}
 use mathlib.Core.Logic.{_≢_, dite}
 use mathlib.Core.List.{List, [], _∷_}
@@ -8,18 +7,17 @@ use Prim.Native.Nat.{ℕ, zero, suc, _+_, _*_, _-_, _≤_, _<_}
 use native.Mathlib.Decide.{decLe}
 use native.Mathlib.Omega.{arith}
 use lib.ListN.{length, replicate}
+use Rattle.measure.proofs.LevelLaws.{most-replicate}
 use Rattle.sender.specs.Sending.{wave}
-use Rattle.line.specs.Settle.{settle}
 use Rattle.counted.specs.Counted.{counted}
 use Rattle.promises.specs.WhatNoMeans.{OneBit}
 use Rattle.promises.proofs.Timing.{Margins}
-use Rattle.promises.proofs.LevelLists.{levels-most, most-replicate}
-use Rattle.promises.proofs.Need.{unsettled, short-mark, late-sample, early-sample}
+use Rattle.promises.proofs.Need.{unsettled, settledBy, short-mark, late-sample, early-sample}
 
 -- the message is not returned, with the settling count g
 abbrev pub Loses : (a b g k w r : ℕ) → OneBit w → Type 0
 Loses a b g k w r m =
-    counted k 1 1 (settle (unsettled w r (m .p) g (wave a b (m .p1) (m .p2) (m .bit ∷ []))) (m .choices)) ≢ m .bit ∷ []
+    counted k 1 1 (settledBy g w r (m .p) (wave a b (m .p1) (m .p2) (m .bit ∷ [])) (m .choices)) ≢ m .bit ∷ []
 
 -- where the margins are not all minus one or more, one of them is minus two or less
 pub margins-or : {P : Type 0} (a b g k w1 w2 r1 r2 : ℕ) → (Margins a b g k w1 w2 r1 r2 → P)
@@ -36,22 +34,22 @@ margins-or a b g k w1 w2 r1 r2 all one two three =
     (λ h. one (omega arith))
 
 -- the last phase, no trail, and so many high choices
-abbrev pub highBit : (w lead bit m : ℕ) → 0 < w → bit < 2 → OneBit w
+abbrev pub highBit : (w lead bit m : ℕ) → 0 < w → bit ≤ 1 → OneBit w
 highBit w lead bit m some is = record {
-  p = w - 1;
   p1 = lead;
   p2 = 0;
+  p = w - 1;
   bit = bit;
   choices = replicate m 1;
   phase = omega arith;
   is-bit = is;
-  are-choices = levels-most (replicate m 1) (most-replicate 1 m 1 (omega arith));
+  are-choices = most-replicate 1 m 1 (omega arith);
 }
 
 -- a 1, no trail and no choices
 abbrev pub lowBit : (w lead p : ℕ) → p < w → OneBit w
 lowBit w lead p below =
-    record { p = p; p1 = lead; p2 = 0; bit = 1; choices = []; phase = below; is-bit = omega arith; are-choices = tt }
+    record { p1 = lead; p2 = 0; p = p; bit = 1; choices = []; phase = below; is-bit = omega arith; are-choices = tt }
 
 nothing : (found : List ℕ) (x : ℕ) → found ≡ [] → found ≢ x ∷ []
 nothing found x none one = omega (arith, ap length (sym none ∙ one))
@@ -65,7 +63,7 @@ least w (suc x) h =
 
 -- the number of reads at the last phase, which is as many choices as can be used
 abbrev pub many : (a b g w r lead bit : ℕ) → ℕ
-many a b g w r lead bit = length (unsettled w r (w - 1) g (wave a b lead 0 (bit ∷ [])))
+many a b g w r lead bit = length (unsettled g w r (w - 1) (wave a b lead 0 (bit ∷ [])))
 
 module _ (a b g k w r : ℕ) (ha : 0 < a) (hg : 0 < g) (hk : 0 < k) (hw : 0 < w) (hr : 0 < r) where
   -- read j starts one time unit before the mark has settled

@@ -1,4 +1,4 @@
--- Each room's cases hold, and tables that agree agree one behind another.
+-- Each room's cases hold, and tables that agree agree one after another.
 use mathlib.Core.List.{List, [], _∷_, _++_}
 use Rattle.measure.specs.Table.{Case, Agree}
 use Rattle.sender.specs.Cases as Sender
@@ -13,13 +13,13 @@ use Rattle.settings.proofs.CasesHold as SettingsHold
 use Rattle.capture.proofs.CasesHold as CaptureHold
 use Rattle.promises.specs.Worked.{WorkedCasesAgree}
 
-behind : (one other : List Case) → Agree one → Agree other → Agree (one ++ other)
-behind [] other x y = y
-behind (c ∷ one) other x y = (x .0, behind one other (x .1) y)
+joined : (one other : List Case) → Agree one → Agree other → Agree (one ++ other)
+joined [] other x y = y
+joined (c ∷ one) other x y = (x .0, joined one other (x .1) y)
 
 pub worked-cases-agree : WorkedCasesAgree
 worked-cases-agree =
-    behind Sender.cases (Line.cases ++ Counted.cases ++ Settings.cases ++ Capture.cases) SenderHold.cases-hold
-    (behind Line.cases (Counted.cases ++ Settings.cases ++ Capture.cases) LineHold.cases-hold
-    (behind Counted.cases (Settings.cases ++ Capture.cases) CountedHold.cases-hold
-    (behind Settings.cases Capture.cases SettingsHold.cases-hold CaptureHold.cases-hold)))
+    joined Sender.cases (Line.cases ++ Counted.cases ++ Settings.cases ++ Capture.cases) SenderHold.cases-hold
+    (joined Line.cases (Counted.cases ++ Settings.cases ++ Capture.cases) LineHold.cases-hold
+    (joined Counted.cases (Settings.cases ++ Capture.cases) CountedHold.cases-hold
+    (joined Settings.cases Capture.cases SettingsHold.cases-hold CaptureHold.cases-hold)))

@@ -7,44 +7,41 @@ use mathlib.Core.List.{List, [], _∷_}
 use lib.ListN.{length}
 use Rattle.measure.specs.Choose.{between}
 use Rattle.measure.specs.Ranges.{sampling, bitsMost, entriesMost}
+use Rattle.measure.specs.Levels.{Levels}
 use Rattle.measure.specs.Lists.{onto}
 use Rattle.measure.specs.Refusals.{given}
 use Rattle.settings.specs.Margins.{accepted}
 use Rattle.sender.specs.Sending.{wave}
-use Rattle.line.specs.Smooth.{smooth}
-use Rattle.line.specs.Warp.{warp}
-use Rattle.line.specs.Settle.{settle}
+use Rattle.line.specs.Passes.{overTheLine}
 use Rattle.counted.specs.Counted.{counted}
 use Rattle.counted.specs.Answers.{countedBits}
-use Rattle.promises.specs.Levels.{Levels}
 
 -- the reads of a message that is sent and goes over the line
-abbrev pub overTheLine : (a b w r p p1 p2 : ℕ) (bits choices : List ℕ) → List ℕ
-overTheLine a b w r p p1 p2 bits choices = settle (warp w r p (smooth (wave a b p1 p2 bits))) choices
+abbrev pub messageReads : (a b w r p1 p2 p : ℕ) (bits choices : List ℕ) → List ℕ
+messageReads a b w r p1 p2 p bits choices = overTheLine w r p (wave a b p1 p2 bits) choices
 
 -- what the counted receiver, started high, finds in them
-abbrev pub found : (a b k w r p p1 p2 : ℕ) (bits choices : List ℕ) → List ℕ
-found a b k w r p p1 p2 bits choices = counted k (length bits) 1 (overTheLine a b w r p p1 p2 bits choices)
+abbrev pub received : (a b k w r p1 p2 p : ℕ) (bits choices : List ℕ) → List ℕ
+received a b k w r p1 p2 p bits choices = counted k (length bits) 1 (messageReads a b w r p1 p2 p bits choices)
 
--- every message is returned, at any phase, with any pads, 0 included, and any choices
+-- every message is returned, with any pads, 0 included, at any phase, and with any choices
 abbrev pub EveryMessageReturned : (a b k w r : ℕ) → Type 0
 EveryMessageReturned a b k w r =
-    (p p1 p2 : ℕ) (bits choices : List ℕ) → p < w → Levels bits → Levels choices
-    → found a b k w r p p1 p2 bits choices ≡ bits
+    (p1 p2 p : ℕ) (bits choices : List ℕ) → p < w → Levels bits → Levels choices
+    → received a b k w r p1 p2 p bits choices ≡ bits
 
 -- the theorem: accepted settings return every message
 abbrev pub AcceptedReturn : Type 0
 AcceptedReturn = (a b k w r : ℕ) → accepted a b k w r ≡ true → EveryMessageReturned a b k w r
 
 -- What that means for the operation: where its own ranges, limits and room are kept, it answers with the number of
--- bits, and these stand at the
--- output's front.
+-- bits, and these stand at the output's front.
 abbrev pub OperationReturns : Type 0
-OperationReturns = (a b k w r p p1 p2 : ℕ) (bits choices output : List ℕ) → accepted a b k w r ≡ true → p < w
+OperationReturns = (a b k w r p1 p2 p : ℕ) (bits choices output : List ℕ) → accepted a b k w r ≡ true → p < w
     → Levels bits → Levels choices
-    → sampling k ≡ true → length bits ≤ bitsMost → length (overTheLine a b w r p p1 p2 bits choices) ≤ entriesMost
+    → sampling k ≡ true → length bits ≤ bitsMost → length (messageReads a b w r p1 p2 p bits choices) ≤ entriesMost
     → length bits ≤ length output
-    → countedBits k (length bits) 1 (overTheLine a b w r p p1 p2 bits choices) output
+    → countedBits k (length bits) 1 (messageReads a b w r p1 p2 p bits choices) output
     ≡ (given (length bits), onto bits output)
 
 -- w / r is within one part in n of unity: from 1 - 1/n to 1 + 1/n
@@ -68,10 +65,9 @@ abbrev pub longestRead : ℕ
 longestRead = 141
 
 -- Source 002 conjectures that its 18-cycle cell bears ratios almost 30 per cent from unity. At w 100 the reads of these
--- lengths are accepted and
--- no others, and return every message; one step further on either side a bit is lost.
+-- lengths are accepted and no others, and return every message; one step further on either side a bit is lost.
 pub record Conjecture002 : Type 0 where
   pub accepts-exactly : (r : ℕ) → accepted 5 13 10 100 r ≡ between shortestRead longestRead r
   pub returns : (r : ℕ) → shortestRead ≤ r → r ≤ longestRead → EveryMessageReturned 5 13 10 100 r
-  pub too-fast : found 5 13 10 100 66 35 1 0 (1 ∷ []) [] ≡ 0 ∷ []
-  pub too-slow : found 5 13 10 100 142 97 0 10 (0 ∷ []) (1 ∷ 1 ∷ []) ≡ 1 ∷ []
+  pub too-fast : received 5 13 10 100 66 1 0 35 (1 ∷ []) [] ≡ 0 ∷ []
+  pub too-slow : received 5 13 10 100 142 0 10 97 (0 ∷ []) (1 ∷ 1 ∷ []) ≡ 1 ∷ []

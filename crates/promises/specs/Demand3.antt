@@ -1,8 +1,8 @@
 -- Demand 3: a plan's rows are delivered once and in order, and any stretch of reads that is replaced is made good with
 -- the next lead quiet that is heard.
 -- The definitions are those that the operations' contracts cite: the sender leaves `planWave` in the lent output, each
--- pass of the line leaves its list, and
--- the receiver, given one read a call, reports what feeding `next` reports (OneByOne).
+-- pass of the line leaves its list, and the receiver, given one read a call, reports what feeding `next` reports
+-- (OneByOne).
 use Prim.Native.Nat.{ℕ, _+_, _-_, _≤_, _<_}
 use mathlib.Core.Path.{_≡_}
 use mathlib.Core.Bool.{true}
@@ -12,8 +12,8 @@ use Rattle.settings.specs.Margins.{m1 as M1, m2 as M2, m3 as M3, m4 as M4, m5 a
 use Rattle.sender.specs.Sending.{Row}
 use Rattle.board.specs.Rows.{Settings, fresh, next}
 use Rattle.board.specs.Feeding.{Step, reportsBy}
-use Rattle.promises.specs.Levels.{Levels}
-use Rattle.promises.specs.Places.{Link, readsOf, cyclesOf, withinLead, heard, deliveries}
+use Rattle.measure.specs.Levels.{Levels}
+use Rattle.promises.specs.Places.{Link, planReads, cyclesOf, withinLead, heard, deliveries}
 use Rattle.promises.specs.Replaced.{damaged, WhollyAfter, below, above, moved}
 
 -- each row has n bits and a lead with M5 zero or more
@@ -40,31 +40,31 @@ pub record Fitting (x : Link) : Type 0 where
 pub record Demand3 (x : Link) (step : Step) : Type 0 where
   -- Ahead of the stretch: the rows that end there by their last sample are delivered, these and no others, and nothing
   -- is broken.
-  pub before : (i j : ℕ) (junk : List ℕ) → i ≤ j → j ≤ length (readsOf x)
+  pub before : (i j : ℕ) (junk : List ℕ) → i ≤ j → j ≤ length (planReads x)
       → below i (reportsBy step fresh 0 (damaged x i j junk)) ≡ below i (deliveries x 0 (x .rows))
   -- After a row's lead quiet, read wholly after the stretch, has been heard, exactly that row and those after it are.
   -- Of the first such row it says most.
-  pub after : (i j : ℕ) (junk : List ℕ) → i ≤ j → j ≤ length (readsOf x)
+  pub after : (i j : ℕ) (junk : List ℕ) → i ≤ j → j ≤ length (planReads x)
       → (earlier : List Row) (row : Row) (later : List Row) → x .rows ≡ earlier ++ row ∷ later
       → WhollyAfter x (cyclesOf x earlier) row j
       → above (i + length junk + (heard x (cyclesOf x earlier) row - j)) (reportsBy step fresh 0 (damaged x i j junk))
       ≡ moved i j junk (deliveries x (cyclesOf x earlier) (row ∷ later))
 
 -- the receiver's settings
-abbrev pub settings : Link → Settings
-settings x = record { k = x .k; n = x .n; Q = x .Q }
+abbrev pub receiverSettings : Link → Settings
+receiverSettings x = record { k = x .k; n = x .n; Q = x .Q }
 
 -- what is promised of 01's step
 abbrev pub Demand3Holds : Type 0
-Demand3Holds = (x : Link) → Fitting x → Demand3 x (next (settings x))
+Demand3Holds = (x : Link) → Fitting x → Demand3 x (next (receiverSettings x))
 
 -- What demand 3 takes for granted. Q reads lie within each lead, and each last sample is a read; a lead quiet that is
--- read wholly after the stretch is heard
--- after it, and the last samples from its row on are read after that, so neither difference stops at 0.
+-- read wholly after the stretch is heard after it, and the last samples from its row on are read after that, so neither
+-- difference stops at 0.
 pub record Grounds (x : Link) : Type 0 where
   pub leads : (earlier : List Row) (row : Row) (later : List Row) → x .rows ≡ earlier ++ row ∷ later
       → x .Q ≤ length (withinLead x (cyclesOf x earlier) row)
-  pub samples : below (length (readsOf x)) (deliveries x 0 (x .rows)) ≡ deliveries x 0 (x .rows)
+  pub samples : below (length (planReads x)) (deliveries x 0 (x .rows)) ≡ deliveries x 0 (x .rows)
   pub heard-after : (j : ℕ) (earlier : List Row) (row : Row) (later : List Row) → x .rows ≡ earlier ++ row ∷ later
       → WhollyAfter x (cyclesOf x earlier) row j → j ≤ heard x (cyclesOf x earlier) row
   pub sampled-after : (earlier : List Row) (row : Row) (later : List Row) → x .rows ≡ earlier ++ row ∷ later

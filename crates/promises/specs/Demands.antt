@@ -22,8 +22,8 @@ use Rattle.board.specs.Answers.{Outcome, begun, stepped, listened}
 use Rattle.capture.specs.Capture.{header}
 use Rattle.capture.specs.Answers.{checked, readBack, written}
 use Rattle.capture.specs.RoundTrips.{WrittenReadsBack, ReadWritesBack}
-use Rattle.promises.specs.Levels.{Levels}
-use Rattle.promises.specs.Places.{Link, readsOf, cyclesOf, heard, deliveries}
+use Rattle.measure.specs.Levels.{Levels}
+use Rattle.promises.specs.Places.{Link, planReads, cyclesOf, heard, deliveries}
 use Rattle.promises.specs.Replaced.{damaged, WhollyAfter, below, above, moved}
 use Rattle.promises.specs.Demand3.{Fitting, Demand3Holds, GroundsHold}
 use Rattle.promises.specs.OneByOne.{answers, reported, OperationReports}
@@ -100,9 +100,9 @@ reportsOf x reads = reported 0 (answers (begun (x .k) (x .n) (x .Q) .1) reads)
 
 -- demand 3 of these reports, for reads that are levels
 pub record OfTheOperation (x : Link) : Type 0 where
-  pub before : (i j : ℕ) (junk : List ℕ) → Levels junk → i ≤ j → j ≤ length (readsOf x)
+  pub before : (i j : ℕ) (junk : List ℕ) → Levels junk → i ≤ j → j ≤ length (planReads x)
       → below i (reportsOf x (damaged x i j junk)) ≡ below i (deliveries x 0 (x .rows))
-  pub after : (i j : ℕ) (junk : List ℕ) → Levels junk → i ≤ j → j ≤ length (readsOf x)
+  pub after : (i j : ℕ) (junk : List ℕ) → Levels junk → i ≤ j → j ≤ length (planReads x)
       → (earlier : List Row) (row : Row) (later : List Row) → x .rows ≡ earlier ++ row ∷ later
       → WhollyAfter x (cyclesOf x earlier) row j
       → above (i + length junk + (heard x (cyclesOf x earlier) row - j)) (reportsOf x (damaged x i j junk))

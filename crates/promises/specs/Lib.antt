@@ -5,7 +5,6 @@ pub mod OneByOne
 pub mod Tried
 pub mod Useless
 pub mod Worked
-pub mod Levels
 pub mod CountedReturns
 pub mod WhatNoMeans
 pub mod OneMeaning

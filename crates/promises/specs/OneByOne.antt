@@ -10,7 +10,7 @@ use Rattle.board.specs.Rows.{Event, fresh}
 use Rattle.board.specs.Feeding.{Report, noted, reports}
 use Rattle.board.specs.Answers.{begun, stepped}
 use Rattle.board.specs.declared.Receiver.{Receiver}
-use Rattle.promises.specs.Levels.{Levels}
+use Rattle.measure.specs.Levels.{Levels}
 
 -- the answers of one call a read, each with the receiver that the call before handed back
 unfoldable pub answers : Receiver → List ℕ → List (Answer Event)

@@ -7,9 +7,8 @@ use lib.ListN.{length, drop}
 use lib.Dec.{eqb, leb}
 use Rattle.measure.specs.Choose.{choose}
 use Rattle.sender.specs.Sending.{Row, planWave}
-use Rattle.line.specs.Smooth.{smooth}
-use Rattle.line.specs.Warp.{cycleStart, readStart, warp}
-use Rattle.line.specs.Settle.{settle}
+use Rattle.line.specs.Warp.{cycleStart, readStart}
+use Rattle.line.specs.Passes.{overTheLine}
 use Rattle.counted.specs.Counted.{fromMark}
 use Rattle.board.specs.Rows.{row as delivered}
 use Rattle.board.specs.Feeding.{Report}
@@ -19,19 +18,19 @@ pub record Link : Type 0 where
   pub a : ℕ
   pub b : ℕ
   pub k : ℕ
-  pub n : ℕ
-  pub Q : ℕ
   pub w : ℕ
   pub r : ℕ
+  pub n : ℕ
+  pub Q : ℕ
   pub p : ℕ
   pub rows : List Row
   pub choices : List ℕ
 
 -- the settled reads: the plan's wave after the three passes of the line
-unfoldable pub readsOf : Link → List ℕ
-readsOf x = settle (warp (x .w) (x .r) (x .p) (smooth (planWave (x .a) (x .b) (x .rows)))) (x .choices)
+unfoldable pub planReads : Link → List ℕ
+planReads x = overTheLine (x .w) (x .r) (x .p) (planWave (x .a) (x .b) (x .rows)) (x .choices)
 
--- how many cycles rows have, one behind another
+-- how many cycles rows have, one after another
 abbrev pub cyclesOf : Link → List Row → ℕ
 cyclesOf x rows = length (planWave (x .a) (x .b) rows)
 
@@ -40,34 +39,34 @@ abbrev pub keep : {A : Type 0} → Bool → A → List A → List A
 keep true entry entries = entry ∷ entries
 keep false entry entries = entries
 
--- the places that pass a test, of so many from one on
-unfoldable pub passing : (ℕ → Bool) → ℕ → ℕ → List ℕ
-passing test place zero = []
-passing test place (suc many) = keep (test place) place (passing test (suc place) many)
+-- the places where a test holds, of so many from one on
+unfoldable pub placesWhere : (test : ℕ → Bool) (place many : ℕ) → List ℕ
+placesWhere test place zero = []
+placesWhere test place (suc many) = keep (test place) place (placesWhere test (suc place) many)
 
 -- the entry of a list with this number, the first is number 1
-unfoldable pub numbered : ℕ → List ℕ → ℕ
+unfoldable pub numbered : (number : ℕ) → List ℕ → ℕ
 numbered number [] = 0
 numbered zero (entry ∷ entries) = entry
 numbered (suc zero) (entry ∷ entries) = entry
 numbered (suc (suc number)) (entry ∷ entries) = numbered (suc number) entries
 
 -- a read lies wholly within the cycles from one up to another; touching ends count
-abbrev pub wholly : Link → ℕ → ℕ → ℕ → Bool
+abbrev pub wholly : (x : Link) (from to read : ℕ) → Bool
 wholly x from to read =
     leb (cycleStart (x .w) from) (readStart (x .p) (x .r) read)
     && leb (readStart (x .p) (x .r) (suc read)) (cycleStart (x .w) to)
 
 -- the reads that lie wholly within the lead cycles, without the first, of a row whose lead begins with this cycle
-unfoldable pub withinLead : Link → ℕ → Row → List ℕ
-withinLead x cycle row = passing (wholly x (suc cycle) (cycle + row .lead)) 0 (length (readsOf x))
+unfoldable pub withinLead : (x : Link) (cycle : ℕ) (row : Row) → List ℕ
+withinLead x cycle row = placesWhere (wholly x (suc cycle) (cycle + row .lead)) 0 (length (planReads x))
 
 -- the read at which its lead counts as heard: number Q of these
-unfoldable pub heard : Link → ℕ → Row → ℕ
+unfoldable pub heard : (x : Link) (cycle : ℕ) (row : Row) → ℕ
 heard x cycle row = numbered (x .Q) (withinLead x cycle row)
 
 -- the place of the mark, where the first of these reads has this place
-unfoldable pub markPlace : ℕ → ℕ → List ℕ → ℕ
+unfoldable pub markPlace : (level place : ℕ) (reads : List ℕ) → ℕ
 markPlace level place [] = place
 markPlace level place (read ∷ reads) = choose (eqb read level) (markPlace level (suc place) reads) place
 
@@ -77,18 +76,18 @@ fromSample next place [] = place
 fromSample next place (sample ∷ reads) = next sample place (sample ∷ reads)
 
 -- the place of the n-th sample by the counted receiver's rule: the sample of each bit is k places after its mark
-unfoldable pub samplePlace : ℕ → ℕ → ℕ → ℕ → List ℕ → ℕ
+unfoldable pub samplePlace : (k n level place : ℕ) (reads : List ℕ) → ℕ
 samplePlace k zero level place reads = place
 samplePlace k (suc n) level place reads =
     fromSample (samplePlace k n) (markPlace level place reads + k) (drop k (fromMark level reads))
 
 -- a row's last sample: the n-th by that rule, started high at the read after its lead quiet has been heard
-unfoldable pub lastSample : Link → ℕ → Row → ℕ
+unfoldable pub lastSample : (x : Link) (cycle : ℕ) (row : Row) → ℕ
 lastSample x cycle row =
-    samplePlace (x .k) (x .n) 1 (suc (heard x cycle row)) (drop (suc (heard x cycle row)) (readsOf x))
+    samplePlace (x .k) (x .n) 1 (suc (heard x cycle row)) (drop (suc (heard x cycle row)) (planReads x))
 
 -- rows, the first of which begins with this cycle, each delivered once, at its last sample, in order
-unfoldable pub deliveries : Link → ℕ → List Row → List Report
+unfoldable pub deliveries : (x : Link) (cycle : ℕ) (rows : List Row) → List Report
 deliveries x cycle [] = []
 deliveries x cycle (one ∷ rows) =
     record { place = lastSample x cycle one; event = delivered (one .bits) } ∷ deliveries x

@@ -9,17 +9,17 @@ use Rattle.sender.specs.Sending.{Row}
 use Rattle.line.specs.Warp.{cycleStart, readStart}
 use Rattle.line.specs.Sharing.{Shares}
 use Rattle.board.specs.Feeding.{Report}
-use Rattle.promises.specs.Places.{Link, readsOf, keep}
+use Rattle.promises.specs.Places.{Link, planReads, keep}
 
 -- the settled reads, those from place i up to j replaced
-abbrev pub damaged : Link → ℕ → ℕ → List ℕ → List ℕ
-damaged x i j junk = take i (readsOf x) ++ junk ++ drop j (readsOf x)
+abbrev pub damaged : (x : Link) (i j : ℕ) (junk : List ℕ) → List ℕ
+damaged x i j junk = take i (planReads x) ++ junk ++ drop j (planReads x)
 
 -- 01, on which leads count after a stretch that ends before place j, for a row whose lead begins with this cycle:
 -- no read that overlaps its lead cycles in time stands before j.
-abbrev pub WhollyAfter : Link → ℕ → Row → ℕ → Type 0
+abbrev pub WhollyAfter : (x : Link) (cycle : ℕ) (row : Row) (j : ℕ) → Type 0
 WhollyAfter x cycle row j =
-    (i read : ℕ) → cycle ≤ i → i < cycle + row .lead → read < length (readsOf x)
+    (i read : ℕ) → cycle ≤ i → i < cycle + row .lead → read < length (planReads x)
     → Shares (cycleStart (x .w)) (readStart (x .p) (x .r)) read i → j ≤ read
 
 -- the reports whose places pass a test; those below a place and those above it
@@ -34,7 +34,7 @@ abbrev pub above : ℕ → List Report → List Report
 above place reports = reportsAt (λ at. ltb place at) reports
 
 -- reports of reads that stood at j or later, each at the place to which the stretch moves its read
-unfoldable pub moved : ℕ → ℕ → List ℕ → List Report → List Report
+unfoldable pub moved : (i j : ℕ) (junk : List ℕ) → List Report → List Report
 moved i j junk [] = []
 moved i j junk (report ∷ reports) =
     record { place = i + length junk + (report .place - j); event = report .event } ∷ moved i j junk reports

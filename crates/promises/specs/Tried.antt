@@ -1,5 +1,5 @@
 -- Demand 3 tried at P10's settings: two rows, and four reads between their last samples replaced by a false quiet with
--- a false mark behind it.
+-- a false mark after it.
 use Prim.Native.Nat.{ℕ}
 use mathlib.Core.Path.{_≡_}
 use mathlib.Core.List.{List, [], _∷_, _++_}
@@ -9,7 +9,7 @@ use Rattle.board.specs.Rows.{Event, row, broken, fresh, next}
 use Rattle.board.specs.Feeding.{Report, reportsBy}
 use Rattle.promises.specs.Places.{Link, cyclesOf, heard, deliveries}
 use Rattle.promises.specs.Replaced.{WhollyAfter, damaged, below, above}
-use Rattle.promises.specs.Demand3.{Fitting, Demand3, settings}
+use Rattle.promises.specs.Demand3.{Fitting, Demand3, receiverSettings}
 
 abbrev pub first : Row
 first = record { lead = 23; trail = 0; bits = 1 ∷ 0 ∷ [] }
@@ -24,10 +24,10 @@ p10 = record {
   a = 5;
   b = 13;
   k = 10;
-  n = 2;
-  Q = 21;
   w = 100;
   r = 100;
+  n = 2;
+  Q = 21;
   p = 40;
   rows = first ∷ second ∷ [];
   choices = 1 ∷ 0 ∷ 0 ∷ 1 ∷ 1 ∷ 0 ∷ [];
@@ -38,22 +38,22 @@ abbrev pub false-quiet : List ℕ
 false-quiet = replicate 21 1 ++ replicate 3 0
 
 -- reads 54 up to 58 replaced; read 58 is the first that shares time with the second row's lead
-abbrev pub told : List Report
-told = reportsBy (next (settings p10)) fresh 0 (damaged p10 54 58 false-quiet)
+abbrev pub damagedReports : List Report
+damagedReports = reportsBy (next (receiverSettings p10)) fresh 0 (damaged p10 54 58 false-quiet)
 
-abbrev at : ℕ → Event → Report
+abbrev at : (place : ℕ) (event : Event) → Report
 at place event = record { place = place; event = event }
 
 pub record Tried : Type 0 where
   -- the hypotheses are met, so demand 3 holds here
   pub fits : Fitting p10
-  pub demand : Demand3 p10 (next (settings p10))
+  pub demand : Demand3 p10 (next (receiverSettings p10))
   pub wholly : WhollyAfter p10 (cyclesOf p10 (first ∷ [])) second 58
   -- the places that it speaks of: the last samples, and the read with which the second lead quiet has been heard
   pub samples : deliveries p10 0 (first ∷ second ∷ []) ≡ at 51 (row (1 ∷ 0 ∷ [])) ∷ at 111 (row (0 ∷ 1 ∷ [])) ∷ []
   pub hears : heard p10 (cyclesOf p10 (first ∷ [])) second ≡ 80
   -- The reports. The false row is broken with the very read that the second lead quiet is heard with, now at 54 + 24 +
   -- (80 - 58): its own report comes before.
-  pub reports : told ≡ at 51 (row (1 ∷ 0 ∷ [])) ∷ at 100 (broken 1) ∷ at 131 (row (0 ∷ 1 ∷ [])) ∷ []
-  pub before : below 54 told ≡ at 51 (row (1 ∷ 0 ∷ [])) ∷ []
-  pub after : above 100 told ≡ at 131 (row (0 ∷ 1 ∷ [])) ∷ []
+  pub reports : damagedReports ≡ at 51 (row (1 ∷ 0 ∷ [])) ∷ at 100 (broken 1) ∷ at 131 (row (0 ∷ 1 ∷ [])) ∷ []
+  pub before : below 54 damagedReports ≡ at 51 (row (1 ∷ 0 ∷ [])) ∷ []
+  pub after : above 100 damagedReports ≡ at 131 (row (0 ∷ 1 ∷ [])) ∷ []

@@ -9,8 +9,8 @@ use Rattle.board.specs.Rows.{Settings, State, Event, nothing, row, broken, Move
 use Rattle.board.specs.Feeding.{Step, reportsBy}
 use Rattle.board.specs.declared.Mode.{Mode}
 use Rattle.board.specs.declared.Mode.the-variants.{Hunting, Ready, Counting, Waiting}
-use Rattle.promises.specs.Places.{readsOf}
-use Rattle.promises.specs.Demand3.{Demand3, settings}
+use Rattle.promises.specs.Places.{planReads}
+use Rattle.promises.specs.Demand3.{Demand3, receiverSettings}
 use Rattle.promises.specs.Tried.{p10}
 
 -- one that refuses everything: nothing is reported, and the state comes back unchanged
@@ -45,7 +45,7 @@ deliversOnce g s read =
 -- demand 3 is false of each; the last one does deliver the first row
 pub record ShutOut : Type 0 where
   pub refusing : Demand3 p10 refusesAll → ⊥
-  pub leaving : Demand3 p10 (leavesState (settings p10)) → ⊥
-  pub once : Demand3 p10 (deliversOnce (settings p10)) → ⊥
-  pub once-is : reportsBy (deliversOnce (settings p10)) fresh 0 (readsOf p10)
+  pub leaving : Demand3 p10 (leavesState (receiverSettings p10)) → ⊥
+  pub once : Demand3 p10 (deliversOnce (receiverSettings p10)) → ⊥
+  pub once-is : reportsBy (deliversOnce (receiverSettings p10)) fresh 0 (planReads p10)
       ≡ record { place = 51; event = row (1 ∷ 0 ∷ []) } ∷ []

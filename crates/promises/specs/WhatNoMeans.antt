@@ -7,13 +7,11 @@ use mathlib.Core.List.{List, [], _∷_}
 use lib.IntN.{ℤ, pos, negsuc}
 use lib.ListN.{length}
 use Rattle.measure.specs.Ranges.{padMost, entriesMost}
+use Rattle.measure.specs.Levels.{Levels}
 use Rattle.settings.specs.Margins.{m1, m2, m3, accepted}
 use Rattle.settings.specs.Answers.{inRange}
 use Rattle.sender.specs.Sending.{wave}
-use Rattle.line.specs.Smooth.{smooth}
-use Rattle.line.specs.Warp.{warp}
-use Rattle.promises.specs.Levels.{Levels}
-use Rattle.promises.specs.CountedReturns.{found, EveryMessageReturned}
+use Rattle.promises.specs.CountedReturns.{messageReads, received, EveryMessageReturned}
 
 -- minus one or more: times are whole numbers, so a margin has one unit to spare
 abbrev pub minusOneOrMore : ℤ → Bool
@@ -25,27 +23,27 @@ minusOneOrMore (negsuc (suc n)) = false
 unfoldable pub almostAccepted : (a b k w r : ℕ) → Bool
 almostAccepted a b k w r = minusOneOrMore (m1 a w r) && minusOneOrMore (m2 a k w r) && minusOneOrMore (m3 a b k w r)
 
--- a message of one bit on its way: pads, a phase and choices
+-- a message of one bit on its way: its pads, a phase and choices
 pub record OneBit (w : ℕ) : Type 0 where
-  pub p : ℕ
   pub p1 : ℕ
   pub p2 : ℕ
+  pub p : ℕ
   pub bit : ℕ
   pub choices : List ℕ
   pub phase : p < w
-  pub is-bit : bit < 2
+  pub is-bit : bit ≤ 1
   pub are-choices : Levels choices
 
 -- it is not returned
 abbrev pub Lost : (a b k w r : ℕ) → OneBit w → Type 0
-Lost a b k w r m = found a b k w r (m .p) (m .p1) (m .p2) (m .bit ∷ []) (m .choices) ≢ m .bit ∷ []
+Lost a b k w r m = received a b k w r (m .p1) (m .p2) (m .p) (m .bit ∷ []) (m .choices) ≢ m .bit ∷ []
 
 -- its pads, its cycles, its reads and its choices are within the limits of refusals 1 and 3
 pub record WithinLimits (a b w r : ℕ) (m : OneBit w) : Type 0 where
   pub lead : m .p1 ≤ padMost
   pub trail : m .p2 ≤ padMost
   pub cycles : length (wave a b (m .p1) (m .p2) (m .bit ∷ [])) ≤ entriesMost
-  pub reads : length (warp w r (m .p) (smooth (wave a b (m .p1) (m .p2) (m .bit ∷ [])))) ≤ entriesMost
+  pub reads : length (messageReads a b w r (m .p1) (m .p2) (m .p) (m .bit ∷ []) (m .choices)) ≤ entriesMost
   pub chosen : length (m .choices) ≤ entriesMost
 
 -- Every message is returned exactly if M1, M2 and M3 are minus one or more. At all other settings a message of one bit

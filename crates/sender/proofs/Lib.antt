@@ -3,3 +3,5 @@ pub mod Ranged
 pub mod Placed
 pub mod Cells
 pub mod Plans
+pub mod Waves
+pub mod PlanWaves

@@ -4,3 +4,5 @@ pub mod Size
 pub mod Signs
 pub mod Judging
 pub mod Inequalities
+pub mod BothEnds
+pub mod NearlyMet

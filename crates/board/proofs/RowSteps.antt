@@ -1,5 +1,5 @@
--- One read of the row receiver after another: a read makes the run Q, or the mode decides, and what is reported on the
--- way carries its places.
+-- What one read does in each mode: either it makes the run Q, and the receiver is ready, or the rule of the mode
+-- decides.
 use mathlib.Core.Path.{_≡_, refl, ap, _∙_}
 use mathlib.Core.Bool.{Bool, true, false}
 use mathlib.Core.List.{List, [], _∷_, _++_}
@@ -10,12 +10,13 @@ use lib.ListN.{length, length-append}
 use borrow.Author.Tests.{eq-eqb, ne-eqb}
 use Rattle.measure.specs.Choose.{choose}
 use Rattle.measure.specs.Cells.{bitOf}
 use Rattle.board.specs.Rows.{Settings, State, nothing, row, Moved, runAfter, hunting, ready, counting, waiting}
 use Rattle.board.specs.Rows.{quietened, collected, listening, next}
 use Rattle.board.specs.declared.Mode.{Mode}
 use Rattle.board.specs.declared.Mode.the-variants.{Hunting, Ready, Counting, Waiting}
 
-abbrev pub rules : ℕ → ℕ → ℕ → Settings
+-- the receiver's settings
+abbrev pub rules : (k n Q : ℕ) → Settings
 rules k n Q = record { k = k; n = n; Q = Q }
 
 -- a state that is reached with nothing reported
@@ -23,8 +24,8 @@ abbrev pub silently : State → Moved
 silently s = record { state = s; event = nothing }
 
 -- the run grows by at most one
-pub run-most : (Q run read : ℕ) → runAfter Q run read ≤ suc run
-run-most Q run read = go (eqb read 1)
+pub run-grows : (Q run read : ℕ) → runAfter Q run read ≤ suc run
+run-grows Q run read = go (eqb read 1)
   where
     go : (high : Bool) → choose high (min (run + 1) Q) 0 ≤ suc run
     go true = omega arith
@@ -86,7 +87,7 @@ module _ (k n Q : ℕ) where
       → next G (waiting v ρ bs) v ≡ silently (waiting v (runAfter Q ρ v) bs)
   waits-on v ρ bs h = calm-step (waiting v ρ bs) v h ∙ rw (eq-eqb v v refl)
 
-  pub marks : (v ρ : ℕ) (bs : List ℕ) → 1 < Q → v < 2 → (v ≡ 0 → ρ ≡ 0)
+  pub marks : (v ρ : ℕ) (bs : List ℕ) → 1 < Q → v ≤ 1 → (v ≡ 0 → ρ ≡ 0)
       → (σ : ℕ) × (σ ≤ 1) × (next G (waiting v ρ bs) (1 - v) ≡ silently (counting k (1 - v) σ bs))
   marks zero ρ bs p h z = (
     1,

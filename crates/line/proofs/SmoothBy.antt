@@ -1,6 +1,5 @@
 -- Smoothing with a settling count g: a change makes its cycle and the g - 1 after it unknown, so a stretch of one level
--- is known from its
--- cycle g on. 01's smooth is the case of 1.
+-- is known from its cycle g on. 01's smooth is the case of 1.
 use mathlib.Core.Path.{_≡_, refl, subst, sym, ap, _∙_}
 use mathlib.Core.Logic.{_≢_, dite}
 use mathlib.Core.Bool.{Bool, true, false}
@@ -13,20 +12,22 @@ use lib.Dec.{eqb}
 use lib.ListN.{length, getD}
 use borrow.Author.Tests.{eq-eqb, ne-eqb}
 use Rattle.measure.specs.Choose.{choose}
+use Rattle.measure.specs.Levels.{AtMost, Levels}
+use Rattle.measure.proofs.Stretches.{Stretch}
 use Rattle.line.specs.Smooth.{smoothFrom, smooth}
-use Rattle.line.proofs.Entries.{AtMost, most-none, most-more, most-first, most-rest}
 
 -- how many cycles, this one among them, are unknown: g at a change, and otherwise those that are left
-abbrev pub unknown : ℕ → ℕ → Bool → ℕ
+abbrev pub unknown : (g left : ℕ) → Bool → ℕ
 unknown g left true = left
 unknown g left false = g
 
-abbrev pub seen : ℕ → ℕ → ℕ
+-- a cycle's level, and 2 where it is unknown
+abbrev pub seen : (unknown level : ℕ) → ℕ
 seen zero level = level
 seen (suc n) level = 2
 
 -- so many cycles are unknown still, and then comes the level before
-abbrev pub smoothBy : ℕ → ℕ → ℕ → List ℕ → List ℕ
+abbrev pub smoothBy : (g left before : ℕ) (levels : List ℕ) → List ℕ
 smoothBy g left before [] = []
 smoothBy g left before (level ∷ levels) =
     seen (unknown g left (eqb before level)) level ∷ smoothBy g (unknown g left (eqb before level) - 1) level levels
@@ -51,17 +52,15 @@ length-smooth-by g left before [] = refl
 length-smooth-by g left before (level ∷ levels) =
     ap suc (length-smooth-by g (unknown g left (eqb before level) - 1) level levels)
 
-pub smooth-by-most : (g left before : ℕ) (levels : List ℕ) → AtMost 1 levels → AtMost 2 (smoothBy g left before levels)
-smooth-by-most g left before [] all = most-none 2
-smooth-by-most g left before (level ∷ levels) all =
-    most-more 2 (seen n level) (smoothBy g (n - 1) level levels) (this n)
-    (smooth-by-most g (n - 1) level levels (most-rest 1 level levels all))
+pub smooth-by-most : (g left before : ℕ) (levels : List ℕ) → Levels levels → AtMost 2 (smoothBy g left before levels)
+smooth-by-most g left before [] all = tt
+smooth-by-most g left before (level ∷ levels) all = (this n, smooth-by-most g (n - 1) level levels (all .1))
   where
     n : ℕ
     n = unknown g left (eqb before level)
 
     this : (n : ℕ) → seen n level ≤ 2
-    this zero = omega (arith, most-first 1 level levels all)
+    this zero = omega (arith, all .0)
     this (suc n) = omega arith
 
 pub unknown-most : (g left : ℕ) (same : Bool) → left ≤ g → unknown g left same ≤ g
@@ -83,7 +82,7 @@ flat g (x ∷ xs) left v (suc i) m h p q r =
     e : x ≡ v
     e = h 0 (omega arith)
 
--- a run of m cycles from the first on is known after g of them, whatever stood before
+-- a stretch of m cycles from the first on is known after g of them, whatever stood before
 turn : (g : ℕ) (levels : List ℕ) (left u v i m : ℕ) → left ≤ g → ((j : ℕ) → j < m → getD levels j 2 ≡ v)
     → m ≤ length levels → g ≤ i → i < m
     → getD (smoothBy g left u levels) i 2 ≡ v
@@ -107,18 +106,14 @@ turn g levels left u v i m o h p q r =
         (omega arith) (omega arith)
         ∙ h 0 (omega arith))
 
--- W is v on n places from c on
-abbrev pub Run : (ℕ → ℕ) → ℕ → ℕ → ℕ → Type 0
-Run W c n v = (i : ℕ) → c ≤ i → i < c + n → W i ≡ v
-
--- a run from cycle c on is known from its cycle g on
-pub smoothed : (g : ℕ) (levels : List ℕ) (left u c k v : ℕ) → left ≤ g → Run (λ i. getD levels i 2) c k v
+-- a stretch from cycle c on is known from its cycle g on
+pub stretch-known : (g : ℕ) (levels : List ℕ) (left u c k v : ℕ) → left ≤ g → Stretch (λ i. getD levels i 2) c k v
     → c + k ≤ length levels
     → (i : ℕ) → c + g ≤ i → i < c + k → getD (smoothBy g left u levels) i 2 ≡ v
-smoothed g levels left u zero k v o h p i q r =
+stretch-known g levels left u zero k v o h p i q r =
     turn g levels left u v i k o (λ j y. h j (omega arith) (omega arith)) (omega arith) (omega arith) (omega arith)
-smoothed g [] left u (suc c) k v o h p i q r = absurd (omega arith)
-smoothed g (x ∷ xs) left u (suc c) k v o h p zero q r = absurd (omega arith)
-smoothed g (x ∷ xs) left u (suc c) k v o h p (suc i) q r =
-    smoothed g xs (unknown g left (eqb u x) - 1) x c k v (omega (arith, unknown-most g left (eqb u x) o))
+stretch-known g [] left u (suc c) k v o h p i q r = absurd (omega arith)
+stretch-known g (x ∷ xs) left u (suc c) k v o h p zero q r = absurd (omega arith)
+stretch-known g (x ∷ xs) left u (suc c) k v o h p (suc i) q r =
+    stretch-known g xs (unknown g left (eqb u x) - 1) x c k v (omega (arith, unknown-most g left (eqb u x) o))
     (λ j y z. h (suc j) (omega arith) (omega arith)) (omega arith) i (omega arith) (omega arith)

@@ -1,15 +1,15 @@
--- What the row receiver goes through over a stretch of reads: steps joined one to another, and the stretches that a row
--- is made of.
+-- What the row receiver goes through over reads one after another: steps joined to steps, and the ways that a row is
+-- made of.
 use mathlib.Core.Path.{_≡_, refl, subst, sym, ap, _∙_}
 use mathlib.Core.List.{List, [], _++_}
 use Prim.Native.Nat.{ℕ, zero, suc, _+_, _-_, _≤_, _<_}
 use native.Mathlib.Nat.{add-zero, add-suc, suc-add}
 use native.Mathlib.Decide.{decLe}
 use native.Mathlib.Omega.{arith}
 use Rattle.board.specs.Rows.{State, Event, Moved, runAfter, hunting, ready, counting, waiting, next, quietened}
 use Rattle.board.specs.Feeding.{Report, noted}
 use Rattle.board.proofs.FeedingLaws.{noted-append}
-use Rattle.promises.proofs.Steps.{rules, run-most, full-step, hunts, stays-ready, counts-on, waits-on, adds}
+use Rattle.board.proofs.RowSteps.{rules, run-grows, full-step, hunts, stays-ready, counts-on, waits-on, adds}
 
 module _ (k n Q : ℕ) (D : ℕ → ℕ) where
   -- From the state s before read j the receiver goes to the state t before read i, and reports es on the way.
@@ -53,15 +53,15 @@ module _ (k n Q : ℕ) (D : ℕ → ℕ) where
   hold : (l j m ρ : ℕ) (bs : List ℕ) → ρ + l < Q
       → (σ : ℕ) × (σ ≤ ρ + l) × Goes j (counting (suc l) m ρ bs) [] (j + l) (counting 1 m σ bs)
   hold zero j m ρ bs h = (ρ, omega arith, rw add-zero here)
-  hold (suc l) j m ρ bs h = go (hold l (suc j) m (runAfter Q ρ (D j)) bs (omega (arith, run-most Q ρ (D j))))
+  hold (suc l) j m ρ bs h = go (hold l (suc j) m (runAfter Q ρ (D j)) bs (omega (arith, run-grows Q ρ (D j))))
     where
       go : (σ : ℕ) × (σ ≤ runAfter Q ρ (D j) + l)
           × Goes (suc j) (counting (suc l) m (runAfter Q ρ (D j)) bs) [] (suc j + l) (counting 1 m σ bs)
           → (σ : ℕ) × (σ ≤ ρ + suc l) × Goes j (counting (suc (suc l)) m ρ bs) [] (j + suc l) (counting 1 m σ bs)
       go (σ, p, f) = (
         σ,
-        omega (arith, run-most Q ρ (D j)),
-        rw (add-suc, ← suc-add) (then (counts-on k n Q l m ρ bs (D j) (omega (arith, run-most Q ρ (D j)))) f),
+        omega (arith, run-grows Q ρ (D j)),
+        rw (add-suc, ← suc-add) (then (counts-on k n Q l m ρ bs (D j) (omega (arith, run-grows Q ρ (D j)))) f),
       )
 
   -- from a mark to its sample
@@ -86,7 +86,7 @@ module _ (k n Q : ℕ) (D : ℕ → ℕ) where
   linger zero j v ρ bs f h = (ρ, omega arith, λ p q. q, rw add-zero here)
   linger (suc d) j v ρ bs f h =
       go (linger d (suc j) v (runAfter Q ρ v) bs (λ i p q. f i (omega arith) (omega arith))
-      (omega (arith, run-most Q ρ v)))
+      (omega (arith, run-grows Q ρ v)))
     where
       low : v ≡ 0 → runAfter Q ρ v ≡ 0
       low p = rw p
@@ -97,10 +97,10 @@ module _ (k n Q : ℕ) (D : ℕ → ℕ) where
           × Goes j (waiting v ρ bs) [] (j + suc d) (waiting v σ bs)
       go (σ, p, z, g) = (
         σ,
-        omega (arith, run-most Q ρ v),
+        omega (arith, run-grows Q ρ v),
         (λ x y. z x (low x)),
         rw (add-suc, ← suc-add)
-            (step (f j (omega arith) (omega arith)) (waits-on k n Q v ρ bs (omega (arith, run-most Q ρ v))) g),
+            (step (f j (omega arith) (omega arith)) (waits-on k n Q v ρ bs (omega (arith, run-grows Q ρ v))) g),
       )
 
   -- ready, over high reads
@@ -114,15 +114,15 @@ module _ (k n Q : ℕ) (D : ℕ → ℕ) where
   -- hunting, over any reads too few to make the run Q
   pub hunt : (d j ρ : ℕ) → ρ + d < Q → (σ : ℕ) × (σ ≤ ρ + d) × Goes j (hunting ρ) [] (j + d) (hunting σ)
   hunt zero j ρ h = (ρ, omega arith, rw add-zero here)
-  hunt (suc d) j ρ h = go (hunt d (suc j) (runAfter Q ρ (D j)) (omega (arith, run-most Q ρ (D j))))
+  hunt (suc d) j ρ h = go (hunt d (suc j) (runAfter Q ρ (D j)) (omega (arith, run-grows Q ρ (D j))))
     where
       go : (σ : ℕ) × (σ ≤ runAfter Q ρ (D j) + d)
           × Goes (suc j) (hunting (runAfter Q ρ (D j))) [] (suc j + d) (hunting σ)
           → (σ : ℕ) × (σ ≤ ρ + suc d) × Goes j (hunting ρ) [] (j + suc d) (hunting σ)
       go (σ, p, f) = (
         σ,
-        omega (arith, run-most Q ρ (D j)),
-        rw (add-suc, ← suc-add) (then (hunts k n Q ρ (D j) (omega (arith, run-most Q ρ (D j)))) f),
+        omega (arith, run-grows Q ρ (D j)),
+        rw (add-suc, ← suc-add) (then (hunts k n Q ρ (D j) (omega (arith, run-grows Q ρ (D j)))) f),
       )
 
   -- from any state, over high reads enough to make the run Q

@@ -1,6 +1,5 @@
--- What a read that settles against its choices tells of the wave: each cycle that shares time with it was known, so the
--- wave had its level there
--- and at the g cycles before.
+-- What a read that settles against its choices says of the wave: each cycle that shares time with it was known, so the
+-- wave had its level there and at the g cycles before.
 use mathlib.Core.Path.{_≡_, refl, _∙_}
 use mathlib.Core.Logic.{_≢_, dite}
 use mathlib.Core.List.{List, [], _∷_}
@@ -10,16 +9,17 @@ use native.Mathlib.Omega.{arith}
 use lib.Dec.{eqb}
 use lib.ListN.{length, getD, replicate, List·getD-eq-default}
 use borrow.Author.Tests.{eq-eqb, ne-eqb}
 use Rattle.line.specs.Warp.{warpBy}
 use Rattle.line.specs.Settle.{settle}
 use Rattle.line.specs.Sharing.{Shares}
 use Rattle.line.proofs.Clocks.{Clocks, cycles-in-order}
 use Rattle.line.proofs.ReadsThere.{read-ends}
 use Rattle.line.proofs.SharedCycles.{read-is}
-use Rattle.promises.proofs.Smoothing.{unknown, unknown-most, seen, smoothBy}
+use Rattle.line.proofs.SmoothBy.{unknown, unknown-most, seen, smoothBy}
+use Rattle.line.proofs.LineLaws.{lineBy}
 
 -- what is known after smoothing was so before, at its cycle and at the g before that; v stands before the first
-kept : (g left v : ℕ) (l : List ℕ) (c u : ℕ) → left ≤ g → u < 2 → getD (smoothBy g left v l) c 2 ≡ u
+kept : (g left v : ℕ) (l : List ℕ) (c u : ℕ) → left ≤ g → u ≤ 1 → getD (smoothBy g left v l) c 2 ≡ u
     → (left ≤ c) × (c < g → v ≡ u) × ((i : ℕ) → i ≤ c → c ≤ i + g → getD l i 2 ≡ u)
 kept g left v [] c u o h e = absurd (omega (arith, e))
 kept g left v (x ∷ xs) zero u o h e =
@@ -56,7 +56,7 @@ kept g left v (x ∷ xs) (suc c) u o h e =
         at (suc i) y z = f i (omega arith) (omega arith)
 
 -- a read that is v: so is each cycle that overlaps it in time
-shared : {tw tr : ℕ → ℕ} → Clocks tw tr → (levels : List ℕ) (q v : ℕ) → v < 2 → getD (warpBy tw tr levels) q 2 ≡ v
+shared : {tw tr : ℕ → ℕ} → Clocks tw tr → (levels : List ℕ) (q v : ℕ) → v ≤ 1 → getD (warpBy tw tr levels) q 2 ≡ v
     → (c : ℕ) → Shares tw tr q c → getD levels c 2 ≡ v
 shared {tw} {tr} clocks levels q v known is c shares =
     read-is clocks levels q there .known (omega arith) c within shares ∙ is
@@ -105,14 +105,14 @@ pub record Known (g : ℕ) (l : List ℕ) (c u : ℕ) : Type 0 where
 
 -- a read that shares time with cycle c and settles against its choice
 module _ {tw tr : ℕ → ℕ} (clocks : Clocks tw tr) (g : ℕ) (l : List ℕ) (q c : ℕ) (shares : Shares tw tr q c) where
-  known : (v : ℕ) → v < 2 → getD (warpBy tw tr (smoothBy g 0 1 l)) q 2 ≡ v → Known g l c v
+  known : (v : ℕ) → v ≤ 1 → getD (warpBy tw tr (smoothBy g 0 1 l)) q 2 ≡ v → Known g l c v
   known v lv e =
       let (o, n, f) = kept g 0 1 l c v (omega arith) lv (shared clocks (smoothBy g 0 1 l) q v lv e c shares) in
       record { before = n; level = f }
 
-  pub stays-high : getD (settle (warpBy tw tr (smoothBy g 0 1 l)) []) q 2 ≡ 1 → Known g l c 1
+  pub stays-high : getD (lineBy tw tr g l []) q 2 ≡ 1 → Known g l c 1
   stays-high e = known 1 (omega arith) (settle-high (warpBy tw tr (smoothBy g 0 1 l)) q e)
 
   pub stays-low : (m : ℕ) → length (warpBy tw tr (smoothBy g 0 1 l)) ≤ m
-      → getD (settle (warpBy tw tr (smoothBy g 0 1 l)) (replicate m 1)) q 2 ≡ 0 → Known g l c 0
+      → getD (lineBy tw tr g l (replicate m 1)) q 2 ≡ 0 → Known g l c 0
   stays-low m h e = known 0 (omega arith) (settle-low (warpBy tw tr (smoothBy g 0 1 l)) m q h e)

@@ -1,9 +1,12 @@
--- A clock is when its cycles start, each from lo to hi long; so n cycles take from n times lo to n times hi.
-use mathlib.Core.Path.{_≡_, refl, subst, sym, ap, _∙_}
+-- A clock whose cycles are each from lo to hi long: n cycles take from n times lo to n times hi, so order and distance
+-- of times follow from order and distance of cycles.
+use mathlib.Core.Path.{_≡_, subst, sym, ap, _∙_}
 use Prim.Native.Nat.{ℕ, zero, suc, _+_, _*_, _-_, _≤_, _<_}
 use native.Mathlib.Nat.{add-zero, add-suc, add-mul, sub-add-cancel}
 use native.Mathlib.Decide.{decLe}
 use native.Mathlib.Omega.{arith}
+use Rattle.line.specs.Warp.{cycleStart, readStart}
+use Rattle.line.proofs.Clocks.{Clocks, in-order}
 
 pub record Clock (t : ℕ → ℕ) (lo hi : ℕ) : Type 0 where
   pub low : (i : ℕ) → t i + lo ≤ t (suc i)
@@ -33,10 +36,7 @@ module _ {t : ℕ → ℕ} {lo hi : ℕ} (clk : Clock t lo hi) where
       mul = sym (add-mul (n - m) m lo) ∙ ap (λ (x : ℕ). x * lo) (sub-add-cancel h)
 
   pub mono : (i j : ℕ) → i ≤ j → t i ≤ t j
-  mono i j h = rw (eq i j h) (omega (arith, span-low i (j - i)))
-    where
-      eq : (i j : ℕ) → i ≤ j → j ≡ i + (j - i)
-      eq i j h = omega arith
+  mono = in-order (λ i. omega (arith, clk .low i))
 
 -- the cycle in which a time lies, among d cycles from lo on
 pub cycle-of : (t : ℕ → ℕ) (x d lo : ℕ) → t lo ≤ x → x < t (lo + d)
@@ -48,3 +48,24 @@ cycle-of t x (suc d) lo p q = go (decLe (t (lo + d)) x) (cycle-of t x d lo p)
         → (c : ℕ) × (lo ≤ c) × (c < lo + suc d) × (t c ≤ x) × (x < t (suc c))
     go (yes y) more = (lo + d, omega arith, omega arith, y, rw add-suc at q)
     go (no y) more = let (c, a, b, e, f) = more (omega arith) in (c, a, omega arith, e, f)
+
+-- two clocks within bounds, the phase below the first writer cycle, keep every law of the line
+pub within-bounds : {tw tr : ℕ → ℕ} {w1 w2 r1 r2 : ℕ} → Clock tw w1 w2 → Clock tr r1 r2 → 0 < r1 → tw 0 ≤ tr 0
+    → tr 0 < tw 1 → Clocks tw tr
+within-bounds wclk rclk pos phase below = record {
+  cycles-on = λ i. omega (arith, wclk .low i);
+  reads-on = λ j. omega (arith, rclk .low j);
+  begun = phase;
+  unended = below;
+}
+
+-- 01's two clocks
+pub cycle-clock : (w : ℕ) → Clock (cycleStart w) w w
+cycle-clock w = record { low = λ i. omega arith; high = λ i. omega arith }
+
+pub read-clock : (p r : ℕ) → Clock (readStart p r) r r
+read-clock p r = record { low = λ i. omega arith; high = λ i. omega arith }
+
+-- a clock of constant length within the bounds
+pub wider : {t : ℕ → ℕ} (lo hi x : ℕ) → lo ≤ x → x ≤ hi → Clock t x x → Clock t lo hi
+wider lo hi x p q c = record { low = λ i. omega (arith, c .low i); high = λ i. omega (arith, c .high i) }
