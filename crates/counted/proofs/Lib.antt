@@ -1,5 +1,4 @@
 pub mod CasesHold
 pub mod Marks
 pub mod Samples
-pub mod LateMarks
 pub mod AllFound
