@@ -6,10 +6,10 @@ pub mod Runs
 pub mod Tally
 pub mod Captures
 pub mod Unrolling
-pub mod Reading
+pub mod ReadLaws
 pub mod Spelling
 pub mod Grouping
-pub mod Writing
+pub mod WriteLaws
 pub mod Respelling
 pub mod ReadsBack
 pub mod WritesBack

@@ -63,11 +63,11 @@ group-back (suc more) v l h = go (decLe 128 v)
         (q ∙ before-back v _ _ (following-back more (v / 128) l (omega arith) (omega (arith, bound-suc more))))
     go (no b) = rw (grouped-one (suc more) v (omega arith)) (group-one (suc more) v l (some-more more) (omega arith))
 
--- a number at a place, behind other bytes
-pub number-back : (s p l : List ℕ) (at v : ℕ) → s ≡ p ++ (spelled v ++ l) → length p ≡ at → v < bound further
+-- a number that is spelled from a place on
+pub number-back : (s l : List ℕ) (at v : ℕ) → drop at s ≡ spelled v ++ l → v < bound further
     → numberAt s at ≡ given (record { value = v; after = at + length (spelled v) })
 unfolding numberAt
-number-back s p l at v e f h = rw (e, drop-at p (spelled v ++ l) at f, group-back further v l h)
+number-back s l at v e h = rw (e, group-back further v l h)
 
 -- a number that was read is at least so great, and its bytes are those of its value
 abbrev Again : ℕ → ℕ → List ℕ → Group → Type 0

@@ -55,10 +55,10 @@ use Rattle.capture.proofs.held.CaptureReader as T
 use Rattle.capture.proofs.held.CaptureReader.Laws as T′
 use Rattle.capture.proofs.Number as S
 use Rattle.capture.proofs.Number.Laws as S′
-use Rattle.capture.proofs.number_at as step
-use Rattle.capture.proofs.number_at.Symbol as step-def
-use Rattle.capture.proofs.number_at.Symbol.{name as #number-at}
-use Rattle.capture.proofs.number_at.Met as step-thm
+use Rattle.capture.proofs.reading.number_at as step
+use Rattle.capture.proofs.reading.number_at.Symbol as step-def
+use Rattle.capture.proofs.reading.number_at.Symbol.{name as #number-at}
+use Rattle.capture.proofs.reading.number_at.Met as step-thm
 use Rattle.capture.proofs.held.next.Key.{name as #next}
 use Rattle.capture.proofs.held.next as next
 use Rattle.capture.proofs.held.next.Statement as stated
@@ -212,5 +212,5 @@ next-spec 𝓤 H 𝓜 𝓖 𝓡 =
     (tables 𝓤 H 𝓜 𝓡 code.env .C) (tables 𝓤 H 𝓜 𝓡 code.env .Λ) #next code.function (code.unfolded 𝓤 H 𝓜 𝓡)
     (next-meets 𝓤 H (𝓖 .A) (givenOf 𝓤 H 𝓜 𝓖) (𝓜 .mem) (𝓡 .run) (tablesOf 𝓤 H 𝓜 (tables 𝓤 H 𝓜 𝓡 code.env))
     (cited 𝓤 H
-    (StepAt 𝓤 H (𝓖 .A) (𝓜 .mem) (𝓡 .run)) 𝓜 𝓡 code.env #number-at step-def.routine code.calls-capture·number-at
+    (StepAt 𝓤 H (𝓖 .A) (𝓜 .mem) (𝓡 .run)) 𝓜 𝓡 code.env #number-at step-def.routine code.calls-capture·reading·number-at
     (step-thm.met 𝓤 H 𝓜 𝓖 𝓡)))
