@@ -1,6 +1,8 @@
 pub mod CasesHold
 pub mod Groups
 pub mod Places
+pub mod ByWalk
+pub mod TakenApart
 pub mod Headings
 pub mod Runs
 pub mod Tally

@@ -6,7 +6,7 @@ use native.Mathlib.Omega.{arith}
 use native.Mathlib.Decide.{decLe}
 use lib.Dec.{ltb, leb, eqb}
 use lib.ListN.{length, take, drop, take-append-drop}
-use lib.Seq.{drop-at, drop-drop}
+use lib.Seq.{drop-drop}
 use borrow.Author.Tests.{le-leb, ltb-true, ltb-false, eqb-false}
 use Rattle.measure.specs.Refusals.{given}
 use Rattle.capture.specs.Numbers.{Group, value, cut, long, before, following, group, further, lastMost, bound}

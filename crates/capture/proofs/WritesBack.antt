@@ -88,7 +88,8 @@ unfolding readsOfRuns runsAfter runsOf
 after-turned level count [] h p = refl
 after-turned level count (zero ∷ runs) h p = absurd (omega arith)
 after-turned level count (suc run ∷ runs) h p =
-    after-other level count (1 - level) (replicate run (1 - level) ++ readsOfRuns (1 - (1 - level)) runs) (λ e. omega arith)
+    after-other level count (1 - level) (replicate run (1 - level) ++ readsOfRuns (1 - (1 - level)) runs)
+    (λ e. omega arith)
 
 runs-of : (level : ℕ) (runs : List ℕ) → level ≤ 1 → Some runs → runsOf (readsOfRuns level runs) ≡ runs
 unfolding readsOfRuns runsOf
@@ -96,7 +97,8 @@ runs-of level [] h p = refl
 runs-of level (zero ∷ runs) h p = absurd (omega arith)
 runs-of level (suc run ∷ runs) h p =
     let e : 1 + run ≡ suc run = omega arith in
-    after-same level 1 run (readsOfRuns (1 - level) runs) ∙ ap (λ (i : ℕ). runsAfter level i (readsOfRuns (1 - level) runs)) e
+    after-same level 1 run (readsOfRuns (1 - level) runs)
+    ∙ ap (λ (i : ℕ). runsAfter level i (readsOfRuns (1 - level) runs)) e
     ∙ after-turned level (suc run) runs h (p .1)
     ∙ ap (λ (l : List ℕ). suc run ∷ l) (runs-of (1 - level) runs (omega arith) (p .1))
 

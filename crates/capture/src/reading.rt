@@ -184,8 +184,8 @@ fn head_refusal(head: Head) -> Refusal
 }
 
 // Gives the first four numbers of a capture, with the level's place and the place after it. Refuses with 3 for too many
-// bytes, and then, from the left, with 6 or 7 where one cannot be read and with 8 where one is out of range, each at the
-// number's first byte.
+// bytes, and then, from the left, with 6 or 7 where one cannot be read and with 8 where one is out of range, each at
+// the number's first byte.
 pub fn read_header(bytes: &[u8]) -> Head
     ensures { λ x. ⌜ header (now (bytes .entry)) ≡ headSays x ⌝ }
 {

@@ -1,14 +1,47 @@
 -- `read_capture` meets its contract: each refusal leaves the output, and an accepted capture's reads are laid onto it.
-use mathlib.Core.Path.{sym, ap, _∙_}
+use Prim.Native.Nat.{_≤_}
+use mathlib.Core.Path.{_≡_, sym, ap, _∙_}
 use native.Mathlib.Omega.{arith}
 use borrow.Author.Needs.{needs}
-use Rattle.measure.specs.Refusals.{denied}
-use Rattle.capture.specs.Answers.{headSays, headed, checkedSays}
+use Rattle.measure.specs.Refusals.{given, denied}
+use Rattle.capture.specs.Capture.{Heading, header, then, runsFrom, withRuns, capture}
+use Rattle.capture.specs.Answers.{headSays, headed, checkedSays, summedUp}
 use Rattle.capture.proofs.Headings.{heading-level}
 use Rattle.capture.proofs.Captures.{capture-refused, capture-found, header-found}
 use Rattle.capture.proofs.ReadLaws.{read-refused, read-runs-refused, read-short, read-roomy, read-whole}
 use Rattle.capture.proofs.reading.read_capture.Statement.{statement}
 use Rattle.capture.proofs.reading.read_capture.Tie as tie
+
+-- the header that was found
+abbrev start : tie.After-head → tie.Start
+start c = c .before .before .before .before .before
+
+abbrev heading : tie.After-head → Heading
+heading c = headed (c .head .given .0 .0)
+
+header-is : (c : tie.After-head) → header (start c .args .bytes .now) ≡ given (heading c)
+header-is c = c .before .before .read-header .ensures ∙ ap headSays (c .head .given .1)
+
+level-low : (c : tie.After-head) → heading c .level ≤ 1
+level-low c =
+    let s = start c .args .bytes .now in
+    heading-level s _ (header-found s _ (header-is c))
+
+-- what the bytes are then: the runs after it
+runs-follow : (c : tie.After-head)
+    → capture (start c .args .bytes .now)
+    ≡ then (runsFrom 0 (start c .args .bytes .now) (heading c .after)) (withRuns (heading c))
+runs-follow c = capture-found (start c .args .bytes .now) _ (header-is c)
+
+-- and the summary of these
+summary-is : (c : tie.After-found)
+    → summedUp
+    (then
+    (runsFrom 0 (start (c .before .before .before .before) .args .bytes .now)
+    (heading (c .before .before .before .before) .after))
+    (withRuns (heading (c .before .before .before .before))))
+    ≡ given (c .found .given .0 .0)
+summary-is c = c .before .before .check-runs .ensures ∙ ap checkedSays (c .found .given .1)
 
 read-header-requires : tie.Need-read-header-requires
 read-header-requires c κs = search needs
@@ -25,10 +58,10 @@ head-refusal-requires c κs = search needs
 returns : tie.Need-returns
 returns c =
     let a = c .before .before .before .before .before .before .args in
-    let e = c .before .enum-told .given .1 in
+    let told = c .before .enum-told .given .1 in
     read-refused (a .bytes .now) (a .out .now) _ _
-    (capture-refused (a .bytes .now) _ _ (c .before .before .before .read-header .ensures ∙ ap headSays e))
-    ∙ ap (λ refusal. (denied refusal, a .out .now)) (sym (c .head-refusal .ensures _ e))
+    (capture-refused (a .bytes .now) _ _ (c .before .before .before .read-header .ensures ∙ ap headSays told))
+    ∙ ap (λ refusal. (denied refusal, a .out .now)) (sym (c .head-refusal .ensures _ told))
 
 check-runs-requires : tie.Need-check-runs-requires
 check-runs-requires c κs = search needs
@@ -41,49 +74,32 @@ enum-told-2 c = search needs
 
 returns-2 : tie.Need-returns-2
 returns-2 c =
-    let a = c .before .before .before .before .before .before .before .before .before .args in
-    let e = ap checkedSays (c .enum-told2 .given .1) in
-    read-runs-refused (a .bytes .now) (a .out .now) (headed (c .before .before .before .before .head .given .0 .0))
-    (capture-found (a .bytes .now) _
-    (c .before .before .before .before .before .before .read-header .ensures
-    ∙ ap headSays (c .before .before .before .before .head .given .1))) _ _
-    (c .before .before .check-runs .ensures ∙ e)
-    ∙ ap (λ answer. (answer, a .out .now)) (sym e)
+    let checked = c .before .before in
+    let head = checked .before .before in
+    let a = start head .args in
+    let told = ap checkedSays (c .enum-told2 .given .1) in
+    read-runs-refused (a .bytes .now) (a .out .now) (heading head) (runs-follow head) _ _
+    (checked .check-runs .ensures ∙ told)
+    ∙ ap (λ answer. (answer, a .out .now)) (sym told)
 
 returns-3 : tie.Need-returns-3
 returns-3 c =
-    let a = c .before .before .before .before .before .before .before .before .before .before .before .args in
-    read-short (a .bytes .now) (a .out .now)
-    (headed (c .before .before .before .before .before .before .head .given .0 .0))
-    (capture-found (a .bytes .now) _
-    (c .before .before .before .before .before .before .before .before .read-header .ensures
-    ∙ ap headSays (c .before .before .before .before .before .before .head .given .1))) _
-    (c .before .before .before .before .check-runs .ensures ∙ ap checkedSays (c .before .before .found .given .1))
-    (c .if1 .taken)
+    let found = c .before .before in
+    let head = found .before .before .before .before in
+    let a = start head .args in
+    read-short (a .bytes .now) (a .out .now) (heading head) (runs-follow head) _ (summary-is found) (c .if1 .taken)
 
 cast-level : tie.Need-cast-level
-cast-level c =
-    omega (
-      arith,
-      heading-level
-          (c .before .before .before .before .before .before .before .before .before .before .before .args .bytes .now) _
-          (header-found
-          (c .before .before .before .before .before .before .before .before .before .before .before .args .bytes .now) _
-          (c .before .before .before .before .before .before .before .before .read-header .ensures
-          ∙ ap headSays (c .before .before .before .before .before .before .head .given .1))),
-    )
+cast-level c = omega (arith, level-low (c .before .before .before .before .before .before))
 
 unroll-into-requires : tie.Need-unroll-into-requires
 unroll-into-requires c κs =
-    let a = c .before .before .before .before .before .before .before .before .before .before .before .before .args in (
-      heading-level
-          (c .before .before .before .before .before .before .before .before .before .before .before .before .args .bytes .now) _ (header-found (c .before .before .before .before .before .before .before .before .before .before .before .before .args .bytes .now) _ (c .before .before .before .before .before .before .before .before .before .read-header .ensures ∙ ap headSays (c .before .before .before .before .before .before .before .head .given .1))),
-      read-roomy (a .bytes .now) (a .out .now) _
-          (capture-found (a .bytes .now) _
-          (c .before .before .before .before .before .before .before .before .before .read-header .ensures
-          ∙ ap headSays (c .before .before .before .before .before .before .before .head .given .1))) _
-          (c .before .before .before .before .before .check-runs .ensures
-          ∙ ap checkedSays (c .before .before .before .found .given .1)) (c .before .if1 .left),
+    let found = c .before .before .before in
+    let head = found .before .before .before .before in
+    let a = start head .args in (
+      level-low head,
+      read-roomy (a .bytes .now) (a .out .now) (heading head) (runs-follow head) _ (summary-is found)
+          (c .before .if1 .left),
     )
 
 same-length : tie.Need-same-length
@@ -91,11 +107,11 @@ same-length c = search needs
 
 returns-4 : tie.Need-returns-4
 returns-4 c =
-    let a = c .before .before .before .before .before .before .before .before .before .before .before .before .before .before .before .args in
-    read-whole (a .bytes .now) (a .out .now) _
-    (capture-found (a .bytes .now) _
-    (c .before .before .before .before .before .before .before .before .before .before .before .before .read-header .ensures ∙ ap headSays (c .before .before .before .before .before .before .before .before .before .before .head .given .1))) _ (c .before .before .before .before .before .before .before .before .check-runs .ensures ∙ ap checkedSays (c .before .before .before .before .before .before .found .given .1)) (c .before .before .before .before .if1 .left)
-    _ (c .before .before .unroll-into .ensures)
+    let found = c .before .before .before .before .before .before in
+    let head = found .before .before .before .before in
+    let a = start head .args in
+    read-whole (a .bytes .now) (a .out .now) (heading head) (runs-follow head) _ (summary-is found)
+    (c .before .before .before .before .if1 .left) _ (c .before .before .unroll-into .ensures)
 
 pub read-capture-spec : {M : Type 1} → statement M
 read-capture-spec =
