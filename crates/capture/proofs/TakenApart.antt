@@ -15,9 +15,9 @@ use prog.Wp.{Heap, Env, Calls, Loops}
 use ghost.Atoms.{Atoms, sem}
 use contract.Lifetimes.{Lfts}
 use contract.Monad.{fact}
-use types.Kit.{Given, Item, Post, Seq, runs, lands, mean, ‵, raw, _⊛_, given, later, some, ⋆, _$_, _∵_, !, qed, move, drop}
+use types.Kit.{Given, Item, Post, Seq, runs, lands, mean, ‵, raw, _⊛_, given, later, some, ⋆, _$_, _∵_, !, qed}
 use types.Run.{Opds}
-use types.Kit.{use1, use2, split, learn, pick, fsplit, fjoin, frame, await, done}
+use types.Kit.{move, drop, use1, use2, split, learn, pick, fsplit, fjoin, frame, await, done}
 use denote.RattleType.{RattleType, owns}
 use denote.Laws.{Is, Ises, Spells, Tellss, shows}
 use denote.Plain.{uint-makes}
