@@ -65,6 +65,10 @@ module _ {M : Type 1} (𝓤 : URA M) (H : Heap 𝓤) (A : Atoms 𝓤) (mem : Mem
 
 module _ {M : Type 1} (𝓤 : URA M) (H : Heap 𝓤) (A : Atoms 𝓤) (W : Given 𝓤 H A) (mem : Memory → SProp 𝓤)
     (run : Routine → Fun 𝓤) (κ : Lft) (q : Share) (d : CaptureReader) where
+  -- what the callee is passed
+  abbrev to : StepAt 𝓤 H A mem run .Ghost
+  to = (((κ, tt), (q, tt), tt, (d .src, (d .at, tt)), passed d), tt)
+
   abbrev found : ℕ
   found = placeAfter (d .at) (numberAt (now (d .src)) (d .at))
 
@@ -80,9 +84,8 @@ module _ {M : Type 1} (𝓤 : URA M) (H : Heap 𝓤) (A : Atoms 𝓤) (W : Given
   Post = walkOf 𝓤 H A advance.ended stayed (advance.clauses 𝓤 H A mem run) .post
       (((κ, tt), (q, tt), tt, (d, tt), (mach d ∷ [], tt)), tt)
 
-  -- what the callee is passed
-  abbrev to : StepAt 𝓤 H A mem run .Ghost
-  to = (((κ, tt), (q, tt), tt, (d .src, (d .at, tt)), passed d), tt)
+  asked : ent 𝓤 (⋆ 𝓤 H A (Asked 𝓤 κ q d)) (StepAt 𝓤 H A mem run .pre to)
+  asked = qed W (Asked 𝓤 κ q d) ∵ join ! $ frame ! $ done !
 
   -- of what the callee ensures, the clause alone: it has no `&mut`, so what is said of last values is dropped
   abbrev Left : ℕ → SProp 𝓤
@@ -122,8 +125,7 @@ module _ {M : Type 1} (𝓤 : URA M) (H : Heap 𝓤) (A : Atoms 𝓤) (W : Given
         (from ! (stop !)) (init ! 4 refl (tt, wt .1 .0)) $
         assigns ! (of-opd ! (load ! (from ! (fld ! refl (stop !))) (look-in ! 8 (sub ! 1 refl (whole !)))))
         (from ! (stop !)) (init ! 2 refl (tt, wt .1 .1 .0)) $
-        move ! (12 ∷ []) $ passes-on ! fm κ q d (wt .1 .1 .0 .fits) (StepAt 𝓤 H A mem run) known to
-        (qed W (Asked 𝓤 κ q d) ∵ join ! $ frame ! $ done !)
+        move ! (12 ∷ []) $ passes-on ! fm κ q d (wt .1 .1 .0 .fits) (StepAt 𝓤 H A mem run) known to asked
         (and-then ! (load ! (from ! (stop !)) (look ! 6 refl))
         (and-then ! (load ! (from ! (stop !)) (look ! 4 refl)) (no-more !)))
         usize Left Found said (λ u. id⊢ 𝓤 _) (λ u r e is.

@@ -59,6 +59,10 @@ module _ {M : Type 1} (𝓤 : URA M) (H : Heap 𝓤) (A : Atoms 𝓤) (mem : Mem
 
 module _ {M : Type 1} (𝓤 : URA M) (H : Heap 𝓤) (A : Atoms 𝓤) (W : Given 𝓤 H A) (mem : Memory → SProp 𝓤)
     (run : Routine → Fun 𝓤) (κ : Lft) (q : Share) (d : CaptureReader) where
+  -- what the callee is passed
+  abbrev to : StepAt 𝓤 H A mem run .Ghost
+  to = (((κ, tt), (q, tt), tt, (d .src, (d .at, tt)), passed d), tt)
+
   -- what a result says
   abbrev Found : Number → Type 0
   Found r = numberAt (now (d .src)) (d .at) ≡ numberSays r
@@ -67,9 +71,8 @@ module _ {M : Type 1} (𝓤 : URA M) (H : Heap 𝓤) (A : Atoms 𝓤) (W : Given
   Post = walkOf 𝓤 H A next.ended stayed (next.clauses 𝓤 H A mem run) .post
       (((κ, tt), (q, tt), tt, (d, tt), (mach d ∷ [], tt)), tt)
 
-  -- what the callee is passed
-  abbrev to : StepAt 𝓤 H A mem run .Ghost
-  to = (((κ, tt), (q, tt), tt, (d .src, (d .at, tt)), passed d), tt)
+  asked : ent 𝓤 (⋆ 𝓤 H A (Asked 𝓤 κ q d)) (StepAt 𝓤 H A mem run .pre to)
+  asked = qed W (Asked 𝓤 κ q d) ∵ join ! $ frame ! $ done !
 
   -- of what the callee ensures, the clause alone: it has no `&mut`, so what is said of last values is dropped
   abbrev Left : Number → SProp 𝓤
@@ -101,8 +104,7 @@ module _ {M : Type 1} (𝓤 : URA M) (H : Heap 𝓤) (A : Atoms 𝓤) (W : Given
         (from ! (stop !)) (init ! 2 refl (tt, wt .1 .0)) $
         assigns ! (of-opd ! (load ! (from ! (fld ! refl (stop !))) (look-in ! 4 (sub ! 1 refl (whole !)))))
         (from ! (stop !)) (init ! 0 refl (tt, wt .1 .1 .0)) $
-        move ! (8 ∷ []) $ passes-on ! fm κ q d (wt .1 .1 .0 .fits) (StepAt 𝓤 H A mem run) known to
-        (qed W (Asked 𝓤 κ q d) ∵ join ! $ frame ! $ done !)
+        move ! (8 ∷ []) $ passes-on ! fm κ q d (wt .1 .1 .0 .fits) (StepAt 𝓤 H A mem run) known to asked
         (and-then ! (load ! (from ! (stop !)) (look ! 4 refl))
         (and-then ! (load ! (from ! (stop !)) (look ! 2 refl)) (no-more !)))
         S.the-row Left Found said (λ u. id⊢ 𝓤 _) (λ u r e is.
