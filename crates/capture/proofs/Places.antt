@@ -1,4 +1,4 @@
--- Numbers at a place of bytes: what the code was told of one is small, and ends within the bytes.
+-- Numbers at a place of bytes: what the code learns of one is small, and ends within the bytes.
 use Prim.Native.Nat.{ℕ, _+_, _-_, _≤_, _<_}
 use mathlib.Core.Path.{_≡_, ap, _∙_}
 use mathlib.Core.List.{List}
@@ -16,7 +16,7 @@ use Rattle.capture.proofs.Groups.{Some, group-some, Bytes, Within, boun
 pub bytes-from : (s : List ℕ) (at : ℕ) → Bytes s → Bytes (drop at s)
 bytes-from s at b i = rw getD-drop (b (at + i))
 
--- what is told of a number that follows a byte: its value and its bytes leave room for one group more
+-- what is learnt of a number that follows a byte: its value and its bytes leave room for one group more
 pub following-small : (s : List ℕ) (at more : ℕ) (x : Front) → Bytes s → more < further
     → following more (drop at s) ≡ frontSays x
     → (v size : ℕ) → x ≡ Value v size → (v < bound further) × (size ≤ further)
@@ -25,7 +25,7 @@ following-small s at more x b h e v size f =
     rw (e ∙ ap frontSays f) at (following-within more (drop at s) (bytes-from s at b)) in
     omega (arith, bound-le more further (omega arith))
 
--- what is told of a number whose first byte stands at a place
+-- what is learnt of a number whose first byte stands at a place
 pub front-small : (s : List ℕ) (at : ℕ) (x : Front) → Bytes s → group further (drop at s) ≡ frontSays x
     → (v size : ℕ) → x ≡ Value v size → at + size ≤ length s
 front-small s at x b e v size f =

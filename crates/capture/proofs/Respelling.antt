@@ -16,7 +16,7 @@ use Rattle.capture.proofs.Groups.{group-on, bound-suc}
 use Rattle.capture.proofs.Places.{bytes-from}
 use Rattle.capture.proofs.Spelling.{grouped-one, grouped-on}
 
--- what is left behind a number's lowest group, read back with it
+-- what is left after a number's lowest group, read back with it
 before-back : (v size : ℕ) (g : Group) → g ≡ value (v / 128) size → before (v % 128 + 128) g ≡ value v (suc size)
 before-back v size g e =
     let p : v % 128 + 128 - 128 + 128 * (v / 128) ≡ v = omega arith in
@@ -119,7 +119,7 @@ group-again (suc more) (b ∷ l) h =
     (λ f. again-before 0 more b l (following more l) (omega arith) (ltb-false b 128 f) (h 0)
     (following-again more l (λ i. h (suc i))))
 
--- the bytes from a number's place on are its own and those behind it
+-- the bytes from a number's place on are its own and those after it
 pub number-again : (s : List ℕ) (at : ℕ) (n : Numeral) → Bytes s → numberAt s at ≡ given n
     → drop at s ≡ spelled (n .value) ++ drop (n .after) s
 unfolding numberAt

@@ -1,9 +1,6 @@
 -- `held::advance` meets its contract: the reader is taken apart, `place_after` is called on its bytes and its place,
 -- and it is put together with what that gives.
--- A walk of its code, by hand. All that it knows of `place_after` is that it meets its contract. The reader is Copy:
--- what it owns is had twice, one
--- copy is kept whole for the exit, and of the other what the bytes own goes to the callee, beside the lifetime's token,
--- which comes back.
+-- A walk of its code, by hand. All that it knows of `place_after` is that it meets its contract.
 use mathlib.Core.Path.{_≡_, refl, ap}
 use Prim.Native.Nat.{ℕ, _<_, _^_}
 use mathlib.Core.List.{[], _∷_}

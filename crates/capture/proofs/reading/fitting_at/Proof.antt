@@ -1,4 +1,4 @@
--- `fitting_at` meets its contract: a refused number is handed on, and one that was had passes the test or does not.
+-- `fitting_at` meets its contract: a refused number is handed on, and one that was read passes the test or does not.
 use mathlib.Core.Path.{sym, ap, _∙_}
 use borrow.Author.Needs.{needs}
 use Rattle.measure.specs.Choose.{between}

@@ -1,4 +1,4 @@
--- `number_refusal` meets its contract: a refused number says its refusal, and a number that is had is no refused one.
+-- `number_refusal` meets its contract: a refused number says its refusal, and one that is read is not asked for one.
 use Prim.Native.Nat.{ℕ}
 use mathlib.Core.Path.{_≡_}
 use native.Mathlib.Omega.{arith}

@@ -1,4 +1,4 @@
--- `put_runs` meets its contract: each turn stores one run's bytes, and those of the runs behind it are still to come.
+-- `put_runs` meets its contract: each turn stores one run's bytes, and those of the runs after it are still to come.
 use Prim.Native.Nat.{_-_}
 use native.Mathlib.Omega.{arith}
 use lib.ListN.{length}

@@ -1,4 +1,4 @@
--- `runs_size` meets its contract: each turn counts one run's bytes, and those of the runs behind it are still to come.
+-- `runs_size` meets its contract: each turn counts one run's bytes, and those of the runs after it are still to come.
 use Prim.Native.Nat.{_-_}
 use native.Mathlib.Omega.{arith}
 use lib.ListN.{length}
