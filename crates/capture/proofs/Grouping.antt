@@ -1,5 +1,5 @@
--- Reads become runs one run at a time: a run goes on while the reads are equal, and the runs behind it are those of the
--- reads behind it.
+-- Reads become runs one run at a time: a run goes on while the reads are equal, and the runs after it are those of the
+-- reads after it.
 use Prim.Native.Nat.{ℕ, suc, _+_, _-_, _≤_, _<_}
 use mathlib.Core.Path.{_≡_, refl, sym, ap, _∙_}
 use mathlib.Core.List.{List, [], _∷_, _++_}

@@ -1,4 +1,4 @@
--- What stands at the front of bytes follows from the first byte and what stands behind it, and is as small as its bytes
+-- What stands at the front of bytes follows from the first byte and what stands after it, and is as small as its bytes
 -- allow.
 use Prim.Native.Nat.{ℕ, zero, suc, _+_, _-_, _*_, _≤_, _<_}
 use mathlib.Core.Path.{_≡_, refl}
@@ -78,6 +78,24 @@ group-on zero b l p h = absurd (p refl)
 group-on (suc more) b l p h =
     let fewer : suc more - 1 ≡ more = omega arith in
     simp (le-ltb b 128 h, fewer)
+
+-- a number has a byte at least
+abbrev pub Some : Group → Type 0
+Some (value v size) = 1 ≤ size
+Some cut = Unit {0}
+Some long = Unit {0}
+
+before-some : (b : ℕ) (found : Group) → Some (before b found)
+before-some b (value v size) = omega arith
+before-some b cut = tt
+before-some b long = tt
+
+pub group-some : (more : ℕ) (l : List ℕ) → Some (group more l)
+unfolding group
+group-some more [] = tt
+group-some zero (b ∷ l) = either Some (leb b lastMost) (λ e. omega arith) (λ e. tt)
+group-some (suc more) (b ∷ l) =
+    either Some (ltb b 128) (λ e. omega arith) (λ e. before-some b (following more l))
 
 -- entries that are bytes
 abbrev pub Bytes : List ℕ → Type 0

@@ -1,4 +1,4 @@
--- Numbers at a place of bytes: what the code was told of one is small, and ends within the bytes.
+-- Numbers at a place of bytes: what the code learns of one is small, and ends within the bytes.
 use Prim.Native.Nat.{ℕ, _+_, _-_, _≤_, _<_}
 use mathlib.Core.Path.{_≡_, ap, _∙_}
 use mathlib.Core.List.{List}
@@ -11,12 +11,12 @@ use Rattle.capture.specs.Numbers.{numberAt}
 use Rattle.capture.specs.Answers.{frontSays}
 use Rattle.capture.specs.declared.Front.{Front}
 use Rattle.capture.specs.declared.Front.the-variants.{Value}
-use Rattle.capture.proofs.Groups.{Bytes, Within, bound-le, following-within, group-within}
+use Rattle.capture.proofs.Groups.{Some, group-some, Bytes, Within, bound-le, following-within, group-within}
 
 pub bytes-from : (s : List ℕ) (at : ℕ) → Bytes s → Bytes (drop at s)
 bytes-from s at b i = rw getD-drop (b (at + i))
 
--- what is told of a number that stands behind a byte: its value and its bytes leave room for one group more
+-- what is learnt of a number that follows a byte: its value and its bytes leave room for one group more
 pub following-small : (s : List ℕ) (at more : ℕ) (x : Front) → Bytes s → more < further
     → following more (drop at s) ≡ frontSays x
     → (v size : ℕ) → x ≡ Value v size → (v < bound further) × (size ≤ further)
@@ -25,7 +25,7 @@ following-small s at more x b h e v size f =
     rw (e ∙ ap frontSays f) at (following-within more (drop at s) (bytes-from s at b)) in
     omega (arith, bound-le more further (omega arith))
 
--- what is told of a number whose first byte stands at a place
+-- what is learnt of a number whose first byte stands at a place
 pub front-small : (s : List ℕ) (at : ℕ) (x : Front) → Bytes s → group further (drop at s) ≡ frontSays x
     → (v size : ℕ) → x ≡ Value v size → at + size ≤ length s
 front-small s at x b e v size f =
@@ -33,7 +33,7 @@ front-small s at x b e v size f =
     rw (e ∙ ap frontSays f) at (group-within further (drop at s) (bytes-from s at b)) in
     omega (arith, length-drop at s)
 
--- a number that stands at a place: its value is below the bound, and it ends behind its place and within the bytes
+-- a number that stands at a place: its value is below the bound, and it ends after its place and within the bytes
 pub record Placed (s : List ℕ) (at : ℕ) (n : Numeral) : Type 0 where
   pub small : n .value < bound further
   pub further-on : at < n .after
@@ -50,3 +50,13 @@ number-placed s at n b = go (group further (drop at s)) (group-within further (d
         record { small = omega arith; further-on = omega arith; ends = omega (arith, length-drop at s) }
     go cut w e = let z : _≡_ {A = ℕ} 0 1 = cc in absurd (omega arith)
     go long w e = let z : _≡_ {A = ℕ} 0 1 = cc in absurd (omega arith)
+
+-- whatever the entries are, a number ends after its place
+pub number-on : (s : List ℕ) (at : ℕ) (n : Numeral) → numberAt s at ≡ given n → at < n .after
+unfolding numberAt
+number-on s at n = go (group further (drop at s)) (group-some further (drop at s))
+  where
+    go : (g : Group) → Some g → placed at g ≡ given n → at < n .after
+    go (value v size) some e = let h : at + size ≡ n .after = cc in omega arith
+    go cut some e = let z : _≡_ {A = ℕ} 0 1 = cc in absurd (omega arith)
+    go long some e = let z : _≡_ {A = ℕ} 0 1 = cc in absurd (omega arith)

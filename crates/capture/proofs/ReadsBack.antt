@@ -6,24 +6,24 @@ use mathlib.Core.List.{List, [], _∷_, _++_, append-assoc}
 use mathlib.Core.Bool.{Bool, true, false, _&&_}
 use native.Mathlib.Omega.{arith}
 use lib.Dec.{eqb}
-use lib.ListN.{length, drop, replicate, length-append, replicate-append-replicate}
-use lib.Seq.{drop-at}
+use lib.ListN.{length, drop, replicate, length-append, length-drop, replicate-append-replicate}
+use lib.Seq.{drop-at, drop-drop}
 use borrow.Author.Tests.{eqb-true, eqb-false, le-leb}
 use Rattle.measure.specs.Choose.{choose, between}
 use Rattle.measure.specs.Ranges.{sampling, rowBits, quiet, entriesMost, captureMost}
 use Rattle.measure.specs.Refusals.{given, refused}
-use Rattle.capture.specs.Numbers.{value, group, further, bound, spelled}
-use Rattle.capture.specs.Capture.{Heading, heading, fittingAt, joined, runsFrom, totalMost, withRuns, capture}
-use Rattle.capture.specs.Capture.{readsOf}
+use Rattle.capture.specs.Numbers.{further, bound, spelled}
+use Rattle.capture.specs.Capture.{Heading, fourNumbers, fittingAt, joined, runsFrom, totalMost, withRuns, capture}
+use Rattle.capture.specs.Capture.{readsOfRuns}
 use Rattle.capture.specs.Writing.{runsAfter, runsOf, firstLevel, numbers, captureOf}
 use Rattle.capture.proofs.Groups.{either}
 use Rattle.capture.proofs.Headings.{in-range, fitting-in, heading-is}
-use Rattle.capture.proofs.Captures.{capture-found, heading-short}
-use Rattle.capture.proofs.Reading.{captured}
-use Rattle.capture.proofs.Runs.{sum, runs-skip}
+use Rattle.capture.proofs.Captures.{capture-found, header-short}
+use Rattle.capture.proofs.ReadLaws.{captured}
+use Rattle.capture.proofs.Runs.{sum, runs-end, runs-one}
 use Rattle.capture.proofs.Spelling.{size-some, size-run, size-groups}
-use Rattle.capture.proofs.Respelling.{group-back, number-back}
-use Rattle.capture.proofs.Writing.{InRange, all-in, capture-length}
+use Rattle.capture.proofs.Respelling.{number-back}
+use Rattle.capture.proofs.WriteLaws.{InRange, all-in, capture-length}
 
 -- runs of at least one read each
 abbrev pub Some : List ℕ → Type 0
@@ -35,28 +35,20 @@ abbrev pub Levels : List ℕ → Type 0
 Levels [] = Unit {0}
 Levels (read ∷ reads) = (read ≤ 1) × Levels reads
 
--- a run at the front of bytes is read back
-run-back : (total at v : ℕ) (x l : List ℕ) → group further (x ++ l) ≡ value v (length x) → 1 ≤ length x → 1 ≤ v
-    → total + v ≤ totalMost
-    → runsFrom 0 total at (x ++ l) ≡ joined v (runsFrom 0 (total + v) (at + length x) l)
-unfolding runsFrom
-run-back total at v [] l e s h o = absurd (omega arith)
-run-back total at v (b ∷ bs) l e s h o =
-    let k : suc (length bs) - 1 ≡ length bs = omega arith in
-    let p : suc at + length bs ≡ at + suc (length bs) = omega arith in
-    let y : runsFrom (length bs) (total + v) (suc at) (bs ++ l) ≡ runsFrom 0 (total + v) (at + suc (length bs)) l =
-    runs-skip (length bs) (total + v) (suc at) (bs ++ l) (omega (arith, length-append bs l))
-    ∙ rw (drop-at bs l (length bs) refl, p) in
-    rw (e, le-leb 1 v h, le-leb (total + v) totalMost o, k, y)
-
-pub runs-back : (runs : List ℕ) (total at : ℕ) → Some runs → total + sum runs ≤ totalMost
-    → runsFrom 0 total at (numbers runs) ≡ given runs
-unfolding numbers runsFrom
-runs-back [] total at p h = refl
-runs-back (run ∷ runs) total at p h =
-    run-back total at run (spelled run) (numbers runs) (group-back further run (numbers runs) (omega arith))
-    (size-some further run) (p .0) (omega arith)
-    ∙ ap (joined run) (runs-back runs (total + run) (at + length (spelled run)) (p .1) (omega arith))
+-- runs that are spelled from a place to the end are read back
+pub runs-back : (runs : List ℕ) (total : ℕ) (s : List ℕ) (at : ℕ) → drop at s ≡ numbers runs → Some runs
+    → total + sum runs ≤ totalMost → runsFrom total s at ≡ given runs
+unfolding numbers
+runs-back [] total s at e p h = runs-end total s at (omega (arith, ap length e, length-drop at s))
+runs-back (run ∷ runs) total s at e p h =
+    let size = length (spelled run) in
+    let here : at < length s =
+    omega
+    (arith, ap length e, length-drop at s, length-append (spelled run) (numbers runs), size-some further run) in
+    let rest : drop (at + size) s ≡ numbers runs =
+    sym (drop-drop size at s) ∙ ap (drop size) e ∙ drop-at (spelled run) (numbers runs) size refl in
+    runs-one total s at here _ (number-back s (numbers runs) at run e (omega arith)) (p .0) (omega arith)
+    ∙ ap (joined run) (runs-back runs (total + run) s (at + size) rest (p .1) (omega arith))
 
 -- the runs of reads: each has a read, and together they have as many as there are
 after-some : (level count : ℕ) (reads : List ℕ) → 1 ≤ count → Some (runsAfter level count reads)
@@ -88,16 +80,16 @@ turned : (x y : ℕ) → x ≤ 1 → y ≤ 1 → (y ≡ x → ⊥) → 1 - x ≡
 turned x y a b n = omega arith
 
 after-reads : (level count : ℕ) (reads : List ℕ) → level ≤ 1 → Levels reads
-    → readsOf level (runsAfter level count reads) ≡ replicate count level ++ reads
-unfolding runsAfter readsOf
+    → readsOfRuns level (runsAfter level count reads) ≡ replicate count level ++ reads
+unfolding runsAfter readsOfRuns
 after-reads level count [] h l = refl
 after-reads level count (read ∷ reads) h l =
     go (after-reads level (suc count) reads h (l .1)) (after-reads read 1 reads (l .0) (l .1)) (eqb read level) refl
   where
-    go : readsOf level (runsAfter level (suc count) reads) ≡ replicate (suc count) level ++ reads
-        → readsOf read (runsAfter read 1 reads) ≡ replicate 1 read ++ reads
+    go : readsOfRuns level (runsAfter level (suc count) reads) ≡ replicate (suc count) level ++ reads
+        → readsOfRuns read (runsAfter read 1 reads) ≡ replicate 1 read ++ reads
         → (test : Bool) → eqb read level ≡ test
-        → readsOf level (runsAfter level count (read ∷ reads)) ≡ replicate count level ++ (read ∷ reads)
+        → readsOfRuns level (runsAfter level count (read ∷ reads)) ≡ replicate count level ++ (read ∷ reads)
     go same other true e =
         let f : suc count ≡ count + 1 = omega arith in
         rw (e, eqb-true read level e)
@@ -106,19 +98,20 @@ after-reads level count (read ∷ reads) h l =
         ∙ append-assoc (replicate count level) (level ∷ []) reads)
     go same other false e =
         let f : 1 - level ≡ read = turned level read h (l .0) (eqb-false read level e) in
-        rw e (ap (λ (i : ℕ). replicate count level ++ readsOf i (runsAfter read 1 reads)) f
+        rw e (ap (λ (i : ℕ). replicate count level ++ readsOfRuns i (runsAfter read 1 reads)) f
         ∙ ap (λ (l : List ℕ). replicate count level ++ l) other)
 
-pub reads-back : (reads : List ℕ) → Levels reads → readsOf (firstLevel reads) (runsOf reads) ≡ reads
-unfolding runsOf readsOf
+pub reads-back : (reads : List ℕ) → Levels reads → readsOfRuns (firstLevel reads) (runsOf reads) ≡ reads
+unfolding runsOf readsOfRuns
 reads-back [] l = refl
 reads-back (read ∷ reads) l = after-reads read 1 reads (l .0) (l .1)
 
--- the first four numbers, each behind those before it
+-- the first four numbers, each after those before it
 fitting-back : (fits : ℕ → Bool) (s p l : List ℕ) (at v : ℕ) → s ≡ p ++ (spelled v ++ l) → length p ≡ at
     → fits v ≡ true → v < bound further
     → fittingAt fits s at ≡ given (record { value = v; after = at + length (spelled v) })
-fitting-back fits s p l at v e f t h = fitting-in fits s at _ (number-back s p l at v e f h) t
+fitting-back fits s p l at v e f t h =
+    fitting-in fits s at _ (number-back s l at v (rw e (drop-at p (spelled v ++ l) at f)) h) t
 
 module _ (k n Q level : ℕ) (runs : List ℕ) where
   -- where the number after each begins
@@ -140,7 +133,7 @@ module _ (k n Q level : ℕ) (runs : List ℕ) where
   abbrev front : Heading
   front = record { k = k; n = n; Q = Q; level = level; level-at = level-at; after = runs-at }
 
-  heading-back : InRange k n Q → level ≤ 1 → heading whole ≡ given front
+  heading-back : InRange k n Q → level ≤ 1 → fourNumbers whole ≡ given front
   heading-back r l =
       let f = all-in (sampling k) (rowBits n) (quiet Q) r in
       heading-is whole
@@ -220,10 +213,8 @@ capture-back k n Q reads r h l =
     let level = firstLevel reads in
     let runs = runsOf reads in
     capture-found (whole k n Q level runs) (front k n Q level runs)
-    (heading-short (whole k n Q level runs) (capture-short k n Q reads r h l)
+    (header-short (whole k n Q level runs) (capture-short k n Q reads r h l)
     ∙ heading-back k n Q level runs r (first-low reads l))
-    ∙ rw (
-      tail-back k n Q level runs,
-      runs-back runs 0 (runs-at k n Q level runs) (runs-some reads) (omega (arith, runs-sum reads)),
-    )
+    ∙ rw (runs-back runs 0 (whole k n Q level runs) (runs-at k n Q level runs) (tail-back k n Q level runs)
+    (runs-some reads) (omega (arith, runs-sum reads)))
     (with-back k n Q level runs (first-none reads))

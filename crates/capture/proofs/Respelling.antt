@@ -6,7 +6,7 @@ use native.Mathlib.Omega.{arith}
 use native.Mathlib.Decide.{decLe}
 use lib.Dec.{ltb, leb, eqb}
 use lib.ListN.{length, take, drop, take-append-drop}
-use lib.Seq.{drop-at, drop-drop}
+use lib.Seq.{drop-drop}
 use borrow.Author.Tests.{le-leb, ltb-true, ltb-false, eqb-false}
 use Rattle.measure.specs.Refusals.{given}
 use Rattle.capture.specs.Numbers.{Group, value, cut, long, before, following, group, further, lastMost, bound}
@@ -16,7 +16,7 @@ use Rattle.capture.proofs.Groups.{group-on, bound-suc}
 use Rattle.capture.proofs.Places.{bytes-from}
 use Rattle.capture.proofs.Spelling.{grouped-one, grouped-on}
 
--- what is left behind a number's lowest group, read back with it
+-- what is left after a number's lowest group, read back with it
 before-back : (v size : ℕ) (g : Group) → g ≡ value (v / 128) size → before (v % 128 + 128) g ≡ value v (suc size)
 before-back v size g e =
     let p : v % 128 + 128 - 128 + 128 * (v / 128) ≡ v = omega arith in
@@ -63,11 +63,11 @@ group-back (suc more) v l h = go (decLe 128 v)
         (q ∙ before-back v _ _ (following-back more (v / 128) l (omega arith) (omega (arith, bound-suc more))))
     go (no b) = rw (grouped-one (suc more) v (omega arith)) (group-one (suc more) v l (some-more more) (omega arith))
 
--- a number at a place, behind other bytes
-pub number-back : (s p l : List ℕ) (at v : ℕ) → s ≡ p ++ (spelled v ++ l) → length p ≡ at → v < bound further
+-- a number that is spelled from a place on
+pub number-back : (s l : List ℕ) (at v : ℕ) → drop at s ≡ spelled v ++ l → v < bound further
     → numberAt s at ≡ given (record { value = v; after = at + length (spelled v) })
 unfolding numberAt
-number-back s p l at v e f h = rw (e, drop-at p (spelled v ++ l) at f, group-back further v l h)
+number-back s l at v e h = rw (e, group-back further v l h)
 
 -- a number that was read is at least so great, and its bytes are those of its value
 abbrev Again : ℕ → ℕ → List ℕ → Group → Type 0
@@ -119,7 +119,7 @@ group-again (suc more) (b ∷ l) h =
     (λ f. again-before 0 more b l (following more l) (omega arith) (ltb-false b 128 f) (h 0)
     (following-again more l (λ i. h (suc i))))
 
--- the bytes from a number's place on are its own and those behind it
+-- the bytes from a number's place on are its own and those after it
 pub number-again : (s : List ℕ) (at : ℕ) (n : Numeral) → Bytes s → numberAt s at ≡ given n
     → drop at s ≡ spelled (n .value) ++ drop (n .after) s
 unfolding numberAt

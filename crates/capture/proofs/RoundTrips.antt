@@ -14,7 +14,7 @@ use Rattle.measure.specs.Ranges.{entriesMost, settingsFit}
 use Rattle.measure.specs.Lists.{firstAbove, someAbove, onto}
 use Rattle.measure.specs.Refusals.{Answer, given, refused, refusedAfter}
 use Rattle.measure.proofs.Above.{above-none}
-use Rattle.capture.specs.Capture.{Capture, capture, readsOf}
+use Rattle.capture.specs.Capture.{Capture, capture, readsOfRuns}
 use Rattle.capture.specs.Writing.{runsOf, firstLevel, captureOf}
 use Rattle.capture.specs.Answers.{summary, unrolled, readBack, written}
 use Rattle.capture.specs.RoundTrips.{ReadsBack, WritesBack, WrittenReadsBack, ReadWritesBack}
@@ -23,7 +23,7 @@ use Rattle.capture.proofs.Groups.{Bytes}
 use Rattle.capture.proofs.Runs.{length-reads}
 use Rattle.capture.proofs.ReadsBack.{Levels, reads-back, capture-back}
 use Rattle.capture.proofs.WritesBack.{accepted, capture-again}
-use Rattle.capture.proofs.Writing.{InRange, write-whole}
+use Rattle.capture.proofs.WriteLaws.{InRange, write-whole}
 
 -- a list none of whose entries is above 255 has bytes, and one none of whose entries is above 1 has levels
 all-bytes : (l : List ℕ) → someAbove 255 l ≡ false → Bytes l
@@ -66,11 +66,11 @@ no-higher-run level zero l h k = k
 no-higher-run level (suc times) l h k = no-higher level (replicate times level ++ l) h (no-higher-run level times l h k)
 
 no-higher-reads : (level : ℕ) (runs : List ℕ) → level ≤ 1
-    → length (readsOf level runs) ≤ firstAbove 1 (readsOf level runs)
-unfolding readsOf firstAbove
+    → length (readsOfRuns level runs) ≤ firstAbove 1 (readsOfRuns level runs)
+unfolding readsOfRuns firstAbove
 no-higher-reads level [] h = omega arith
 no-higher-reads level (run ∷ runs) h =
-    no-higher-run level run (readsOf (1 - level) runs) h (no-higher-reads (1 - level) runs (omega arith))
+    no-higher-run level run (readsOfRuns (1 - level) runs) h (no-higher-reads (1 - level) runs (omega arith))
 
 -- an answer that was given was not refused: a test that refuses where it fails held, and one that refuses where it
 -- holds failed
@@ -122,7 +122,7 @@ unfolding readBack
 written-read-back k n Q reads out out′ room size e h =
     let w = wrote k n Q reads out out′ size e in
     let l = levels reads (w .low) in
-    let same : readsOf (firstLevel reads) (runsOf reads) ≡ reads = reads-back reads l in
+    let same : readsOfRuns (firstLevel reads) (runsOf reads) ≡ reads = reads-back reads l in
     let bytes : take size out′ ≡ captureOf k n Q reads = ap (take size) (sym (w .laid))
     ∙ take-at (captureOf k n Q reads) (drop (length (captureOf k n Q reads)) out) size (w .sized) in
     rw (bytes, capture-back k n Q reads (w .in-range) (w .few) l, same, le-ltb (length room) (length reads) h)
@@ -132,7 +132,7 @@ record Read (bytes room room′ : List ℕ) (s : Summary) : Type 0 where
   is : Capture
   accepted-is : capture bytes ≡ given is
   summed-up : summary is ≡ s
-  laid : onto (readsOf (is .level) (is .runs)) room ≡ room′
+  laid : onto (readsOfRuns (is .level) (is .runs)) room ≡ room′
 
 read : (bytes room room′ : List ℕ) (s : Summary) → readBack bytes room ≡ (given s, room′) → Read bytes room room′ s
 unfolding readBack
@@ -141,7 +141,7 @@ read bytes room room′ s = go (capture bytes) refl
     go : (answer : Answer Capture) → capture bytes ≡ answer → unrolled answer room ≡ (given s, room′)
         → Read bytes room room′ s
     go (given c) e f =
-        let g = failed 4 0 room room′ s (ltb (length room) (length (readsOf (c .level) (c .runs)))) _ f in
+        let g = failed 4 0 room room′ s (ltb (length room) (length (readsOfRuns (c .level) (c .runs)))) _ f in
         let h : given (summary c) ≡ given s = ap (λ (p : Answer Summary × List ℕ). p .0) (g .1) in
         record { is = c; accepted-is = e; summed-up = cc; laid = ap (λ (p : Answer Summary × List ℕ). p .1) (g .1) }
     go (refused number place) e f = absurd (refused-none number place room room′ s f)
@@ -157,7 +157,7 @@ read-written-back bytes room room′ out s e f h =
     let c = r .is in
     let b = all-bytes bytes e in
     let a = accepted bytes c b (r .accepted-is) in
-    let reads = readsOf (c .level) (c .runs) in
+    let reads = readsOfRuns (c .level) (c .runs) in
     let same : captureOf (c .k) (c .n) (c .Q) reads ≡ bytes = capture-again bytes c b (r .accepted-is) in
     let front : take (length reads) room′ ≡ reads = ap (take (length reads)) (sym (r .laid))
     ∙ take-at reads (drop (length reads) room) (length reads) refl in

@@ -2,93 +2,107 @@
 use Prim.Native.Nat.{ℕ, zero, suc, _+_, _-_, _≤_, _<_}
 use mathlib.Core.Path.{_≡_, refl, sym, ap, _∙_}
 use mathlib.Core.List.{List, [], _∷_}
+use mathlib.Core.Bool.{Bool, true, false}
 use native.Mathlib.Omega.{arith}
 use native.Mathlib.Decide.{decLe}
-use native.Mathlib.Nat.{add-zero, add-suc, suc-add}
-use lib.ListN.{length, drop, replicate, length-drop, length-append, length-replicate, drop-of-length-le}
-use lib.Seq.{drop-cons, drop-drop}
+use lib.ListN.{length, replicate, length-append, length-replicate}
 use borrow.Author.Tests.{le-leb, lt-leb}
 use Rattle.measure.specs.Refusals.{Answer, given, refused, refusedAfter}
-use Rattle.capture.specs.Numbers.{Group, value, cut, long, group, further, Numeral, placed, numberAt}
-use Rattle.capture.specs.Capture.{joined, run, runsFrom, totalMost, readsOf}
-use Rattle.capture.proofs.Groups.{Bytes}
-use Rattle.capture.proofs.Places.{Placed, number-placed}
+use Rattle.capture.specs.Numbers.{Numeral, numberAt}
+use Rattle.capture.specs.Capture.{then, fittingAt, joined, fitsAfter, someRunsFrom, runsFrom, totalMost}
+use Rattle.capture.specs.Capture.{readsOfRuns}
+use Rattle.capture.proofs.Places.{number-on}
+use Rattle.capture.proofs.Headings.{then-same, fitting-refused, fitting-in, fitting-out, fitting-given}
 
--- the bytes that belong to the number before are passed over
-pub runs-skip : (skip total at : ℕ) (l : List ℕ) → skip ≤ length l
-    → runsFrom skip total at l ≡ runsFrom 0 total (at + skip) (drop skip l)
+-- the runs from a place before the end go by the number there
+module _ (most total : ℕ) (s : List ℕ) (at : ℕ) where
+  runs-there : at < length s
+      → someRunsFrom (suc most) total s at
+      ≡ then (fittingAt (fitsAfter total) s at)
+      (λ run. joined (run .value) (someRunsFrom most (total + run .value) s (run .after)))
+  unfolding someRunsFrom
+  runs-there h = rw (lt-leb (length s) at h)
+
+runs-done : (most total : ℕ) (s : List ℕ) (at : ℕ) → length s ≤ at → someRunsFrom most total s at ≡ given []
+unfolding someRunsFrom
+runs-done zero total s at h = refl
+runs-done (suc most) total s at h = rw (le-leb (length s) at h)
+
+-- a number that fits ends further on
+fitting-on : (fits : ℕ → Bool) (s : List ℕ) (at : ℕ) (n : Numeral) → fittingAt fits s at ≡ given n → at < n .after
+fitting-on fits s at n e = number-on s at n (fitting-given fits s at n e .0)
+
+-- how many runs there may be does not matter, where there may be one for each byte that is left
+runs-enough : (most others total : ℕ) (s : List ℕ) (at : ℕ) → length s - at ≤ most → length s - at ≤ others
+    → someRunsFrom most total s at ≡ someRunsFrom others total s at
+runs-enough zero others total s at h k =
+    runs-done zero total s at (omega arith) ∙ sym (runs-done others total s at (omega arith))
+runs-enough (suc most) zero total s at h k =
+    runs-done (suc most) total s at (omega arith) ∙ sym (runs-done zero total s at (omega arith))
+runs-enough (suc most) (suc others) total s at h k =
+    go (decLe (length s) at) (λ total at. runs-enough most others total s at)
+  where
+    go : Dec (length s ≤ at)
+        → ((total at : ℕ) → length s - at ≤ most → length s - at ≤ others
+        → someRunsFrom most total s at ≡ someRunsFrom others total s at)
+        → someRunsFrom (suc most) total s at ≡ someRunsFrom (suc others) total s at
+    go (yes l) rest = runs-done (suc most) total s at l ∙ sym (runs-done (suc others) total s at l)
+    go (no l) rest =
+        runs-there most total s at (omega arith)
+        ∙ then-same (fittingAt (fitsAfter total) s at) _ _
+        (λ run e. let on : at < run .after = fitting-on (fitsAfter total) s at run e in
+        ap (joined (run .value)) (rest (total + run .value) (run .after) (omega arith) (omega arith)))
+        ∙ sym (runs-there others total s at (omega arith))
+
+pub runs-end : (total : ℕ) (s : List ℕ) (at : ℕ) → length s ≤ at → runsFrom total s at ≡ given []
 unfolding runsFrom
-runs-skip zero total at l h = rw add-zero
-runs-skip (suc skip) total at [] h = refl
-runs-skip (suc skip) total at (byte ∷ l) h = rw (add-suc, ← suc-add) (runs-skip skip total (suc at) l (omega arith))
+runs-end total s at h = runs-done (length s) total s at h
 
-pub runs-end : (s : List ℕ) (total at : ℕ) → length s ≤ at → runsFrom 0 total at (drop at s) ≡ given []
+-- the runs from a place before the end: the number there as a run, and those from the place after it
+runs-here : (total : ℕ) (s : List ℕ) (at : ℕ) → at < length s
+    → runsFrom total s at
+    ≡ then (fittingAt (fitsAfter total) s at)
+    (λ run. joined (run .value) (runsFrom (total + run .value) s (run .after)))
 unfolding runsFrom
-runs-end s total at h = rw (drop-of-length-le s h)
+runs-here total s at h =
+    let one-more : length s ≡ suc (length s - 1) = omega arith in
+    ap (λ (most : ℕ). someRunsFrom most total s at) one-more
+    ∙ runs-there (length s - 1) total s at h
+    ∙ then-same (fittingAt (fitsAfter total) s at) _ _
+    (λ run e. let on : at < run .after = fitting-on (fitsAfter total) s at run e in
+    ap (joined (run .value))
+    (runs-enough (length s - 1) (length s) (total + run .value) s (run .after) (omega arith) (omega arith)))
 
-runs-here : (s : List ℕ) (total at : ℕ) → at < length s
-    → runsFrom 0 total at (drop at s)
-    ≡ run at total (group further (drop at s)) (λ skip sum. runsFrom skip sum (suc at) (drop (suc at) s))
-unfolding runsFrom
-runs-here s total at h = rw (drop-cons s at 0 h)
-
--- a run goes by the number at its place
-run-refused : (at total number place : ℕ) (g : Group) (go : ℕ → ℕ → Answer (List ℕ))
-    → placed at g ≡ refused number place → run at total g go ≡ refused number place
-run-refused at total number place (value v size) go e = let z : _≡_ {A = ℕ} 0 1 = cc in absurd (omega arith)
-run-refused at total number place cut go e = cc
-run-refused at total number place long go e = cc
-
-run-given : (at total : ℕ) (n : Numeral) (g : Group) (go : ℕ → ℕ → Answer (List ℕ)) → placed at g ≡ given n
-    → run at total g go ≡ run at total (value (n .value) (n .after - at)) go
-run-given at total n (value v size) go e =
-    let p : v ≡ n .value = cc in
-    let q : at + size ≡ n .after = cc in
-    let r : n .after - at ≡ size = omega arith in
-    rw (p, r)
-run-given at total n cut go e = let z : _≡_ {A = ℕ} 0 1 = cc in absurd (omega arith)
-run-given at total n long go e = let z : _≡_ {A = ℕ} 0 1 = cc in absurd (omega arith)
-
-module _ (s : List ℕ) (total at : ℕ) (h : at < length s) where
+module _ (total : ℕ) (s : List ℕ) (at : ℕ) (h : at < length s) where
   pub runs-refused : (number place : ℕ) → numberAt s at ≡ refused number place
-      → runsFrom 0 total at (drop at s) ≡ refused number place
-  unfolding numberAt
-  runs-refused number place e = runs-here s total at h
-      ∙ run-refused at total number place (group further (drop at s)) _ e
+      → runsFrom total s at ≡ refused number place
+  runs-refused number place e =
+      runs-here total s at h ∙ rw (fitting-refused (fitsAfter total) s at number place e)
 
   module _ (n : Numeral) (e : numberAt s at ≡ given n) where
-    pub runs-none : n .value < 1 → runsFrom 0 total at (drop at s) ≡ refused 8 at
-    unfolding numberAt
-    runs-none z = runs-here s total at h ∙ run-given at total n (group further (drop at s)) _ e
-        ∙ rw (lt-leb 1 (n .value) z)
+    runs-out : fitsAfter total (n .value) ≡ false → runsFrom total s at ≡ refused 8 at
+    runs-out f = runs-here total s at h ∙ rw (fitting-out (fitsAfter total) s at n e f)
 
-    pub runs-over : 1 ≤ n .value → totalMost < total + n .value → runsFrom 0 total at (drop at s) ≡ refused 8 at
-    unfolding numberAt
-    runs-over z o =
-        runs-here s total at h ∙ run-given at total n (group further (drop at s)) _ e
-        ∙ rw (le-leb 1 (n .value) z, lt-leb (total + n .value) totalMost o)
+    pub runs-none : n .value < 1 → runsFrom total s at ≡ refused 8 at
+    runs-none z = runs-out (rw (lt-leb 1 (n .value) z))
 
-    pub runs-one : Bytes s → 1 ≤ n .value → total + n .value ≤ totalMost
-        → runsFrom 0 total at (drop at s)
-        ≡ joined (n .value) (runsFrom 0 (total + n .value) (n .after) (drop (n .after) s))
-    unfolding numberAt
-    runs-one b z o =
-        let p : Placed s at n = number-placed s at n b e in
-        let x : suc at + (n .after - at - 1) ≡ n .after = omega arith in
-        let y : runsFrom (n .after - at - 1) (total + n .value) (suc at) (drop (suc at) s)
-        ≡ runsFrom 0 (total + n .value) (n .after) (drop (n .after) s) =
-        runs-skip (n .after - at - 1) (total + n .value) (suc at) (drop (suc at) s)
-        (omega (arith, length-drop (suc at) s)) ∙ rw (drop-drop, x) in
-        runs-here s total at h ∙ run-given at total n (group further (drop at s)) _ e
-        ∙ rw (le-leb 1 (n .value) z, le-leb (total + n .value) totalMost o) (ap (joined (n .value)) y)
+    pub runs-over : 1 ≤ n .value → totalMost < total + n .value → runsFrom total s at ≡ refused 8 at
+    runs-over z o = runs-out (rw (le-leb 1 (n .value) z, lt-leb (total + n .value) totalMost o))
 
--- where the runs are all to be had, the one at a place is, and so are those behind it
-pub record Next (s : List ℕ) (total : ℕ) (n : Numeral) (runs : List ℕ) : Type 0 where
+    pub runs-one : 1 ≤ n .value → total + n .value ≤ totalMost
+        → runsFrom total s at ≡ joined (n .value) (runsFrom (total + n .value) s (n .after))
+    runs-one z o =
+        let fits : fitsAfter total (n .value) ≡ true =
+        rw (le-leb 1 (n .value) z, le-leb (total + n .value) totalMost o) in
+        runs-here total s at h ∙ rw (fitting-in (fitsAfter total) s at n e fits)
+
+-- where all the runs can be read, the one at a place can, and so can those after it
+pub record Next (total : ℕ) (s : List ℕ) (n : Numeral) (runs : List ℕ) : Type 0 where
   pub some : 1 ≤ n .value
   pub low : total + n .value ≤ totalMost
   pub others : List ℕ
   pub is : runs ≡ n .value ∷ others
-  pub spelt : runsFrom 0 (total + n .value) (n .after) (drop (n .after) s) ≡ given others
+  pub spelt : runsFrom (total + n .value) s (n .after) ≡ given others
 
 never : {A : Type 0} {number place : ℕ} {x : A} → refused number place ≡ given x → ⊥
 never e = let z : _≡_ {A = ℕ} 0 1 = cc in omega arith
@@ -99,37 +113,37 @@ joined-given run (given others) runs e = (others, (cc, refl))
 joined-given run (refused number place) runs e = let z : _≡_ {A = ℕ} 0 1 = cc in absurd (omega arith)
 joined-given run (refusedAfter number place count) runs e = let z : _≡_ {A = ℕ} 0 1 = cc in absurd (omega arith)
 
-module _ (s : List ℕ) (total at : ℕ) (h : at < length s) (runs : List ℕ)
-    (g : runsFrom 0 total at (drop at s) ≡ given runs) where
+module _ (total : ℕ) (s : List ℕ) (at : ℕ) (h : at < length s) (runs : List ℕ)
+    (g : runsFrom total s at ≡ given runs) where
   pub next-refused : (number place : ℕ) → numberAt s at ≡ refused number place → ⊥
-  next-refused number place e = never (sym (runs-refused s total at h number place e) ∙ g)
+  next-refused number place e = never (sym (runs-refused total s at h number place e) ∙ g)
 
-  pub next-is : (n : Numeral) → Bytes s → numberAt s at ≡ given n → Next s total n runs
-  next-is n b e = some (decLe 1 (n .value))
+  pub next-is : (n : Numeral) → numberAt s at ≡ given n → Next total s n runs
+  next-is n e = some (decLe 1 (n .value))
     where
-      low : 1 ≤ n .value → Dec (total + n .value ≤ totalMost) → Next s total n runs
+      low : 1 ≤ n .value → Dec (total + n .value ≤ totalMost) → Next total s n runs
       low z (yes o) =
-          let j = joined-given (n .value) (runsFrom 0 (total + n .value) (n .after) (drop (n .after) s)) runs
-          (sym (runs-one s total at h n e b z o) ∙ g) in
+          let j = joined-given (n .value) (runsFrom (total + n .value) s (n .after)) runs
+          (sym (runs-one total s at h n e z o) ∙ g) in
           record { some = z; low = o; others = j .0; is = j .1 .0; spelt = j .1 .1 }
-      low z (no o) = absurd (never (sym (runs-over s total at h n e z (omega arith)) ∙ g))
+      low z (no o) = absurd (never (sym (runs-over total s at h n e z (omega arith)) ∙ g))
 
-      some : Dec (1 ≤ n .value) → Next s total n runs
+      some : Dec (1 ≤ n .value) → Next total s n runs
       some (yes z) = low z (decLe (total + n .value) totalMost)
-      some (no z) = absurd (never (sym (runs-none s total at h n e (omega arith)) ∙ g))
+      some (no z) = absurd (never (sym (runs-none total s at h n e (omega arith)) ∙ g))
 
 -- how many reads runs stand for
 abbrev pub sum : List ℕ → ℕ
 sum [] = 0
 sum (run ∷ runs) = run + sum runs
 
-pub length-reads : (level : ℕ) (runs : List ℕ) → length (readsOf level runs) ≡ sum runs
-unfolding readsOf
+pub length-reads : (level : ℕ) (runs : List ℕ) → length (readsOfRuns level runs) ≡ sum runs
+unfolding readsOfRuns
 length-reads level [] = refl
 length-reads level (run ∷ runs) =
     omega (
       arith,
-      length-append (replicate run level) (readsOf (1 - level) runs),
+      length-append (replicate run level) (readsOfRuns (1 - level) runs),
       length-replicate run level,
       length-reads (1 - level) runs,
     )

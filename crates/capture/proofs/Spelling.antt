@@ -43,7 +43,16 @@ size-some (suc more) v = go (decLe 128 v)
     go (yes h) = rw (grouped-on more v h) (omega arith)
     go (no h) = rw (grouped-one (suc more) v (omega arith)) (omega arith)
 
-pub size-low : (more v : ℕ) → length (grouped more v) ≤ v + 1
+pub size-most : (more v : ℕ) → length (grouped more v) ≤ more + 1
+unfolding grouped
+size-most zero v = omega arith
+size-most (suc more) v = go (decLe 128 v) (size-most more (v / 128))
+  where
+    go : Dec (128 ≤ v) → length (grouped more (v / 128)) ≤ more + 1 → length (grouped (suc more) v) ≤ suc more + 1
+    go (yes h) rest = rw (grouped-on more v h) (omega arith)
+    go (no h) rest = rw (grouped-one (suc more) v (omega arith)) (omega arith)
+
+size-low : (more v : ℕ) → length (grouped more v) ≤ v + 1
 unfolding grouped
 size-low zero v = omega arith
 size-low (suc more) v = go (decLe 128 v) (size-low more (v / 128))

@@ -6,15 +6,14 @@ use mathlib.Core.Bool.{Bool, true, false, _&&_}
 use native.Mathlib.Omega.{arith}
 use native.Mathlib.Nat.{add-zero}
 use lib.Dec.{eqb}
-use lib.ListN.{length, drop}
+use lib.ListN.{length}
 use borrow.Author.Tests.{eq-eqb, ne-eqb}
 use Rattle.measure.specs.Choose.{choose}
 use Rattle.measure.specs.Refusals.{Answer, given, refused, refusedAfter}
 use Rattle.capture.specs.Numbers.{Numeral, numberAt}
-use Rattle.capture.specs.Capture.{Heading, then, joined, runsFrom, withRuns, totalMost, readsOf}
-use Rattle.capture.specs.Answers.{summed}
+use Rattle.capture.specs.Capture.{Heading, then, joined, runsFrom, withRuns, totalMost, readsOfRuns}
+use Rattle.capture.specs.Answers.{summedUp}
 use Rattle.capture.specs.declared.Summary.{Summary}
-use Rattle.capture.proofs.Groups.{Bytes}
 use Rattle.capture.proofs.Runs.{sum, length-reads, runs-end, runs-one}
 
 -- a capture of so many reads and runs
@@ -30,17 +29,17 @@ judged h reads runs = choose (eqb (h .level) 0 && eqb runs 0) (refused 8 (h .lev
 abbrev tallied : Heading → ℕ → ℕ → Answer (List ℕ) → Answer Summary
 tallied h reads runs answer = then answer (λ rest. judged h (reads + sum rest) (runs + length rest))
 
-tallied-whole : (h : Heading) (answer : Answer (List ℕ)) → summed (then answer (withRuns h)) ≡ tallied h 0 0 answer
+tallied-whole : (h : Heading) (answer : Answer (List ℕ)) → summedUp (then answer (withRuns h)) ≡ tallied h 0 0 answer
 tallied-whole h (given runs) =
-    let e : length (readsOf (h .level) runs) ≡ 0 + sum runs = omega (arith, length-reads (h .level) runs) in
+    let e : length (readsOfRuns (h .level) runs) ≡ 0 + sum runs = omega (arith, length-reads (h .level) runs) in
     let f : length runs ≡ 0 + length runs = omega arith in
     go (eqb (h .level) 0 && eqb (length runs) 0) ∙ rw e (ap (judged h (0 + sum runs)) f)
   where
     go : (test : Bool)
-        → summed
+        → summedUp
         (choose test (refused 8 (h .level-at))
         (given (record { k = h .k; n = h .n; Q = h .Q; level = h .level; runs = runs })))
-        ≡ choose test (refused 8 (h .level-at)) (given (counted h (length (readsOf (h .level) runs)) (length runs)))
+        ≡ choose test (refused 8 (h .level-at)) (given (counted h (length (readsOfRuns (h .level) runs)) (length runs)))
     go true = refl
     go false = refl
 tallied-whole h (refused number place) = refl
@@ -57,40 +56,35 @@ tallied-one h reads runs run (refusedAfter number place count) = refl
 
 -- what has been counted on the way to a place
 pub record Tally (s : List ℕ) (h : Heading) (at reads runs : ℕ) : Type 0 where
-  pub whole : summed (then (runsFrom 0 0 (h .after) (drop (h .after) s)) (withRuns h))
-      ≡ tallied h reads runs (runsFrom 0 reads at (drop at s))
+  pub whole : summedUp (then (runsFrom 0 s (h .after)) (withRuns h))
+      ≡ tallied h reads runs (runsFrom reads s at)
   pub low : reads ≤ totalMost
   pub few : runs ≤ reads
 
 pub tally-none : (s : List ℕ) (h : Heading) → Tally s h (h .after) 0 0
 tally-none s h =
-    record {
-      whole = tallied-whole h (runsFrom 0 0 (h .after) (drop (h .after) s));
-      low = omega arith;
-      few =
-          omega arith;
-    }
+    record { whole = tallied-whole h (runsFrom 0 s (h .after)); low = omega arith; few = omega arith }
 
 module _ {s : List ℕ} {h : Heading} {at reads runs : ℕ} (q : Tally s h at reads runs) where
   abbrev pub Sums : Answer Summary → Type 0
-  Sums answer = summed (then (runsFrom 0 0 (h .after) (drop (h .after) s)) (withRuns h)) ≡ answer
+  Sums answer = summedUp (then (runsFrom 0 s (h .after)) (withRuns h)) ≡ answer
 
-  pub tally-one : (n : Numeral) → Bytes s → at < length s → numberAt s at ≡ given n → 1 ≤ n .value
+  pub tally-one : (n : Numeral) → at < length s → numberAt s at ≡ given n → 1 ≤ n .value
       → reads + n .value ≤ totalMost
       → Tally s h (n .after) (reads + n .value) (runs + 1)
-  tally-one n b l e z o = record {
-    whole = q .whole ∙ ap (tallied h reads runs) (runs-one s reads at l n e b z o)
-        ∙ tallied-one h reads runs (n .value) (runsFrom 0 (reads + n .value) (n .after) (drop (n .after) s));
+  tally-one n l e z o = record {
+    whole = q .whole ∙ ap (tallied h reads runs) (runs-one reads s at l n e z o)
+        ∙ tallied-one h reads runs (n .value) (runsFrom (reads + n .value) s (n .after));
     low = o;
     few = omega (arith, q .few);
   }
 
-  pub tally-refused : (number place : ℕ) → runsFrom 0 reads at (drop at s) ≡ refused number place
+  pub tally-refused : (number place : ℕ) → runsFrom reads s at ≡ refused number place
       → Sums (refused number place)
   tally-refused number place e = q .whole ∙ ap (tallied h reads runs) e
 
   tally-end : length s ≤ at → Sums (judged h reads runs)
-  tally-end l = q .whole ∙ ap (tallied h reads runs) (runs-end s reads at l) ∙ rw (add-zero reads, add-zero runs)
+  tally-end l = q .whole ∙ ap (tallied h reads runs) (runs-end reads s at l) ∙ rw (add-zero reads, add-zero runs)
 
   pub tally-low : length s ≤ at → h .level ≡ 0 → runs ≡ 0 → Sums (refused 8 (h .level-at))
   tally-low l e f = tally-end l ∙ rw (eq-eqb (h .level) 0 e, eq-eqb runs 0 f)

@@ -13,28 +13,28 @@ use Rattle.measure.specs.Ranges.{sampling, rowBits, quiet}
 use Rattle.measure.specs.Choose.{between}
 use Rattle.measure.specs.Refusals.{given}
 use Rattle.capture.specs.Numbers.{Group, value, cut, long, group, further, Numeral, placed, numberAt, spelled}
-use Rattle.capture.specs.Capture.{Heading, Capture, runsFrom, totalMost, withRuns, capture, readsOf}
+use Rattle.capture.specs.Capture.{Heading, Capture, runsFrom, totalMost, withRuns, capture, readsOfRuns}
 use Rattle.capture.specs.Writing.{runsAfter, runsOf, firstLevel, numbers, captureOf}
 use Rattle.capture.proofs.Groups.{Bytes}
 use Rattle.capture.proofs.Headings.{then-given, fitting-given, in-range, Four, heading-given}
 use Rattle.capture.proofs.Captures.{capture-given}
-use Rattle.capture.proofs.Reading.{captured, with-given}
+use Rattle.capture.proofs.ReadLaws.{captured, with-given}
 use Rattle.capture.proofs.Runs.{sum, next-refused, next-is, runs-end}
 use Rattle.capture.proofs.Grouping.{after-other}
 use Rattle.capture.proofs.ReadsBack.{Some}
 use Rattle.capture.proofs.Respelling.{number-again}
-use Rattle.capture.proofs.Writing.{InRange}
+use Rattle.capture.proofs.WriteLaws.{InRange}
 
--- where the runs are all to be had, the number at a place is
-had : (s : List ℕ) (total at : ℕ) → at < length s → (runs : List ℕ) → runsFrom 0 total at (drop at s) ≡ given runs
+-- where all the runs can be read, the number at a place can
+had : (total : ℕ) (s : List ℕ) (at : ℕ) → at < length s → (runs : List ℕ) → runsFrom total s at ≡ given runs
     → (n : Numeral) × (numberAt s at ≡ given n)
 unfolding numberAt
-had s total at h runs g = go (group further (drop at s)) refl
+had total s at h runs g = go (group further (drop at s)) refl
   where
     go : (x : Group) → group further (drop at s) ≡ x → (n : Numeral) × (numberAt s at ≡ given n)
     go (value v size) e = (record { value = v; after = at + size }, ap (placed at) e)
-    go cut e = absurd (next-refused s total at h runs g 6 at (ap (placed at) e))
-    go long e = absurd (next-refused s total at h runs g 7 at (ap (placed at) e))
+    go cut e = absurd (next-refused total s at h runs g 6 at (ap (placed at) e))
+    go long e = absurd (next-refused total s at h runs g 7 at (ap (placed at) e))
 
 -- runs that were read, to the end of the bytes
 pub record Spelt (s : List ℕ) (total at : ℕ) (runs : List ℕ) : Type 0 where
@@ -43,26 +43,26 @@ pub record Spelt (s : List ℕ) (total at : ℕ) (runs : List ℕ) : Type 0 wher
   pub low : total + sum runs ≤ totalMost
 
 pub runs-again : (s : List ℕ) → Bytes s → (runs : List ℕ) (total at : ℕ) → total ≤ totalMost
-    → runsFrom 0 total at (drop at s) ≡ given runs → Spelt s total at runs
+    → runsFrom total s at ≡ given runs → Spelt s total at runs
 unfolding numbers
 runs-again s b [] total at h e = go (decLe (length s) at)
   where
     go : Dec (length s ≤ at) → Spelt s total at []
     go (yes l) = record { bytes = drop-of-length-le s l; some = tt; low = omega arith }
     go (no l) =
-        let n = had s total at (omega arith) [] e in
-        let x = next-is s total at (omega arith) [] e (n .0) b (n .1) in
+        let n = had total s at (omega arith) [] e in
+        let x = next-is total s at (omega arith) [] e (n .0) (n .1) in
         let z : _≡_ {A = ℕ} 0 1 = cc (x .is) in
         absurd (omega arith)
 runs-again s b (run ∷ runs) total at h e = go (decLe (length s) at) (runs-again s b runs)
   where
     go : Dec (length s ≤ at)
-        → ((total at : ℕ) → total ≤ totalMost → runsFrom 0 total at (drop at s) ≡ given runs → Spelt s total at runs)
+        → ((total at : ℕ) → total ≤ totalMost → runsFrom total s at ≡ given runs → Spelt s total at runs)
         → Spelt s total at (run ∷ runs)
-    go (yes l) rest = let z : _≡_ {A = ℕ} 0 1 = cc (runs-end s total at l, e) in absurd (omega arith)
+    go (yes l) rest = let z : _≡_ {A = ℕ} 0 1 = cc (runs-end total s at l, e) in absurd (omega arith)
     go (no l) rest =
-        let n = had s total at (omega arith) (run ∷ runs) e in
-        let x = next-is s total at (omega arith) (run ∷ runs) e (n .0) b (n .1) in
+        let n = had total s at (omega arith) (run ∷ runs) e in
+        let x = next-is total s at (omega arith) (run ∷ runs) e (n .0) (n .1) in
         let v : run ≡ n .0 .value = cc (x .is) in
         let w : runs ≡ x .others = cc (x .is) in
         let r = rest (total + n .0 .value) (n .0 .after) (x .low) (x .spelt ∙ ap given (sym w)) in
@@ -83,26 +83,28 @@ after-same level count (suc times) l =
     rw (eq-eqb level level refl) (after-same level (suc count) times l ∙ ap (λ (i : ℕ). runsAfter level i l) e)
 
 after-turned : (level count : ℕ) (runs : List ℕ) → level ≤ 1 → Some runs
-    → runsAfter level count (readsOf (1 - level) runs) ≡ count ∷ runsOf (readsOf (1 - level) runs)
-unfolding readsOf runsAfter runsOf
+    → runsAfter level count (readsOfRuns (1 - level) runs) ≡ count ∷ runsOf (readsOfRuns (1 - level) runs)
+unfolding readsOfRuns runsAfter runsOf
 after-turned level count [] h p = refl
 after-turned level count (zero ∷ runs) h p = absurd (omega arith)
 after-turned level count (suc run ∷ runs) h p =
-    after-other level count (1 - level) (replicate run (1 - level) ++ readsOf (1 - (1 - level)) runs) (λ e. omega arith)
+    after-other level count (1 - level) (replicate run (1 - level) ++ readsOfRuns (1 - (1 - level)) runs)
+    (λ e. omega arith)
 
-runs-of : (level : ℕ) (runs : List ℕ) → level ≤ 1 → Some runs → runsOf (readsOf level runs) ≡ runs
-unfolding readsOf runsOf
+runs-of : (level : ℕ) (runs : List ℕ) → level ≤ 1 → Some runs → runsOf (readsOfRuns level runs) ≡ runs
+unfolding readsOfRuns runsOf
 runs-of level [] h p = refl
 runs-of level (zero ∷ runs) h p = absurd (omega arith)
 runs-of level (suc run ∷ runs) h p =
     let e : 1 + run ≡ suc run = omega arith in
-    after-same level 1 run (readsOf (1 - level) runs) ∙ ap (λ (i : ℕ). runsAfter level i (readsOf (1 - level) runs)) e
+    after-same level 1 run (readsOfRuns (1 - level) runs)
+    ∙ ap (λ (i : ℕ). runsAfter level i (readsOfRuns (1 - level) runs)) e
     ∙ after-turned level (suc run) runs h (p .1)
     ∙ ap (λ (l : List ℕ). suc run ∷ l) (runs-of (1 - level) runs (omega arith) (p .1))
 
 first-of : (level : ℕ) (runs : List ℕ) → Some runs → (length runs ≡ 0 → level ≡ 1)
-    → firstLevel (readsOf level runs) ≡ level
-unfolding readsOf
+    → firstLevel (readsOfRuns level runs) ≡ level
+unfolding readsOfRuns
 first-of level [] p e = sym (e refl)
 first-of level (zero ∷ runs) p e = absurd (omega arith)
 first-of level (suc run ∷ runs) p e = refl
@@ -113,7 +115,7 @@ pub record Accepted (s : List ℕ) (c : Capture) : Type 0 where
   pub low : c .level ≤ 1
   pub some : Some (c .runs)
   pub few : sum (c .runs) ≤ totalMost
-  pub first : firstLevel (readsOf (c .level) (c .runs)) ≡ c .level
+  pub first : firstLevel (readsOfRuns (c .level) (c .runs)) ≡ c .level
   pub bytes : spelled (c .k) ++ (spelled (c .n) ++ (spelled (c .Q) ++ (spelled (c .level) ++ numbers (c .runs)))) ≡ s
 
 all-true : (a b c : Bool) → a ≡ true → b ≡ true → c ≡ true → (a && b && c) ≡ true
@@ -130,11 +132,11 @@ no-run level runs l e f = go (eqb level 0) refl (rw (eq-eqb (length runs) 0 f) a
 pub accepted : (s : List ℕ) (c : Capture) → Bytes s → capture s ≡ given c → Accepted s c
 accepted s c b e =
     let h = capture-given s c e in
-    let r = then-given (runsFrom 0 0 (h .0 .after) (drop (h .0 .after) s)) (withRuns (h .0)) c (h .1 .1) in
+    let r = then-given (runsFrom 0 s (h .0 .after)) (withRuns (h .0)) c (h .1 .1) in
     let w = with-given (h .0) (r .0) c (r .1 .1) in
     rw (w .0) (made (h .0) (heading-given s (h .0) (h .1 .0)) (r .0) (r .1 .0) (w .1))
   where
-    made : (h : Heading) → Four s h → (runs : List ℕ) → runsFrom 0 0 (h .after) (drop (h .after) s) ≡ given runs
+    made : (h : Heading) → Four s h → (runs : List ℕ) → runsFrom 0 s (h .after) ≡ given runs
         → (eqb (h .level) 0 && eqb (length runs) 0) ≡ false
         → Accepted s (captured h runs)
     made h four runs g w =
@@ -152,7 +154,7 @@ accepted s c b e =
         let n = fitting-given rowBits s (four .k .after) (four .n) (four .n-fits) in
         let Q = fitting-given quiet s (four .n .after) (four .Q) (four .Q-fits) in
         let level = fitting-given (between 0 1) s (four .Q .after) (four .level) (four .level-fits) in
-        let g′ : runsFrom 0 0 (four .level .after) (drop (four .level .after) s) ≡ given runs = rw (four .is) at g in
+        let g′ : runsFrom 0 s (four .level .after) ≡ given runs = rw (four .is) at g in
         let w′ : (eqb (four .level .value) 0 && eqb (length runs) 0) ≡ false = rw (four .is) at w in
         let r = runs-again s b runs 0 (four .level .after) (omega arith) g′ in
         let l : four .level .value ≤ 1 = in-range 0 1 (four .level .value) (level .1) .1 in
@@ -178,7 +180,7 @@ accepted s c b e =
 
 -- an accepted capture, written again from its reads
 pub capture-again : (s : List ℕ) (c : Capture) → Bytes s → capture s ≡ given c
-    → captureOf (c .k) (c .n) (c .Q) (readsOf (c .level) (c .runs)) ≡ s
+    → captureOf (c .k) (c .n) (c .Q) (readsOfRuns (c .level) (c .runs)) ≡ s
 unfolding captureOf numbers
 capture-again s c b e =
     let a = accepted s c b e in

@@ -9,7 +9,7 @@ use Rattle.measure.specs.Ranges.{entriesMost, settingsFit}
 use Rattle.measure.specs.Lists.{onto}
 use Rattle.measure.specs.Refusals.{Answer, given, refused, refusedAfter, denied, ranged, limited, entered, lent}
 use Rattle.capture.specs.Numbers.{Group, value, cut, long, Numeral}
-use Rattle.capture.specs.Capture.{Heading, Capture, then, capture, readsOf}
+use Rattle.capture.specs.Capture.{Heading, Capture, then, capture, readsOfRuns}
 use Rattle.capture.specs.Writing.{captureOf}
 use Rattle.capture.specs.declared.Front.{Front}
 use Rattle.capture.specs.declared.Front.the-variants.{Value, Cut, Long}
@@ -31,22 +31,22 @@ summary c =
       k = record { 0 = c .k };
       n = c .n;
       q = record { 0 = c .Q };
-      reads = record { 0 = length (readsOf (c .level) (c .runs)) };
+      reads = record { 0 = length (readsOfRuns (c .level) (c .runs)) };
       runs = length (c .runs);
     }
 
 -- checking: the summary, or the capture's refusal
-abbrev pub summed : Answer Capture → Answer Summary
-summed answer = then answer (λ c. given (summary c))
+abbrev pub summedUp : Answer Capture → Answer Summary
+summedUp answer = then answer (λ c. given (summary c))
 
 unfoldable pub checked : List ℕ → Answer Summary
-checked bytes = summed (capture bytes)
+checked bytes = summedUp (capture bytes)
 
 -- a capture's reads into a lent output: refusal 4 comes after all the rest
 abbrev pub unrolled : Answer Capture → List ℕ → Answer Summary × List ℕ
 unrolled (given c) output =
-    choose (ltb (length output) (length (readsOf (c .level) (c .runs)))) (refused 4 0, output)
-    (given (summary c), onto (readsOf (c .level) (c .runs)) output)
+    choose (ltb (length output) (length (readsOfRuns (c .level) (c .runs)))) (refused 4 0, output)
+    (given (summary c), onto (readsOfRuns (c .level) (c .runs)) output)
 unrolled (refused number place) output = (refused number place, output)
 unrolled (refusedAfter number place count) output = (refusedAfter number place count, output)
 
@@ -55,7 +55,7 @@ unfoldable pub readBack : List ℕ → List ℕ → Answer Summary × List ℕ
 readBack bytes output = unrolled (capture bytes) output
 
 -- writing: refusal 1 for k, n or Q out of range, 3 for reads over their limit, 2 for an entry that is no level, 4
-unfoldable pub written : ℕ → ℕ → ℕ → List ℕ → List ℕ → Answer ℕ × List ℕ
+unfoldable pub written : (k n Q : ℕ) (reads output : List ℕ) → Answer ℕ × List ℕ
 written k n Q reads output =
     ranged (settingsFit k n Q) output
     (limited entriesMost (length reads) output

@@ -20,7 +20,7 @@ abbrev P11-long : Case
 P11-long = record { kind = Answer Numeral; gives = numberAt (0x80 ∷ 0x00 ∷ []) 0; printed = refused 7 0 }
 
 abbrev P11-run : Case
-P11-run = record { kind = Answer (List ℕ); gives = runsFrom 0 0 0 (0x81 ∷ 0x80 ∷ 0x40 ∷ []); printed = refused 8 0 }
+P11-run = record { kind = Answer (List ℕ); gives = runsFrom 0 (0x81 ∷ 0x80 ∷ 0x40 ∷ []) 0; printed = refused 8 0 }
 
 abbrev pub cases : List Case
 cases = P11-127 ∷ P11-128 ∷ P11-1048576 ∷ P11-long ∷ P11-run ∷ []

@@ -7,10 +7,10 @@ use Rattle.capture.specs.Numbers.{Numeral, numberAt}
 use Rattle.capture.specs.declared.held.CaptureReader.{CaptureReader}
 
 -- a reader of lent bytes, at their first
-abbrev pub begun : RefT (List ℕ) → CaptureReader
-begun src = record { src = src; at = 0 }
+abbrev pub begunReader : RefT (List ℕ) → CaptureReader
+begunReader src = record { src = src; at = 0 }
 
--- the place after a number that was had, and the place itself where it was refused
+-- the place after a number that was read, and the place itself where it was refused
 abbrev pub placeAfter : ℕ → Answer Numeral → ℕ
 placeAfter at (given n) = n .after
 placeAfter at (refused number place) = at

@@ -8,7 +8,7 @@ use lib.ListN.{length, take}
 use Rattle.measure.specs.Ranges.{entriesMost, settingsFit}
 use Rattle.measure.specs.Lists.{someAbove, onto}
 use Rattle.measure.specs.Refusals.{given}
-use Rattle.capture.specs.Capture.{Capture, capture, readsOf}
+use Rattle.capture.specs.Capture.{Capture, capture, readsOfRuns}
 use Rattle.capture.specs.Writing.{runsOf, captureOf}
 use Rattle.capture.specs.Answers.{readBack, written}
 use Rattle.capture.specs.declared.Summary.{Summary}
@@ -20,7 +20,7 @@ pub record ReadsAs (k n Q : ℕ) (reads bytes : List ℕ) : Type 0 where
   pub same-k : is .k ≡ k
   pub same-n : is .n ≡ n
   pub same-Q : is .Q ≡ Q
-  pub same-reads : readsOf (is .level) (is .runs) ≡ reads
+  pub same-reads : readsOfRuns (is .level) (is .runs) ≡ reads
 
 -- settings in range and levels within their limit, written, read back to the same settings and levels
 abbrev pub ReadsBack : Type 0
@@ -32,7 +32,7 @@ ReadsBack =
 abbrev pub WritesBack : Type 0
 WritesBack =
     (bytes : List ℕ) → someAbove 255 bytes ≡ false → (c : Capture) → capture bytes ≡ given c
-    → captureOf (c .k) (c .n) (c .Q) (readsOf (c .level) (c .runs)) ≡ bytes
+    → captureOf (c .k) (c .n) (c .Q) (readsOfRuns (c .level) (c .runs)) ≡ bytes
 
 -- The same of the operations. What `write_capture` put at the front of an output, `read_capture` answers with the same
 -- settings and puts the same reads at the front of another that has room.

@@ -21,11 +21,11 @@ abbrev pub firstLevel : List ℕ → ℕ
 firstLevel [] = 1
 firstLevel (read ∷ reads) = read
 
--- numbers one behind another
+-- numbers one after another
 unfoldable pub numbers : List ℕ → List ℕ
 numbers [] = []
 numbers (v ∷ vs) = spelled v ++ numbers vs
 
 -- the capture of settings and reads
-unfoldable pub captureOf : ℕ → ℕ → ℕ → List ℕ → List ℕ
+unfoldable pub captureOf : (k n Q : ℕ) (reads : List ℕ) → List ℕ
 captureOf k n Q reads = numbers (k ∷ n ∷ Q ∷ firstLevel reads ∷ runsOf reads)

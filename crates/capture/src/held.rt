@@ -1,12 +1,11 @@
 // A capture is read number by number by a reader that carries the bytes it was lent and where it has got to. Each
-// function
-// takes it apart and leaves the work to one over the bytes and the place.
+// function takes it apart and leaves the work to one over the bytes and the place.
 use crate::Number;
-use crate::number_at;
+use crate::reading::number_at;
 ghost use mathlib.Core.Path.{_≡_};
 ghost use Rattle.capture.specs.Numbers.{numberAt};
 ghost use Rattle.capture.specs.Answers.{numberSays};
-ghost use Rattle.capture.specs.Held.{advanced, begun, placeAfter};
+ghost use Rattle.capture.specs.Held.{advanced, begunReader, placeAfter};
 
 pub struct CaptureReader<'a> {
     src: &'a [u8],
@@ -15,7 +14,7 @@ pub struct CaptureReader<'a> {
 
 // Gives a reader of the lent bytes, at their first.
 pub fn new<'a>(src: &'a [u8]) -> CaptureReader<'a>
-    ensures { λ x. ⌜ x ≡ begun (src .entry) ⌝ }
+    ensures { λ x. ⌜ x ≡ begunReader (src .entry) ⌝ }
 {
     CaptureReader { src, at: 0 }
 }

@@ -1,0 +1,4 @@
+pub mod CasesHold
+pub mod Digits
+pub mod PutLaws
+pub mod Signs
