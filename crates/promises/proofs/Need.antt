@@ -20,8 +20,7 @@ use Rattle.line.proofs.SmoothBy.{smoothBy, length-smooth-by}
 use Rattle.line.proofs.LineLaws.{lineBy, Reads, line-reads}
 use Rattle.line.proofs.KnownCycles.{Known, stays-high, stays-low}
 use Rattle.counted.specs.Counted.{counted}
-use Rattle.counted.proofs.Samples.{counted-step}
-use Rattle.counted.proofs.Samples.{counted-late}
+use Rattle.counted.proofs.Samples.{counted-step, counted-late}
 
 -- the mark of a single 1 is the only low of its wave
 low-in-mark : (a b p1 p2 c : ℕ) → getD (wave a b p1 p2 (1 ∷ [])) c 2 ≡ 0 → c < p1 + a
