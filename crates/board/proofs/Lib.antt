@@ -8,3 +8,5 @@ pub mod KeepingLaws
 pub mod CellLaws
 pub mod ListenedLaws
 pub mod WellFormedStays
+pub mod BitPlaces
+pub mod HeardLaws
