@@ -13,3 +13,5 @@ pub mod ReportPlaces
 pub mod RowSteps
 pub mod Goes
 pub mod Fed
+pub mod BitPlaces
+pub mod HeardLaws

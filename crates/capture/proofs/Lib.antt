@@ -14,5 +14,6 @@ pub mod Grouping
 pub mod WriteLaws
 pub mod Respelling
 pub mod ReadsBack
+pub mod Good
 pub mod WritesBack
 pub mod RoundTrips

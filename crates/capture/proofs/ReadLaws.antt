@@ -42,6 +42,16 @@ module _ (s out : List ℕ) where
   unfolding readBack
   read-refused number place e = ap (λ answer. unrolled answer out) e
 
+  pub read-refused-after : (number place count : ℕ) → capture s ≡ refusedAfter number place count
+      → readBack s out ≡ (refusedAfter number place count, out)
+  unfolding readBack
+  read-refused-after number place count e = ap (λ answer. unrolled answer out) e
+
+  pub read-given : (c : Capture) → capture s ≡ given c → length (readsOfRuns (c .level) (c .runs)) ≤ length out
+      → readBack s out ≡ (given (summary c), onto (readsOfRuns (c .level) (c .runs)) out)
+  unfolding readBack
+  read-given c e h = rw (e, le-ltb (length out) (length (readsOfRuns (c .level) (c .runs))) h)
+
   module _ (h : Heading) (found : capture s ≡ then (runsFrom 0 s (h .after)) (withRuns h)) where
     pub read-runs-refused : (number place : ℕ)
         → summedUp (then (runsFrom 0 s (h .after)) (withRuns h)) ≡ refused number place

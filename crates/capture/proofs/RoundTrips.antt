@@ -132,6 +132,7 @@ record Read (bytes room room′ : List ℕ) (s : Summary) : Type 0 where
   is : Capture
   accepted-is : capture bytes ≡ given is
   summed-up : summary is ≡ s
+  roomy : length (readsOfRuns (is .level) (is .runs)) ≤ length room
   laid : onto (readsOfRuns (is .level) (is .runs)) room ≡ room′
 
 read : (bytes room room′ : List ℕ) (s : Summary) → readBack bytes room ≡ (given s, room′) → Read bytes room room′ s
@@ -143,13 +144,26 @@ read bytes room room′ s = go (capture bytes) refl
     go (given c) e f =
         let g = failed 4 0 room room′ s (ltb (length room) (length (readsOfRuns (c .level) (c .runs)))) _ f in
         let h : given (summary c) ≡ given s = ap (λ (p : Answer Summary × List ℕ). p .0) (g .1) in
-        record { is = c; accepted-is = e; summed-up = cc; laid = ap (λ (p : Answer Summary × List ℕ). p .1) (g .1) }
+        record {
+          is = c;
+          accepted-is = e;
+          summed-up = cc;
+          roomy = ltb-false (length room) (length (readsOfRuns (c .level) (c .runs))) (g .0);
+          laid = ap (λ (p : Answer Summary × List ℕ). p .1) (g .1);
+        }
     go (refused number place) e f = absurd (refused-none number place room room′ s f)
     go (refusedAfter number place count) e f =
         let g : _≡_ {A = Answer Summary} (refusedAfter number place count) (given s) =
         ap (λ (p : Answer Summary × List ℕ). p .0) f in
         let z : _≡_ {A = ℕ} 0 1 = cc in
         absurd (omega arith)
+
+-- what is read has room
+pub reads-fit : (bytes room room′ : List ℕ) (s : Summary) → readBack bytes room ≡ (given s, room′)
+    → s .reads .0 ≤ length room
+reads-fit bytes room room′ s e =
+    let r = read bytes room room′ s e in
+    rw (← r .summed-up) (r .roomy)
 
 pub read-written-back : ReadWritesBack
 read-written-back bytes room room′ out s e f h =

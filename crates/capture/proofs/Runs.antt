@@ -5,14 +5,16 @@ use mathlib.Core.List.{List, [], _∷_}
 use mathlib.Core.Bool.{Bool, true, false}
 use native.Mathlib.Omega.{arith}
 use native.Mathlib.Decide.{decLe}
+use lib.Dec.{leb}
 use lib.ListN.{length, replicate, length-append, length-replicate}
-use borrow.Author.Tests.{le-leb, lt-leb}
+use borrow.Author.Tests.{le-leb, lt-leb, leb-true}
 use Rattle.measure.specs.Refusals.{Answer, given, refused, refusedAfter}
+use Rattle.measure.proofs.Both.{both}
 use Rattle.capture.specs.Numbers.{Numeral, numberAt}
 use Rattle.capture.specs.Capture.{then, fittingAt, joined, fitsAfter, someRunsFrom, runsFrom, totalMost}
 use Rattle.capture.specs.Capture.{readsOfRuns}
 use Rattle.capture.proofs.Places.{number-on}
-use Rattle.capture.proofs.Headings.{then-same, fitting-refused, fitting-in, fitting-out, fitting-given}
+use Rattle.capture.proofs.Headings.{then-given, then-same, fitting-refused, fitting-in, fitting-out, fitting-given}
 
 -- the runs from a place before the end go by the number there
 module _ (most total : ℕ) (s : List ℕ) (at : ℕ) where
@@ -147,3 +149,33 @@ length-reads level (run ∷ runs) =
       length-replicate run level,
       length-reads (1 - level) runs,
     )
+
+-- the runs' total, since each is judged with the total before it
+some-total : (most total : ℕ) (s : List ℕ) (at : ℕ) (runs : List ℕ) → total ≤ totalMost
+    → someRunsFrom most total s at ≡ given runs → total + sum runs ≤ totalMost
+unfolding someRunsFrom
+some-total zero total s at runs h e = let none : [] ≡ runs = cc in rw (← none) (omega arith)
+some-total (suc most) total s at runs h e =
+    go (decLe (length s) at) (λ total at runs. some-total most total s at runs)
+  where
+    go : Dec (length s ≤ at)
+        → ((total at : ℕ) (runs : List ℕ) → total ≤ totalMost → someRunsFrom most total s at ≡ given runs
+        → total + sum runs ≤ totalMost)
+        → total + sum runs ≤ totalMost
+    go (yes l) rest = let none : [] ≡ runs = cc (runs-done (suc most) total s at l, e) in rw (← none) (omega arith)
+    go (no l) rest =
+        let run = then-given (fittingAt (fitsAfter total) s at) _ runs
+        (sym (runs-there most total s at (omega arith)) ∙ e) in
+        let fits = fitting-given (fitsAfter total) s at (run .0) (run .1 .0) in
+        let low : total + run .0 .value ≤ totalMost =
+        leb-true (total + run .0 .value) totalMost
+        (both (leb 1 (run .0 .value)) (leb (total + run .0 .value) totalMost) (fits .1) .1) in
+        let others = joined-given (run .0 .value) (someRunsFrom most (total + run .0 .value) s (run .0 .after)) runs
+        (run .1 .1) in
+        rw (others .1 .0)
+        (omega (arith, rest (total + run .0 .value) (run .0 .after) (others .0) low (others .1 .1)))
+
+pub runs-total : (total : ℕ) (s : List ℕ) (at : ℕ) (runs : List ℕ) → total ≤ totalMost
+    → runsFrom total s at ≡ given runs → total + sum runs ≤ totalMost
+unfolding runsFrom
+runs-total total s at runs h e = some-total (length s) total s at runs h e

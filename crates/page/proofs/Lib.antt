@@ -1,11 +1,6 @@
-pub mod Decimal
-pub mod Stored
-pub mod Bits
-pub mod Putting
-pub mod Firsts
-pub mod Turns
-pub mod Accepted
-pub mod WholeOutput
 pub mod CasesHold
-pub mod Heard
+pub mod Bits
 pub mod Longest
+pub mod TurnLines
+pub mod ReportLines
+pub mod WholeOutput

@@ -2,7 +2,7 @@
 -- and a row comes in 128 bytes.
 use Prim.Native.Nat.{ℕ, zero, suc, _-_, _/_, _≤_}
 use mathlib.Core.Path.{_≡_, refl}
-use mathlib.Core.List.{List}
+use mathlib.Core.List.{List, []}
 use native.Mathlib.Decide.{decLe}
 use native.Mathlib.Omega.{arith}
 use lib.ListN.{length, take}
@@ -13,31 +13,21 @@ use Rattle.board.specs.Answers.{eventSays}
 use Rattle.board.specs.declared.Event.{Event as CodeEvent}
 use Rattle.board.specs.declared.Event.the-variants.{Nothing, Row, Broken, Refused}
 use Rattle.board.proofs.PackedBits.{length-unpacked}
-use Rattle.page.specs.Text.{feed, rowText, brokenText, endText, rowsText, refusedText, atText, decimalIn, decimal}
-use Rattle.page.specs.Text.{bitsText}
+use Rattle.text.specs.Decimal.{decimal}
+use Rattle.text.proofs.Digits.{decimal-most}
+use Rattle.text.proofs.PutLaws.{length-four, length-five}
+use Rattle.page.specs.Words.{feed, rowText, brokenText, endText, rowsText, refusedText, atText, bitsText}
 use Rattle.page.specs.Lines.{refusedLine}
 use Rattle.page.specs.Walk.{Walk, lineAt}
 use Rattle.page.proofs.Bits.{text-length, taken-within}
-use Rattle.page.proofs.Decimal.{size-none, size-one, size-more}
-use Rattle.page.proofs.Putting.{length-four, length-five}
-
-digits-most : (digits n : ℕ) → length (decimalIn digits n) ≤ digits
-digits-most zero n = omega (arith, size-none 0 n refl)
-digits-most (suc digits) n = go (decLe 10 n) (digits-most digits (n / 10))
-  where
-    go : Dec (10 ≤ n) → length (decimalIn digits (n / 10)) ≤ digits → length (decimalIn (suc digits) n) ≤ suc digits
-    go (yes h) rest =
-        let e : suc digits - 1 ≡ digits = omega arith in
-        omega (arith, rw e at (size-more (suc digits) n (λ e. omega arith) h))
-    go (no h) rest = omega (arith, size-one (suc digits) n (λ e. omega arith) (omega arith))
 
 pub refused-most : (refusal : Refusal) → length (refusedLine (numberOf refusal) (placeOf refusal)) ≤ 1050
 refused-most refusal =
     omega (
       arith,
-      length-five refusedText (decimal (numberOf refusal)) atText (decimal (placeOf refusal)) feed,
-      digits-most 20 (numberOf refusal),
-      digits-most 20 (placeOf refusal),
+      length-five refusedText (decimal (numberOf refusal)) atText (decimal (placeOf refusal)) feed [],
+      decimal-most (numberOf refusal),
+      decimal-most (placeOf refusal),
     )
 
 pub longest : (w : Walk) (n : ℕ) (bytes : List ℕ) (event : CodeEvent) → length bytes ≤ 128
@@ -45,16 +35,16 @@ pub longest : (w : Walk) (n : ℕ) (bytes : List ℕ) (event : CodeEvent) → le
 longest w n bytes Nothing h =
     omega (
       arith,
-      length-five endText (decimal (w .place)) rowsText (decimal (w .rows)) feed,
-      digits-most 20 (w .place),
-      digits-most 20 (w .rows),
+      length-five endText (decimal (w .place)) rowsText (decimal (w .rows)) feed [],
+      decimal-most (w .place),
+      decimal-most (w .rows),
     )
 longest w n bytes Row h =
     let bits = take n (unpacked 8 bytes) in
     omega (
       arith,
-      length-four (decimal (w .place - 1)) rowText (bitsText bits) feed,
-      digits-most 20 (w .place - 1),
+      length-four (decimal (w .place - 1)) rowText (bitsText bits) feed [],
+      decimal-most (w .place - 1),
       text-length bits,
       taken-within n (unpacked 8 bytes),
       length-unpacked 8 bytes,
@@ -62,8 +52,12 @@ longest w n bytes Row h =
 longest w n bytes (Broken found) h =
     omega (
       arith,
-      length-four (decimal (w .place - 1)) brokenText (decimal found) feed,
-      digits-most 20 (w .place - 1),
-      digits-most 20 found,
+      length-four (decimal (w .place - 1)) brokenText (decimal found) feed [],
+      decimal-most (w .place - 1),
+      decimal-most found,
     )
 longest w n bytes (Refused refusal) h = refused-most refusal
+
+-- the line of a refusal by the numbers that its number and place were found to be
+pub refused-same : {n m p q : ℕ} → n ≡ m → p ≡ q → refusedLine m q ≡ refusedLine n p
+refused-same e f = rw (e, f)

@@ -13,49 +13,51 @@ use Rattle.measure.specs.Choose.{choose}
 use Rattle.measure.specs.Ranges.{entriesMost, inputMost}
 use Rattle.measure.specs.Refusals.{Answer, given, refused, refusedAfter}
 use Rattle.capture.specs.Capture.{Capture, capture}
-use Rattle.capture.specs.Answers.{summary, unrolled, readBack}
+use Rattle.capture.specs.Answers.{summary, readBack}
+use Rattle.capture.proofs.Good.{Good, capture-good}
+use Rattle.capture.proofs.ReadLaws.{read-refused, read-refused-after, read-given}
 use Rattle.board.specs.Rows.{fresh}
 use Rattle.board.specs.Feeding.{reports}
 use Rattle.board.specs.Packed.{receiverOf}
-use Rattle.board.specs.Answers.{begun}
 use Rattle.board.proofs.RowRules.{valid-fresh}
-use Rattle.board.proofs.Standing.{of-ranged}
-use Rattle.page.specs.Lines.{refusedLine, endLine, eventLines, rowsIn, settingsOf, readsIn, printed, output}
+use Rattle.board.proofs.Standing.{ranged-of}
+use Rattle.board.proofs.HeardLaws.{begun-fresh}
+use Rattle.page.specs.Lines.{refusedLine, endLine, eventLines, rowsIn, captureSettings, captureReads, printed}
+use Rattle.page.specs.Lines.{output}
 use Rattle.page.specs.Walk.{Whole, begin, linesOf, wroteBy, wrote}
-use Rattle.page.proofs.Accepted.{Accepted, accepted}
-use Rattle.page.proofs.Turns.{lines-from}
+use Rattle.page.proofs.ReportLines.{report-lines}
 
-module _ (c : Capture) (good : Accepted c) where
+module _ (c : Capture) (good : Good c) where
   -- the way begins fresh
-  begin-fresh : begin (summary c) ≡ record { receiver = receiverOf (settingsOf c) fresh; place = 0; rows = 0 }
-  unfolding begun
-  begin-fresh = rw (of-ranged (settingsOf c) (good .range))
+  begin-fresh : begin (summary c) ≡ record { receiver = receiverOf (captureSettings c) fresh; place = 0; rows = 0 }
+  begin-fresh = rw (begun-fresh (c .k) (c .n) (c .Q) (good .fit))
 
-  page-lines : linesOf (begin (summary c)) (readsIn c)
-      ≡ eventLines (reports (settingsOf c) fresh 0 (readsIn c))
-      ++ endLine (length (readsIn c)) (rowsIn (reports (settingsOf c) fresh 0 (readsIn c)))
+  page-lines : linesOf (begin (summary c)) (captureReads c)
+      ≡ eventLines (reports (captureSettings c) fresh 0 (captureReads c))
+      ++ endLine (length (captureReads c)) (rowsIn (reports (captureSettings c) fresh 0 (captureReads c)))
   page-lines =
       rw begin-fresh
-      (lines-from (settingsOf c) (length (readsIn c) + 1) fresh 0 0 (readsIn c)
-      (valid-fresh (settingsOf c) (good .range)) (good .levels) (good .few) (omega arith)
-      ∙ rw (zero-add (length (readsIn c)), add-zero (rowsIn (reports (settingsOf c) fresh 0 (readsIn c)))))
+      (report-lines (captureSettings c) (length (captureReads c) + 1) fresh 0 0 (captureReads c)
+      (valid-fresh (captureSettings c) (ranged-of (captureSettings c) (good .fit))) (good .levels) (good .few)
+      (omega arith)
+      ∙ rw (zero-add (length (captureReads c)), add-zero (rowsIn (reports (captureSettings c) fresh 0 (captureReads c)))))
 
-wrote-printed : (reads : List ℕ) (answer : Answer Capture) → ((c : Capture) → answer ≡ given c → Accepted c)
-    → length reads ≡ entriesMost
-    → wroteBy (unrolled answer reads .0) (unrolled answer reads .1) ≡ printed answer
-wrote-printed reads (refused number place) good h = refl
-wrote-printed reads (refusedAfter number place count) good h = refl
-wrote-printed reads (given c) good h =
-    let a : Accepted c = good c refl in
-    let room : length (readsIn c) ≤ length reads = omega (arith, a .few) in
-    rw (
-      le-ltb (length reads) (length (readsIn c)) room,
-      take-append-seam (readsIn c) (drop (length (readsIn c)) reads),
-      page-lines c a,
-    )
+wrote-printed : (input reads : List ℕ) → length reads ≡ entriesMost
+    → wroteBy (readBack input reads .0) (readBack input reads .1) ≡ printed (capture input)
+wrote-printed input reads h = go (capture input) refl
+  where
+    go : (answer : Answer Capture) → capture input ≡ answer
+        → wroteBy (readBack input reads .0) (readBack input reads .1) ≡ printed answer
+    go (refused number place) e = rw (read-refused input reads number place e)
+    go (refusedAfter number place count) e = rw (read-refused-after input reads number place count e)
+    go (given c) e =
+        let good = capture-good input c e in
+        rw (
+          read-given input reads c e (omega (arith, good .few)),
+          take-append-seam (captureReads c) (drop (length (captureReads c)) reads),
+          page-lines c good,
+        )
 
 pub whole : Whole
-unfolding wrote output readBack
-whole input reads h =
-    ap (choose (ltb inputMost (length input)) (refusedLine 3 0))
-    (wrote-printed reads (capture input) (accepted input) h)
+unfolding wrote output
+whole input reads h = ap (choose (ltb inputMost (length input)) (refusedLine 3 0)) (wrote-printed input reads h)

@@ -1,4 +1,4 @@
-pub mod Text
+pub mod Words
 pub mod Lines
 pub mod Answers
 pub mod Walk

@@ -6,11 +6,12 @@ use lib.Dec.{ltb}
 use Rattle.measure.specs.Choose.{choose}
 use Rattle.measure.specs.Ranges.{inputMost}
 use Rattle.measure.specs.Refusals.{Answer, given, refused, refusedAfter}
-use Rattle.capture.specs.Capture.{Capture, capture, readsOf}
+use Rattle.capture.specs.Capture.{Capture, capture, readsOfRuns}
 use Rattle.board.specs.Rows.{Settings, Event, nothing, row, broken, fresh}
 use Rattle.board.specs.Feeding.{Report, reports}
-use Rattle.page.specs.Text.{feed, headingText, rowText, brokenText, endText, rowsText, refusedText, atText}
-use Rattle.page.specs.Text.{decimal, bitsText}
+use Rattle.page.specs.Words.{feed, headingText, rowText, brokenText, endText, rowsText, refusedText, atText}
+use Rattle.text.specs.Decimal.{decimal}
+use Rattle.page.specs.Words.{bitsText}
 
 -- the same first line, whatever the capture
 abbrev pub headingLine : List ℕ
@@ -51,16 +52,16 @@ abbrev pub page : List ℕ → List Report → List ℕ
 page reads told = headingLine ++ eventLines told ++ endLine (length reads) (rowsIn told)
 
 -- a capture's settings
-abbrev pub settingsOf : Capture → Settings
-settingsOf c = record { k = c .k; n = c .n; Q = c .Q }
+abbrev pub captureSettings : Capture → Settings
+captureSettings c = record { k = c .k; n = c .n; Q = c .Q }
 
 -- a capture's reads
-abbrev pub readsIn : Capture → List ℕ
-readsIn c = readsOf (c .level) (c .runs)
+abbrev pub captureReads : Capture → List ℕ
+captureReads c = readsOfRuns (c .level) (c .runs)
 
 -- a good capture gives its page, a bad one only its refusal
 abbrev pub printed : Answer Capture → List ℕ
-printed (given c) = page (readsIn c) (reports (settingsOf c) fresh 0 (readsIn c))
+printed (given c) = page (captureReads c) (reports (captureSettings c) fresh 0 (captureReads c))
 printed (refused number place) = refusedLine number place
 printed (refusedAfter number place count) = refusedLine number place
 

@@ -29,8 +29,8 @@ rowsAfter (refused number place) rows = rows
 rowsAfter (refusedAfter number place count) rows = rows
 
 -- where it stands after the reads that the receiver took
-abbrev pub onward : Walk → Outcome × ℕ → Walk
-onward w heard =
+abbrev pub afterTurn : Walk → Outcome × ℕ → Walk
+afterTurn w heard =
     record {
       receiver = heard .0 .receiver;
       place = w .place + heard .1;
@@ -59,9 +59,9 @@ goesOn (refusedAfter number place count) = false
 unfoldable pub linesFrom : ℕ → Walk → List ℕ → List ℕ
 linesFrom zero w left = []
 linesFrom (suc turns) w left =
-    lineAt (onward w (listened (w .receiver) left)) (listened (w .receiver) left .0 .answer)
+    lineAt (afterTurn w (listened (w .receiver) left)) (listened (w .receiver) left .0 .answer)
     ++ choose (goesOn (listened (w .receiver) left .0 .answer))
-    (linesFrom turns (onward w (listened (w .receiver) left)) (drop (listened (w .receiver) left .1) left)) []
+    (linesFrom turns (afterTurn w (listened (w .receiver) left)) (drop (listened (w .receiver) left .1) left)) []
 
 -- all of them, since a turn for each read that is left is enough
 abbrev pub linesOf : Walk → List ℕ → List ℕ

@@ -2,15 +2,18 @@
 ghost use mathlib.Core.Path.{_≡_};
 ghost use Prim.Native.Nat.{_+_, _/_, _≤_, _<_};
 ghost use lib.ListN.{length, take, getD};
-ghost use lib.Seq.{sets};
 ghost use Rattle.measure.specs.Refusals.{numberOf, placeOf, lent};
 ghost use Rattle.board.specs.Rows.{row, broken};
 ghost use Rattle.board.specs.Packed.{unpacked};
-ghost use Rattle.page.specs.Text.{decimalIn, bitsText};
+ghost use Rattle.text.specs.Putting.{putAt};
+ghost use Rattle.page.specs.Words.{bitsText};
 ghost use Rattle.page.specs.Lines.{headingLine, eventLine, endLine, refusedLine};
 ghost use Rattle.page.specs.Answers.{putSays};
 use measure::ReadCycles;
 use measure::Refusal;
+use text::number_size;
+use text::put_number;
+use text::put_text;
 
 // The fixed words of the program.
 const HEADING: [u8; 16] = *b"read event bits\n";
@@ -29,11 +32,8 @@ const AT: [u8; 4] = *b" at ";
 
 const FEED: [u8; 1] = *b"\n";
 
-// The byte of the digit 0.
+// The byte of a bit that is 0.
 const ZERO: u8 = b'0';
-
-// A number below 2 to the power 64 has at most so many digits.
-const DIGITS: usize = 20;
 
 // What putting a line answers.
 pub enum Put {
@@ -41,52 +41,6 @@ pub enum Put {
     Line(usize),
     // The buffer is shorter than the line, and is untouched.
     Refused(Refusal),
-}
-
-// Stores a text from a place on, and gives the place after it.
-fn put_text(out: &mut [u8], at: usize, text: &[u8]) -> usize
-    requires { ⌜ at + length (now text) ≤ length (now out) ⌝ }
-    ensures { λ r. ⌜ (r ≡ at + length (now (text .entry)))
-        × (now (out .exit) ≡ sets (now (out .entry)) at (now (text .entry))) ⌝ }
-{
-    let mut i = 0;
-    while i < text.len() {
-        out[at + i] = text[i];
-        i += 1;
-    }
-    at + i
-}
-
-// Gives how many digits a number has, so many at most.
-fn size_of(digits: usize, n: usize) -> usize
-    requires { ⌜ digits ≤ 20 ⌝ }
-    ensures { λ r. ⌜ (r ≡ length (decimalIn digits n)) × (r ≤ digits) ⌝ }
-{
-    if digits == 0 {
-        return 0;
-    }
-    if n < 10 {
-        return 1;
-    }
-    size_of(digits - 1, n / 10) + 1
-}
-
-// Stores a number in decimal from a place on, and gives the place after it.
-fn put_number(out: &mut [u8], at: usize, digits: usize, n: usize) -> usize
-    requires { ⌜ at + length (decimalIn digits n) ≤ length (now out) ⌝ }
-    ensures { λ r. ⌜ (r ≡ at + length (decimalIn digits n))
-        × (now (out .exit) ≡ sets (now (out .entry)) at (decimalIn digits n)) ⌝ }
-{
-    if digits == 0 {
-        return at;
-    }
-    if n < 10 {
-        out[at] = ZERO + n as u8;
-        return at + 1;
-    }
-    let last = put_number(out, at, digits - 1, n / 10);
-    out[last] = ZERO + (n % 10) as u8;
-    last + 1
 }
 
 // Gives a bit of packed bits: bit i stands in byte i / 8 at weight 2 to the power i % 8.
@@ -109,8 +63,8 @@ fn held(bits: &[u8], n: usize) -> usize
 // Stores the first bits of a row from a place on, so many, and gives the place after them.
 fn put_bits(out: &mut [u8], at: usize, bits: &[u8], count: usize) -> usize
     requires { ⌜ (count ≤ length (unpacked 8 (now bits))) × (at + count ≤ length (now out)) ⌝ }
-    ensures { λ r. ⌜ (r ≡ at + count)
-        × (now (out .exit) ≡ sets (now (out .entry)) at (bitsText (take count (unpacked 8 (now (bits .entry)))))) ⌝ }
+    ensures { λ r. ⌜ putAt (bitsText (take count (unpacked 8 (now (bits .entry))))) at (now (out .entry))
+        ≡ (r, now (out .exit)) ⌝ }
 {
     let mut i = 0;
     while i < count {
@@ -122,8 +76,7 @@ fn put_bits(out: &mut [u8], at: usize, bits: &[u8], count: usize) -> usize
 }
 
 // Puts line one, which is fixed, at the front of the lent buffer and gives its length. Refuses with 4 where the buffer
-// is
-// shorter than the line, and then leaves it; what lies beyond the line is untouched.
+// is shorter than the line, and then leaves it; what lies beyond the line is untouched.
 pub fn put_heading(out: &mut [u8]) -> Put
     ensures { λ x. ⌜ lent headingLine (now (out .entry)) ≡ (putSays x, now (out .exit)) ⌝ }
 {
@@ -134,67 +87,62 @@ pub fn put_heading(out: &mut [u8]) -> Put
 }
 
 // Puts the line of a delivered row at the front of the lent buffer and gives its length: the place of the read that
-// brought
-// it, and the first n of its bits (all of them where they are fewer), packed as the receiver hands them over. Refuses
-// with 4 and
-// leaves the buffer as `put_heading` does.
+// brought it, and the first n of its bits (all of them where they are fewer), packed as the receiver hands them over.
+// Refuses with 4 and leaves the buffer as `put_heading` does.
 pub fn put_row(place: ReadCycles, n: usize, bits: &[u8], out: &mut [u8]) -> Put
     ensures { λ x. ⌜ lent (eventLine (place .0) (row (take n (unpacked 8 (now (bits .entry)))))) (now (out .entry))
         ≡ (putSays x, now (out .exit)) ⌝ }
 {
     let read = place.0;
     let count = held(bits, n);
-    let others = size_of(DIGITS, read) + ROW.len() + FEED.len();
+    let others = number_size(read) + ROW.len() + FEED.len();
     if out.len() < others {
         return Put::Refused(Refusal::Room);
     }
     if out.len() - others < count {
         return Put::Refused(Refusal::Room);
     }
-    let a = put_number(out, 0, DIGITS, read);
+    let a = put_number(out, 0, read);
     let b = put_text(out, a, &ROW);
     let c = put_bits(out, b, bits, count);
     Put::Line(put_text(out, c, &FEED))
 }
 
 // Puts the line of a broken row and gives its length: the place of the read that broke it, and the number of bits
-// dropped.
-// Refuses with 4 and leaves the buffer as `put_heading` does.
+// dropped. Refuses with 4 and leaves the buffer as `put_heading` does.
 pub fn put_broken(place: ReadCycles, found: usize, out: &mut [u8]) -> Put
     ensures { λ x. ⌜ lent (eventLine (place .0) (broken found)) (now (out .entry)) ≡ (putSays x, now (out .exit)) ⌝ }
 {
     let read = place.0;
-    if out.len() < size_of(DIGITS, read) + BROKEN.len() + size_of(DIGITS, found) + FEED.len() {
+    if out.len() < number_size(read) + BROKEN.len() + number_size(found) + FEED.len() {
         return Put::Refused(Refusal::Room);
     }
-    let a = put_number(out, 0, DIGITS, read);
+    let a = put_number(out, 0, read);
     let b = put_text(out, a, &BROKEN);
-    let c = put_number(out, b, DIGITS, found);
+    let c = put_number(out, b, found);
     Put::Line(put_text(out, c, &FEED))
 }
 
 // Puts the last line and gives its length: how many reads there were and how many rows came out of them. Refuses with 4
-// and leaves the buffer as
-// `put_heading` does.
+// and leaves the buffer as `put_heading` does.
 pub fn put_end(reads: ReadCycles, rows: usize, out: &mut [u8]) -> Put
     ensures { λ x. ⌜ lent (endLine (reads .0) rows) (now (out .entry)) ≡ (putSays x, now (out .exit)) ⌝ }
 {
     let total = reads.0;
     if out.len()
-        < END.len() + size_of(DIGITS, total) + ROWS.len() + size_of(DIGITS, rows) + FEED.len()
+        < END.len() + number_size(total) + ROWS.len() + number_size(rows) + FEED.len()
     {
         return Put::Refused(Refusal::Room);
     }
     let a = put_text(out, 0, &END);
-    let b = put_number(out, a, DIGITS, total);
+    let b = put_number(out, a, total);
     let c = put_text(out, b, &ROWS);
-    let d = put_number(out, c, DIGITS, rows);
+    let d = put_number(out, c, rows);
     Put::Line(put_text(out, d, &FEED))
 }
 
 // Puts the only line of a bad capture and gives its length: the refusal's number and place. Refuses with 4 and leaves
-// the
-// buffer as `put_heading` does.
+// the buffer as `put_heading` does.
 pub fn put_refused(refusal: Refusal, out: &mut [u8]) -> Put
     ensures { λ x. ⌜ lent (refusedLine (numberOf refusal) (placeOf refusal)) (now (out .entry))
         ≡ (putSays x, now (out .exit)) ⌝ }
@@ -202,13 +150,13 @@ pub fn put_refused(refusal: Refusal, out: &mut [u8]) -> Put
     let number = measure::number(refusal);
     let place = measure::place(refusal);
     if out.len()
-        < REFUSED.len() + size_of(DIGITS, number) + AT.len() + size_of(DIGITS, place) + FEED.len()
+        < REFUSED.len() + number_size(number) + AT.len() + number_size(place) + FEED.len()
     {
         return Put::Refused(Refusal::Room);
     }
     let a = put_text(out, 0, &REFUSED);
-    let b = put_number(out, a, DIGITS, number);
+    let b = put_number(out, a, number);
     let c = put_text(out, b, &AT);
-    let d = put_number(out, c, DIGITS, place);
+    let d = put_number(out, c, place);
     Put::Line(put_text(out, d, &FEED))
 }

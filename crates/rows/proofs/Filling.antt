@@ -12,9 +12,9 @@ use Rattle.measure.specs.Lists.{onto}
 use Rattle.measure.specs.Refusals.{Answer, given, refused, refusedAfter}
 use Rattle.board.specs.Rows.{Event, nothing, row, broken}
 use Rattle.board.specs.Answers.{Outcome, listened}
-use Rattle.page.specs.Walk.{Walk, rowsAfter, onward, goesOn, linesOf}
+use Rattle.page.specs.Walk.{Walk, rowsAfter, afterTurn, goesOn, linesOf}
 use Rattle.page.proofs.Heard.{Heard, heard-all, turn-lines}
-use Rattle.rows.specs.Page.{Ready, turnLine, turned, Filled}
+use Rattle.rows.specs.Turns.{Ready, turnLine, turned, Filled}
 
 -- the part of a list from a place to its end, as it is lent
 abbrev pub tail : ℕ → List ℕ → List ℕ
@@ -88,7 +88,7 @@ module _ (w : Walk) (reads page₀ page : List ℕ) (at : Walk) (bytes : ℕ) (f
 
   -- the turn as it is defined
   filled-defined : length (turnLine at left) ≤ length page - bytes
-      → Filled w reads (take bytes page ++ onto (turnLine at left) (drop bytes page)) (onward at heard)
+      → Filled w reads (take bytes page ++ onto (turnLine at left) (drop bytes page)) (afterTurn at heard)
       (goesOn (heard .0 .answer)) (bytes + length (turnLine at left))
   unfolding left heard
   filled-defined fits =
@@ -103,7 +103,7 @@ module _ (w : Walk) (reads page₀ page : List ℕ) (at : Walk) (bytes : ℕ) (f
             ∙ rw (passed, line-behind page (turnLine at left) bytes (f .room))
             (sym (append-assoc (take bytes page) (turnLine at left)
             (choose (goesOn (heard .0 .answer))
-            (linesOf (onward at heard) (drop (at .place + heard .1) reads)) [])));
+            (linesOf (afterTurn at heard) (drop (at .place + heard .1) reads)) [])));
         room = omega (
           arith,
           length-append (take bytes page) (onto (turnLine at left) (drop bytes page)),

@@ -20,7 +20,7 @@ use Rattle.page.specs.declared.Put.{Put}
 use Rattle.page.specs.declared.Put.the-variants.{Line, Refused}
 use Rattle.page.proofs.Heard.{Heard, heard-all}
 use Rattle.page.proofs.Longest.{longest}
-use Rattle.rows.specs.Page.{lineMost, turned}
+use Rattle.rows.specs.Turns.{lineMost, turned}
 
 -- a line that was put says its length, and a refusal is no length
 

@@ -7,7 +7,7 @@ ghost use lib.ListN.{length};
 ghost use Rattle.measure.specs.Ranges.{entriesMost};
 ghost use Rattle.measure.specs.Refusals.{given};
 ghost use Rattle.page.specs.Answers.{putSays};
-ghost use Rattle.rows.specs.Page.{lineMost, standing, Ready, turned, Filled};
+ghost use Rattle.rows.specs.Turns.{lineMost, walkOf, Ready, turned, Filled};
 use board::Event;
 use board::Receiver;
 use capture::Checked;
@@ -54,10 +54,10 @@ fn bytes_of(put: Put) -> usize
 // One turn: listens to the reads that are left up to the next event and puts its line, or the last line where none
 // comes.
 fn turn(walk: Walk, left: &[u8], out: &mut [u8]) -> Turned
-    requires { ⌜ Ready (standing walk) (walk .place .0 + length (now left)) ⌝ }
+    requires { ⌜ Ready (walkOf walk) (walk .place .0 + length (now left)) ⌝ }
     requires { ⌜ lineMost ≤ length (now out) ⌝ }
-    ensures { λ x. ⌜ turned (standing walk) (now (left .entry)) (now (out .entry))
-        ≡ (standing (x .walk), x .more, x .bytes, now (out .exit)) ⌝ }
+    ensures { λ x. ⌜ turned (walkOf walk) (now (left .entry)) (now (out .entry))
+        ≡ (walkOf (x .walk), x .more, x .bytes, now (out .exit)) ⌝ }
 {
     let before = walk.place.0;
     let rows = walk.rows;
@@ -126,9 +126,9 @@ fn turn(walk: Walk, left: &[u8], out: &mut [u8]) -> Turned
 
 // Fills a page: turns until the last line is put or no further line is sure to fit.
 fn fill(start: Walk, reads: &[u8], page: &mut [u8]) -> Turned
-    requires { ⌜ Ready (standing start) (length (now reads)) ⌝ }
+    requires { ⌜ Ready (walkOf start) (length (now reads)) ⌝ }
     requires { ⌜ lineMost ≤ length (now page) ⌝ }
-    ensures { λ x. ⌜ Filled (standing start) (now (reads .entry)) (now (page .exit)) (standing (x .walk)) (x .more)
+    ensures { λ x. ⌜ Filled (walkOf start) (now (reads .entry)) (now (page .exit)) (walkOf (x .walk)) (x .more)
         (x .bytes) ⌝ }
 {
     let mut walk = start;

@@ -2,18 +2,18 @@
 -- before it ends, and stands whole at the front of the output.
 use mathlib.Core.Path.{_≡_, sym, ap, subst, _∙_}
 use mathlib.Core.Bool.{true, false}
-use mathlib.Core.List.{List, [], _++_, append-nil}
+use mathlib.Core.List.{List, [], _++_, append-assoc, append-nil}
 use Prim.Native.Nat.{ℕ, _+_, _≤_, _<_}
 use native.Mathlib.Numerals.{add-one}
 use native.Mathlib.Omega.{arith}
 use borrow.Author.Tests.{lt-ltb, le-ltb, le-leb}
 use lib.Dec.{leb}
-use lib.ListN.{length, take, getD, set}
+use lib.ListN.{length, take, getD, set, length-append}
 use lib.Seq.{sets, take-suc, length-take-le}
 use Rattle.measure.specs.Lists.{onto}
 use Rattle.measure.specs.Refusals.{given, refused, lent}
 use Rattle.measure.proofs.Laid.{laid-first, sets-more}
-use Rattle.measure.proofs.Stores.{Stored, stored-part, stored-next}
+use Rattle.measure.proofs.Stores.{Stored, stored-none, stored-part, stored-next}
 use Rattle.text.specs.Putting.{putAt}
 
 module _ (piece : List ℕ) (at : ℕ) (output : List ℕ) where
@@ -55,8 +55,60 @@ module _ {output : List ℕ} {line stored : List ℕ} {at : ℕ} (room : length 
       rw (le-ltb (length output) (length line) room, laid, size)
 
 -- a line that has no room is refused
-pub line-short : (line output : List ℕ) → length output < length line → lent line output ≡ (refused 4 0, output)
+line-short : (line output : List ℕ) → length output < length line → lent line output ≡ (refused 4 0, output)
 line-short line output h = rw (lt-ltb (length output) (length line) h)
+
+-- Lines of one piece, of four and of five: put piece after piece they are lent whole where their lengths together have
+-- room, and refused where they have none.
+pub put-one : (a output left : List ℕ) (end : ℕ) → length a ≤ length output → putAt a 0 output ≡ (end, left)
+    → lent a output ≡ (given end, left)
+put-one a output left end room e = put-last room a left end (stored-none output 0 a) e
+
+pub one-short : (a output : List ℕ) → length output < length a → lent a output ≡ (refused 4 0, output)
+one-short a output h = line-short a output h
+
+module _ (a b c d output : List ℕ) where
+  pub length-four : length (a ++ b ++ c ++ d) ≡ length a + length b + length c + length d
+  length-four = simp length-append
+
+  pub four-short : length output < length a + length b + length c + length d
+      → lent (a ++ b ++ c ++ d) output ≡ (refused 4 0, output)
+  four-short h = line-short (a ++ b ++ c ++ d) output (omega (arith, length-four))
+
+  pub put-four : {one two three left : List ℕ} {at-one at-two at-three end : ℕ}
+      → length a + length b + length c + length d ≤ length output
+      → putAt a 0 output ≡ (at-one, one) → putAt b at-one one ≡ (at-two, two) → putAt c at-two two ≡ (at-three, three)
+      → putAt d at-three three ≡ (end, left)
+      → lent (a ++ b ++ c ++ d) output ≡ (given end, left)
+  put-four h e f g i =
+      let line : a ++ b ++ c ++ d ≡ a ++ (b ++ (c ++ d)) = simp append-assoc in
+      let room : length (a ++ (b ++ (c ++ d))) ≤ length output = omega (arith, length-four, ap length line) in
+      rw line
+      (put-last room d _ _
+      (put-next room c _ _
+      (put-next room b _ _ (put-next room a _ _ (stored-none output 0 (a ++ (b ++ (c ++ d)))) e) f) g) i)
+
+module _ (a b c d z output : List ℕ) where
+  pub length-five : length (a ++ b ++ c ++ d ++ z) ≡ length a + length b + length c + length d + length z
+  length-five = simp length-append
+
+  pub five-short : length output < length a + length b + length c + length d + length z
+      → lent (a ++ b ++ c ++ d ++ z) output ≡ (refused 4 0, output)
+  five-short h = line-short (a ++ b ++ c ++ d ++ z) output (omega (arith, length-five))
+
+  pub put-five : {one two three four left : List ℕ} {at-one at-two at-three at-four end : ℕ}
+      → length a + length b + length c + length d + length z ≤ length output
+      → putAt a 0 output ≡ (at-one, one) → putAt b at-one one ≡ (at-two, two) → putAt c at-two two ≡ (at-three, three)
+      → putAt d at-three three ≡ (at-four, four) → putAt z at-four four ≡ (end, left)
+      → lent (a ++ b ++ c ++ d ++ z) output ≡ (given end, left)
+  put-five h e f g i j =
+      let line : a ++ b ++ c ++ d ++ z ≡ a ++ (b ++ (c ++ (d ++ z))) = simp append-assoc in
+      let room : length (a ++ (b ++ (c ++ (d ++ z)))) ≤ length output = omega (arith, length-five, ap length line) in
+      rw line
+      (put-last room z _ _
+      (put-next room d _ _
+      (put-next room c _ _
+      (put-next room b _ _ (put-next room a _ _ (stored-none output 0 (a ++ (b ++ (c ++ (d ++ z))))) e) f) g) i) j)
 
 -- a list stored entry by entry from a place on: one store more, and the stores so far are the list's front
 pub stored-more : (output all : List ℕ) (at i v : ℕ) → i < length all → v ≡ getD all i 0

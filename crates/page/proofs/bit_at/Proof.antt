@@ -1,7 +1,7 @@
 -- `bit_at` meets its contract: a row's bit is that binary digit of its byte.
 use denote.Ref.{now}
 use borrow.Author.Needs.{needs}
-use Rattle.page.proofs.Bits.{bit-of-byte}
+use Rattle.board.proofs.BitPlaces.{bit-of-byte}
 use Rattle.page.proofs.bit_at.Statement.{statement}
 use Rattle.page.proofs.bit_at.Tie as tie
 

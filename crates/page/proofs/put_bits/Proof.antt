@@ -1,15 +1,17 @@
 -- `put_bits` meets its contract: after i turns the first i bits are stored from the place on, a byte each.
 use denote.Ref.{now}
 use mathlib.Core.Path.{_≡_, refl, sym, ap, _∙_}
-use Prim.Native.Nat.{_-_, _≤_}
+use Prim.Native.Nat.{_+_, _-_, _≤_}
 use native.Mathlib.Omega.{arith}
 use lib.ListN.{length, take, length-set}
-use lib.Seq.{sets}
+use lib.Seq.{sets, length-take-le}
+use borrow.Author.Tests.{le-leb}
 use Rattle.board.specs.Packed.{unpacked}
 use Rattle.board.proofs.PackedBits.{length-unpacked, unpacked-binary}
-use Rattle.page.specs.Text.{digit, bitsText}
+use Rattle.text.specs.Decimal.{digit}
+use Rattle.text.proofs.PutLaws.{put-whole, stored-more}
+use Rattle.page.specs.Words.{bitsText}
 use Rattle.page.proofs.Bits.{text-length, text-take, text-at}
-use Rattle.page.proofs.Stored.{stored-more}
 use Rattle.page.proofs.put_bits.Statement.{statement}
 use Rattle.page.proofs.put_bits.Tie as tie
 
@@ -67,8 +69,15 @@ same-length c = omega arith
 returns : tie.Need-returns Inv-loop μ-loop
 returns c =
     let a = c .before .before .before .before .args in
+    let all = unpacked 8 (now (a .bits)) in
     let e : c .before .loop .i ≡ a .count = omega arith in
-    (omega arith, c .before .loop .inv .2 ∙ rw (e, text-take))
+    let stored : c .before .loop .out ≡ sets (now (a .out)) (a .at) (bitsText (take (a .count) all)) =
+    rw (← e, text-take) (c .before .loop .inv .2) in
+    let size : length (bitsText (take (a .count) all)) ≡ a .count =
+    text-length (take (a .count) all) ∙ length-take-le (a .count) all (omega arith) in
+    put-whole (bitsText (take (a .count) all)) (a .at) (now (a .out))
+    (le-leb (a .at + length (bitsText (take (a .count) all))) (length (now (a .out))) (omega (arith, size)))
+    ∙ cc (e, size, stored)
 
 pub put-bits-spec : {M : Type 1} → statement M
 put-bits-spec =

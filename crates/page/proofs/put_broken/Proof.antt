@@ -1,33 +1,51 @@
--- `put_broken` meets its contract: the four pieces of its line stand one behind another.
+-- `put_broken` meets its contract: the four pieces of its line are put one after another.
 use denote.Ref.{now}
-use mathlib.Core.List.{_++_}
 use native.Mathlib.Omega.{arith}
-use Rattle.page.proofs.Putting.{stands-first, stands-more, lent-whole, lent-short, length-four}
-use Rattle.page.specs.Text.{decimal, brokenText, feed}
 use borrow.Author.Needs.{needs}
+use Rattle.text.specs.Decimal.{decimal}
+use Rattle.text.proofs.Digits.{decimal-most}
+use Rattle.text.proofs.PutLaws.{put-four, four-short}
+use Rattle.page.specs.Words.{brokenText, feed}
 use Rattle.page.proofs.put_broken.Statement.{statement}
 use Rattle.page.proofs.put_broken.Tie as tie
 
-size-of-requires : tie.Need-size-of-requires
-size-of-requires c κs = search needs
+number-size-requires : tie.Need-number-size-requires
+number-size-requires c κs = search needs
 
 add-if1 : tie.Need-add-if1
-add-if1 c = search needs
+add-if1 c = omega (arith, c .number-size .ensures, decimal-most (c .before .before .args .place .0))
 
-size-of-requires-2 : tie.Need-size-of-requires-2
-size-of-requires-2 c κs = search needs
+number-size-requires-2 : tie.Need-number-size-requires-2
+number-size-requires-2 c κs = search needs
 
 add-if1-2 : tie.Need-add-if1-2
-add-if1-2 c = search needs
+add-if1-2 c =
+    let a = c .before .before .before .args in
+    omega (
+      arith,
+      c .before .number-size .ensures,
+      c .number-size2 .ensures,
+      decimal-most (a .place .0),
+      decimal-most (a .found),
+    )
 
 add-if1-3 : tie.Need-add-if1-3
-add-if1-3 c = search needs
+add-if1-3 c =
+    let a = c .before .before .before .args in
+    omega (
+      arith,
+      c .before .number-size .ensures,
+      c .number-size2 .ensures,
+      decimal-most (a .place .0),
+      decimal-most (a .found),
+    )
 
 returns : tie.Need-returns
 returns c =
-    let a = c .before .before .before .before .args in
-    lent-short (decimal (a .place .0) ++ brokenText ++ decimal (a .found) ++ feed) (now (a .out))
-    (omega (arith, length-four (decimal (a .place .0)) brokenText (decimal (a .found)) feed))
+    let found = c .before in
+    let a = found .before .before .before .args in
+    four-short (decimal (a .place .0)) brokenText (decimal (a .found)) feed (now (a .out))
+    (omega (arith, c .if1 .taken, found .before .number-size .ensures, found .number-size2 .ensures))
 
 put-number-requires : tie.Need-put-number-requires
 put-number-requires c κs = search needs
@@ -52,29 +70,23 @@ same-length c = search needs
 
 returns-2 : tie.Need-returns-2
 returns-2 c =
-    let a = c .before .before .before .before .before .before .before .before .before .before .before .before .before .before .before .before .before .before .before .before .before .before .args in
-    lent-whole (decimal (a .place .0) ++ brokenText ++ decimal (a .found) ++ feed) (now (a .out)) _ _
-    (omega (
-      arith,
-      c .before .before .before .before .before .before .before .before .before .before .before .before .before .before .before .before .before .before,
-      length-four (decimal (a .place .0)) brokenText (decimal (a .found)) feed,
-    ))
-    (stands-more (decimal (a .place .0) ++ brokenText ++ decimal (a .found)) feed _ _ _ _ _
-    (stands-more (decimal (a .place .0) ++ brokenText) (decimal (a .found)) _ _ _ _ _
-    (stands-more (decimal (a .place .0)) brokenText _ _ _ _ _
-    (stands-first (decimal (a .place .0)) _ _ _
-    (c .before .before .before .before .before .before .before .before .before .before .before .before .before .before .before .before .put-number .ensures))
-    (c .before .before .before .before .before .before .before .before .before .before .before .put-text .ensures))
-    (c .before .before .before .before .before .before .before .put-number2 .ensures))
-    (c .before .before .put-text2 .ensures))
+    let three = c .before .before .before .before .before .before .before in
+    let two = three .before .before .before .before in
+    let one = two .before .before .before .before .before in
+    let fits = one .before .before in
+    let a = fits .before .before .before .before .args in
+    put-four (decimal (a .place .0)) brokenText (decimal (a .found)) feed (now (a .out))
+    (omega (arith, fits .if1 .left, fits .before .before .number-size .ensures, fits .before .number-size2 .ensures))
+    (one .put-number .ensures) (two .put-text .ensures) (three .put-number2 .ensures)
+    (c .before .before .put-text2 .ensures)
 
 pub put-broken-spec : {M : Type 1} → statement M
 put-broken-spec =
     tie.close
     (tie.spec
-    size-of-requires
+    number-size-requires
     add-if1
-    size-of-requires-2
+    number-size-requires-2
     add-if1-2
     add-if1-3
     returns

@@ -1,36 +1,54 @@
--- `put_end` meets its contract: the five pieces of its line stand one behind another.
+-- `put_end` meets its contract: the five pieces of its line are put one after another.
 use denote.Ref.{now}
-use mathlib.Core.List.{_++_}
 use native.Mathlib.Omega.{arith}
-use Rattle.page.proofs.Putting.{stands-first, stands-more, lent-whole, lent-short, length-five}
-use Rattle.page.specs.Text.{decimal, endText, rowsText, feed}
 use borrow.Author.Needs.{needs}
+use Rattle.text.specs.Decimal.{decimal}
+use Rattle.text.proofs.Digits.{decimal-most}
+use Rattle.text.proofs.PutLaws.{put-five, five-short}
+use Rattle.page.specs.Words.{endText, rowsText, feed}
 use Rattle.page.proofs.put_end.Statement.{statement}
 use Rattle.page.proofs.put_end.Tie as tie
 
-size-of-requires : tie.Need-size-of-requires
-size-of-requires c κs = search needs
+number-size-requires : tie.Need-number-size-requires
+number-size-requires c κs = search needs
 
 add-if1 : tie.Need-add-if1
-add-if1 c = search needs
+add-if1 c = omega (arith, c .number-size .ensures, decimal-most (c .before .before .args .reads .0))
 
 add-if1-2 : tie.Need-add-if1-2
-add-if1-2 c = search needs
+add-if1-2 c = omega (arith, c .number-size .ensures, decimal-most (c .before .before .args .reads .0))
 
-size-of-requires-2 : tie.Need-size-of-requires-2
-size-of-requires-2 c κs = search needs
+number-size-requires-2 : tie.Need-number-size-requires-2
+number-size-requires-2 c κs = search needs
 
 add-if1-3 : tie.Need-add-if1-3
-add-if1-3 c = search needs
+add-if1-3 c =
+    let a = c .before .before .before .args in
+    omega (
+      arith,
+      c .before .number-size .ensures,
+      c .number-size2 .ensures,
+      decimal-most (a .reads .0),
+      decimal-most (a .rows),
+    )
 
 add-if1-4 : tie.Need-add-if1-4
-add-if1-4 c = search needs
+add-if1-4 c =
+    let a = c .before .before .before .args in
+    omega (
+      arith,
+      c .before .number-size .ensures,
+      c .number-size2 .ensures,
+      decimal-most (a .reads .0),
+      decimal-most (a .rows),
+    )
 
 returns : tie.Need-returns
 returns c =
-    let a = c .before .before .before .before .args in
-    lent-short (endText ++ (decimal (a .reads .0)) ++ rowsText ++ (decimal (a .rows)) ++ feed) (now (a .out))
-    (omega (arith, length-five endText (decimal (a .reads .0)) rowsText (decimal (a .rows)) feed))
+    let rows = c .before in
+    let a = rows .before .before .before .args in
+    five-short endText (decimal (a .reads .0)) rowsText (decimal (a .rows)) feed (now (a .out))
+    (omega (arith, c .if1 .taken, rows .before .number-size .ensures, rows .number-size2 .ensures))
 
 slice-aggregate-put-text : tie.Need-slice-aggregate-put-text
 slice-aggregate-put-text c = search needs
@@ -61,32 +79,25 @@ same-length c = search needs
 
 returns-2 : tie.Need-returns-2
 returns-2 c =
-    let a = c .before .before .before .before .before .before .before .before .before .before .before .before .before .before .before .before .before .before .before .before .before .before .before .before .before .before .before .args in
-    lent-whole (endText ++ (decimal (a .reads .0)) ++ rowsText ++ (decimal (a .rows)) ++ feed) (now (a .out)) _ _
-    (omega (
-      arith,
-      c .before .before .before .before .before .before .before .before .before .before .before .before .before .before .before .before .before .before .before .before .before .before .before,
-      length-five endText (decimal (a .reads .0)) rowsText (decimal (a .rows)) feed,
-    ))
-    (stands-more (endText ++ (decimal (a .reads .0)) ++ rowsText ++ (decimal (a .rows))) feed _ _ _ _ _
-    (stands-more (endText ++ (decimal (a .reads .0)) ++ rowsText) (decimal (a .rows)) _ _ _ _ _
-    (stands-more (endText ++ (decimal (a .reads .0))) rowsText _ _ _ _ _
-    (stands-more endText (decimal (a .reads .0)) _ _ _ _ _
-    (stands-first endText _ _ _
-    (c .before .before .before .before .before .before .before .before .before .before .before .before .before .before .before .before .before .before .before .before .put-text .ensures))
-    (c .before .before .before .before .before .before .before .before .before .before .before .before .before .before .before .before .put-number .ensures))
-    (c .before .before .before .before .before .before .before .before .before .before .before .put-text2 .ensures))
-    (c .before .before .before .before .before .before .before .put-number2 .ensures))
-    (c .before .before .put-text3 .ensures))
+    let four = c .before .before .before .before .before .before .before in
+    let three = four .before .before .before .before in
+    let two = three .before .before .before .before .before in
+    let one = two .before .before .before .before in
+    let fits = one .before .before .before in
+    let a = fits .before .before .before .before .args in
+    put-five endText (decimal (a .reads .0)) rowsText (decimal (a .rows)) feed (now (a .out))
+    (omega (arith, fits .if1 .left, fits .before .before .number-size .ensures, fits .before .number-size2 .ensures))
+    (one .put-text .ensures) (two .put-number .ensures) (three .put-text2 .ensures) (four .put-number2 .ensures)
+    (c .before .before .put-text3 .ensures)
 
 pub put-end-spec : {M : Type 1} → statement M
 put-end-spec =
     tie.close
     (tie.spec
-    size-of-requires
+    number-size-requires
     add-if1
     add-if1-2
-    size-of-requires-2
+    number-size-requires-2
     add-if1-3
     add-if1-4
     returns

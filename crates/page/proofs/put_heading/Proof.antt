@@ -1,13 +1,13 @@
--- `put_heading` meets its contract: its one piece stands at the front.
+-- `put_heading` meets its contract: its one piece is put.
 use denote.Ref.{now}
-use Rattle.page.proofs.Putting.{stands-first, lent-whole, lent-short}
-use Rattle.page.specs.Lines.{headingLine}
 use borrow.Author.Needs.{needs}
+use Rattle.text.proofs.PutLaws.{put-one, one-short}
+use Rattle.page.specs.Lines.{headingLine}
 use Rattle.page.proofs.put_heading.Statement.{statement}
 use Rattle.page.proofs.put_heading.Tie as tie
 
 returns : tie.Need-returns
-returns c = lent-short headingLine (now (c .before .before .args .out)) (c .if1 .taken)
+returns c = one-short headingLine (now (c .before .before .args .out)) (c .if1 .taken)
 
 slice-aggregate-put-text : tie.Need-slice-aggregate-put-text
 slice-aggregate-put-text c = search needs
@@ -20,9 +20,8 @@ same-length c = search needs
 
 returns-2 : tie.Need-returns-2
 returns-2 c =
-    lent-whole headingLine (now (c .before .before .before .before .before .before .before .args .out)) _ _
-    (c .before .before .before .before .before .if1 .left)
-    (stands-first headingLine _ _ _ (c .before .before .put-text .ensures))
+    let fits = c .before .before .before .before .before in
+    put-one headingLine (now (fits .before .before .args .out)) _ _ (fits .if1 .left) (c .before .before .put-text .ensures)
 
 pub put-heading-spec : {M : Type 1} → statement M
 put-heading-spec =

@@ -1,13 +1,16 @@
--- `put_refused` meets its contract: the five pieces of its line stand one behind another.
+-- `put_refused` meets its contract: the five pieces of its line are put one after another.
 use denote.Ref.{now}
 use mathlib.Core.Path.{ap, _∙_}
-use mathlib.Core.List.{List, _++_}
+use mathlib.Core.List.{List}
 use Prim.Native.Nat.{ℕ}
 use native.Mathlib.Omega.{arith}
-use Rattle.measure.specs.Refusals.{lent}
-use Rattle.page.proofs.Putting.{stands-first, stands-more, lent-whole, lent-short, length-five, refused-same}
-use Rattle.page.specs.Text.{decimal, refusedText, atText, feed}
 use borrow.Author.Needs.{needs}
+use Rattle.measure.specs.Refusals.{lent}
+use Rattle.text.specs.Decimal.{decimal}
+use Rattle.text.proofs.Digits.{decimal-most}
+use Rattle.text.proofs.PutLaws.{put-five, five-short}
+use Rattle.page.specs.Words.{refusedText, atText, feed}
+use Rattle.page.proofs.Longest.{refused-same}
 use Rattle.page.proofs.put_refused.Statement.{statement}
 use Rattle.page.proofs.put_refused.Tie as tie
 
@@ -17,33 +20,48 @@ number-requires c κs = search needs
 place-requires : tie.Need-place-requires
 place-requires c κs = search needs
 
-size-of-requires : tie.Need-size-of-requires
-size-of-requires c κs = search needs
+number-size-requires : tie.Need-number-size-requires
+number-size-requires c κs = search needs
 
 add-if1 : tie.Need-add-if1
-add-if1 c = search needs
+add-if1 c = omega (arith, c .number-size .ensures, decimal-most (c .before .before .number .result))
 
 add-if1-2 : tie.Need-add-if1-2
-add-if1-2 c = search needs
+add-if1-2 c = omega (arith, c .number-size .ensures, decimal-most (c .before .before .number .result))
 
-size-of-requires-2 : tie.Need-size-of-requires-2
-size-of-requires-2 c κs = search needs
+number-size-requires-2 : tie.Need-number-size-requires-2
+number-size-requires-2 c κs = search needs
 
 add-if1-3 : tie.Need-add-if1-3
-add-if1-3 c = search needs
+add-if1-3 c =
+    let place = c .before .before in
+    omega (
+      arith,
+      c .before .number-size .ensures,
+      c .number-size2 .ensures,
+      decimal-most (place .before .number .result),
+      decimal-most (place .place .result),
+    )
 
 add-if1-4 : tie.Need-add-if1-4
-add-if1-4 c = search needs
+add-if1-4 c =
+    let place = c .before .before in
+    omega (
+      arith,
+      c .before .number-size .ensures,
+      c .number-size2 .ensures,
+      decimal-most (place .before .number .result),
+      decimal-most (place .place .result),
+    )
 
 returns : tie.Need-returns
 returns c =
-    let a = c .before .before .before .before .before .before .args in
-    let n = c .before .before .before .before .number .result in
-    let p = c .before .before .before .place .result in
-    ap (λ (line : List ℕ). lent line (now (a .out)))
-    (refused-same (c .before .before .before .before .number .ensures) (c .before .before .before .place .ensures))
-    ∙ (lent-short (refusedText ++ (decimal n) ++ atText ++ (decimal p) ++ feed) (now (a .out))
-    (omega (arith, length-five refusedText (decimal n) atText (decimal p) feed)))
+    let place = c .before .before .before in
+    let number = place .before in
+    let out = now (number .before .before .args .out) in
+    ap (λ (line : List ℕ). lent line out) (refused-same (number .number .ensures) (place .place .ensures))
+    ∙ five-short refusedText (decimal (number .number .result)) atText (decimal (place .place .result)) feed out
+    (omega (arith, c .if1 .taken, c .before .before .number-size .ensures, c .before .number-size2 .ensures))
 
 slice-aggregate-put-text : tie.Need-slice-aggregate-put-text
 slice-aggregate-put-text c = search needs
@@ -74,28 +92,19 @@ same-length c = search needs
 
 returns-2 : tie.Need-returns-2
 returns-2 c =
-    let a = c .before .before .before .before .before .before .before .before .before .before .before .before .before .before .before .before .before .before .before .before .before .before .before .before .before .before .before .before .before .args in
-    let n = c .before .before .before .before .before .before .before .before .before .before .before .before .before .before .before .before .before .before .before .before .before .before .before .before .before .before .before .number .result in
-    let p = c .before .before .before .before .before .before .before .before .before .before .before .before .before .before .before .before .before .before .before .before .before .before .before .before .before .before .place .result in
-    ap (λ (line : List ℕ). lent line (now (a .out)))
-    (refused-same
-    (c .before .before .before .before .before .before .before .before .before .before .before .before .before .before .before .before .before .before .before .before .before .before .before .before .before .before .before .number .ensures) (c .before .before .before .before .before .before .before .before .before .before .before .before .before .before .before .before .before .before .before .before .before .before .before .before .before .before .place .ensures))
-    ∙ (lent-whole (refusedText ++ (decimal n) ++ atText ++ (decimal p) ++ feed) (now (a .out)) _ _
-    (omega (
-      arith,
-      c .before .before .before .before .before .before .before .before .before .before .before .before .before .before .before .before .before .before .before .before .before .before .before,
-      length-five refusedText (decimal n) atText (decimal p) feed,
-    ))
-    (stands-more (refusedText ++ (decimal n) ++ atText ++ (decimal p)) feed _ _ _ _ _
-    (stands-more (refusedText ++ (decimal n) ++ atText) (decimal p) _ _ _ _ _
-    (stands-more (refusedText ++ (decimal n)) atText _ _ _ _ _
-    (stands-more refusedText (decimal n) _ _ _ _ _
-    (stands-first refusedText _ _ _
-    (c .before .before .before .before .before .before .before .before .before .before .before .before .before .before .before .before .before .before .before .before .put-text .ensures))
-    (c .before .before .before .before .before .before .before .before .before .before .before .before .before .before .before .before .put-number .ensures))
-    (c .before .before .before .before .before .before .before .before .before .before .before .put-text2 .ensures))
-    (c .before .before .before .before .before .before .before .put-number2 .ensures))
-    (c .before .before .put-text3 .ensures)))
+    let four = c .before .before .before .before .before .before .before in
+    let three = four .before .before .before .before in
+    let two = three .before .before .before .before .before in
+    let one = two .before .before .before .before in
+    let fits = one .before .before .before in
+    let place = fits .before .before .before in
+    let number = place .before in
+    let out = now (number .before .before .args .out) in
+    ap (λ (line : List ℕ). lent line out) (refused-same (number .number .ensures) (place .place .ensures))
+    ∙ put-five refusedText (decimal (number .number .result)) atText (decimal (place .place .result)) feed out
+    (omega (arith, fits .if1 .left, fits .before .before .number-size .ensures, fits .before .number-size2 .ensures))
+    (one .put-text .ensures) (two .put-number .ensures) (three .put-text2 .ensures) (four .put-number2 .ensures)
+    (c .before .before .put-text3 .ensures)
 
 pub put-refused-spec : {M : Type 1} → statement M
 put-refused-spec =
@@ -103,10 +112,10 @@ put-refused-spec =
     (tie.spec
     number-requires
     place-requires
-    size-of-requires
+    number-size-requires
     add-if1
     add-if1-2
-    size-of-requires-2
+    number-size-requires-2
     add-if1-3
     add-if1-4
     returns

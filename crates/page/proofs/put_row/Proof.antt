@@ -1,46 +1,49 @@
--- `put_row` meets its contract: the four pieces of its line stand one behind another, the bits among them that there
+-- `put_row` meets its contract: the four pieces of its line are put one after another, the bits among them that there
 -- are.
 use denote.Ref.{now}
 use mathlib.Core.Path.{_≡_}
-use mathlib.Core.List.{_++_}
 use native.Mathlib.Omega.{arith}
 use lib.ListN.{take}
-use Rattle.board.specs.Packed.{unpacked}
-use Rattle.page.specs.Text.{decimal, rowText, bitsText, feed}
-use Rattle.page.proofs.Bits.{text-length, taken-within, taken-again}
-use Rattle.page.proofs.Putting.{stands-first, stands-more, lent-whole, lent-short, length-four}
 use borrow.Author.Needs.{needs}
+use Rattle.board.specs.Packed.{unpacked}
+use Rattle.text.specs.Decimal.{decimal}
+use Rattle.text.proofs.Digits.{decimal-most}
+use Rattle.text.proofs.PutLaws.{put-gives, put-four, four-short}
+use Rattle.page.specs.Words.{rowText, bitsText, feed}
+use Rattle.page.proofs.Bits.{text-length, taken-within, taken-again}
 use Rattle.page.proofs.put_row.Statement.{statement}
 use Rattle.page.proofs.put_row.Tie as tie
 
 held-requires : tie.Need-held-requires
 held-requires c κs = search needs
 
-size-of-requires : tie.Need-size-of-requires
-size-of-requires c κs = search needs
+number-size-requires : tie.Need-number-size-requires
+number-size-requires c κs = search needs
 
 add-others : tie.Need-add-others
-add-others c = search needs
+add-others c = omega (arith, c .number-size .ensures, decimal-most (c .before .before .before .before .args .place .0))
 
 add-others-2 : tie.Need-add-others-2
-add-others-2 c = search needs
+add-others-2 c = omega (arith, c .number-size .ensures, decimal-most (c .before .before .before .before .args .place .0))
 
 returns : tie.Need-returns
 returns c =
-    let a = c .before .before .before .before .before .args in
+    let size = c .before in
+    let a = size .before .before .before .before .args in
     let bits = take (a .n) (unpacked 8 (now (a .bits))) in
-    lent-short (decimal (a .place .0) ++ rowText ++ bitsText bits ++ feed) (now (a .out))
-    (omega (arith, length-four (decimal (a .place .0)) rowText (bitsText bits) feed, text-length bits))
+    four-short (decimal (a .place .0)) rowText (bitsText bits) feed (now (a .out))
+    (omega (arith, c .if1 .taken, size .number-size .ensures, text-length bits))
 
 sub-if2 : tie.Need-sub-if2
 sub-if2 c = search needs
 
 returns-2 : tie.Need-returns-2
 returns-2 c =
-    let a = c .before .before .before .before .before .before .args in
+    let size = c .before .before in
+    let a = size .before .before .before .before .args in
     let bits = take (a .n) (unpacked 8 (now (a .bits))) in
-    lent-short (decimal (a .place .0) ++ rowText ++ bitsText bits ++ feed) (now (a .out))
-    (omega (arith, length-four (decimal (a .place .0)) rowText (bitsText bits) feed, text-length bits))
+    four-short (decimal (a .place .0)) rowText (bitsText bits) feed (now (a .out))
+    (omega (arith, c .if2 .taken, size .number-size .ensures, size .before .held .ensures, text-length bits))
 
 put-number-requires : tie.Need-put-number-requires
 put-number-requires c κs = search needs
@@ -53,11 +56,24 @@ put-text-requires c κs = search needs
 
 put-bits-requires : tie.Need-put-bits-requires
 put-bits-requires c κs =
-    let a = c .before .before .before .before .before .before .before .before .before .before .before .before .before .before .before .before .args in
+    let text = c .before .before .before in
+    let number = text .before .before .before .before .before in
+    let fits = number .before .before in
+    let size = fits .before .before .number-size .ensures in
+    let a = fits .before .before .before .before .before .before .args in
+    let one = put-gives (decimal (a .place .0)) 0 (now (a .out)) _ _ (omega (arith, fits .before .if1 .left, size))
+    (number .put-number .ensures) in
+    let two = put-gives rowText (number .put-number .result) (number .put-number .last .0) _ _
+    (omega (arith, fits .before .if1 .left, size, one .0, number .put-number .kept .0)) (text .put-text .ensures) in
     omega (
       arith,
       taken-within (a .n) (unpacked 8 (now (a .bits))),
-      c .before .before .before .before .before .before .before .before .before .before .if2 .left,
+      fits .if2 .left,
+      size,
+      one .0,
+      two .0,
+      number .put-number .kept .0,
+      text .put-text .kept .0,
     )
 
 slice-aggregate-put-text-2 : tie.Need-slice-aggregate-put-text-2
@@ -71,41 +87,34 @@ same-length c = search needs
 
 returns-3 : tie.Need-returns-3
 returns-3 c =
-    let a = c .before .before .before .before .before .before .before .before .before .before .before .before .before .before .before .before .before .before .before .before .before .before .before .before .args in
+    let three = c .before .before .before .before .before .before .before in
+    let two = three .before .before .before .before in
+    let one = two .before .before .before .before .before in
+    let fits = one .before .before in
+    let size = fits .before .before in
+    let held = size .before in
+    let a = held .before .before .before .args in
     let bits = take (a .n) (unpacked 8 (now (a .bits))) in
-    let count =
-    c .before .before .before .before .before .before .before .before .before .before .before .before .before .before .before .before .before .before .before .before .before .held in
-    let e : take (count .result) (unpacked 8 (now (a .bits))) ≡ bits =
-    rw (count .ensures) (taken-again (a .n) (unpacked 8 (now (a .bits)))) in
-    lent-whole (decimal (a .place .0) ++ rowText ++ bitsText bits ++ feed) (now (a .out)) _ _
+    let all : take (held .held .result) (unpacked 8 (now (a .bits))) ≡ bits =
+    rw (held .held .ensures) (taken-again (a .n) (unpacked 8 (now (a .bits)))) in
+    put-four (decimal (a .place .0)) rowText (bitsText bits) feed (now (a .out))
     (omega (
       arith,
-      c .before .before .before .before .before .before .before .before .before .before .before .before .before .before .before .before .before .before,
-      length-four (decimal (a .place .0)) rowText (bitsText bits) feed,
+      fits .if2 .left,
+      fits .before .if1 .left,
+      size .number-size .ensures,
+      held .held .ensures,
       text-length bits,
     ))
-    (stands-more (decimal (a .place .0) ++ rowText ++ bitsText bits) feed _ _ _ _ _
-    (stands-more (decimal (a .place .0) ++ rowText) (bitsText bits) _ _ _ _ _
-    (stands-more (decimal (a .place .0)) rowText _ _ _ _ _
-    (stands-first (decimal (a .place .0)) _ _ _
-    (c .before .before .before .before .before .before .before .before .before .before .before .before .before .before .before .before .put-number .ensures))
-    (c .before .before .before .before .before .before .before .before .before .before .before .put-text .ensures)) (
-      omega (
-        arith,
-        c .before .before .before .before .before .before .before .put-bits .ensures .0,
-        count .ensures,
-        text-length bits,
-      ),
-      rw e at (c .before .before .before .before .before .before .before .put-bits .ensures .1),
-    ))
-    (c .before .before .put-text2 .ensures))
+    (one .put-number .ensures) (two .put-text .ensures) (rw all at (three .put-bits .ensures))
+    (c .before .before .put-text2 .ensures)
 
 pub put-row-spec : {M : Type 1} → statement M
 put-row-spec =
     tie.close
     (tie.spec
     held-requires
-    size-of-requires
+    number-size-requires
     add-others
     add-others-2
     returns

@@ -5,21 +5,21 @@ use mathlib.Core.Path.{ap}
 use native.Mathlib.Omega.{arith}
 use borrow.Author.Tests.{not-true, not-false}
 use lib.ListN.{length, length-drop}
-use Rattle.rows.specs.Page.{standing}
+use Rattle.rows.specs.Turns.{walkOf}
 use Rattle.rows.proofs.Filling.{Filling, filling-none, tail-all, ready-left, back-size, added-most, turn-further}
 use Rattle.rows.proofs.Filling.{filling-turn, filled-turn}
 use Rattle.rows.proofs.fill.Statement.{statement}
 use Rattle.rows.proofs.fill.Tie as tie
 
 abbrev Inv-loop : tie.InvT-loop
-Inv-loop reads page₀ walk₀ bytes₀ page walk bytes = Filling (standing walk₀) reads page₀ page (standing walk) bytes
+Inv-loop reads page₀ walk₀ bytes₀ page walk bytes = Filling (walkOf walk₀) reads page₀ page (walkOf walk) bytes
 
 abbrev μ-loop : tie.MeasureT-loop
 μ-loop reads page₀ walk₀ bytes₀ page walk bytes = length reads - walk .place .0
 
 loop-holds : tie.Need-loop-holds Inv-loop μ-loop
 loop-holds c =
-    filling-none (standing (c .before .before .args .start)) (now (c .before .before .args .reads))
+    filling-none (walkOf (c .before .before .args .start)) (now (c .before .before .args .reads))
     (now (c .before .before .args .page)) (c .before .before .pre .0)
 
 sub-loop : tie.Need-sub-loop Inv-loop μ-loop
@@ -47,7 +47,7 @@ turn-requires : tie.Need-turn-requires Inv-loop μ-loop
 turn-requires c κs =
     let l = c .before .before .before .loop in
     let a = c .before .before .before .before .before .before .args in (
-      ready-left (standing (l .walk)) (now (a .reads)) (l .inv .ready),
+      ready-left (walkOf (l .walk)) (now (a .reads)) (l .inv .ready),
       omega (
         arith,
         ap length (tail-all (l .bytes) (l .page)),
@@ -63,7 +63,7 @@ add-bytes c =
     let t = c .before .before .before .before .turn in
     omega (
       arith,
-      added-most (standing (a .start)) (now (a .reads)) (now (a .page)) (l .page) (standing (l .walk)) (l .bytes)
+      added-most (walkOf (a .start)) (now (a .reads)) (now (a .page)) (l .page) (walkOf (l .walk)) (l .bytes)
           (l .inv) _ _ _ _ (t .ensures) (t .kept .1 .1 .0),
       c .before .before .before .before .before .before .before .before .before .before .before .good .1 .1 .0 .0,
     )
@@ -73,7 +73,7 @@ same-length c =
     let l = c .before .before .before .before .before .before .before .before .before .before .loop in
     let a = c .before .before .before .before .before .before .before .before .before .before .before .before .before .args in
     let t = c .before .before .before .before .before .before .turn in
-    back-size (standing (a .start)) (now (a .reads)) (now (a .page)) (l .page) (standing (l .walk)) (l .bytes)
+    back-size (walkOf (a .start)) (now (a .reads)) (now (a .page)) (l .page) (walkOf (l .walk)) (l .bytes)
     (l .inv) _ _ _ _ (t .ensures) (t .kept .1 .1 .0)
 
 returns : tie.Need-returns Inv-loop μ-loop
@@ -82,7 +82,7 @@ returns c =
     let a = c .before .before .before .before .before .before .before .before .before .before .before .before .before .args in
     let t = c .before .before .before .before .before .before .turn in
     rw (not-true (t .result .more) (c .if1 .taken)) at
-    (filled-turn (standing (a .start)) (now (a .reads)) (now (a .page)) (l .page) (standing (l .walk)) (l .bytes)
+    (filled-turn (walkOf (a .start)) (now (a .reads)) (now (a .page)) (l .page) (walkOf (l .walk)) (l .bytes)
     (l .inv) _ _ _ _ (t .ensures) (t .kept .1 .1 .0))
 
 loop-less : tie.Need-loop-less Inv-loop μ-loop
@@ -93,9 +93,9 @@ loop-less c =
     let on = (not-false (t .result .more) (c .if1 .left)) in
     omega (
       arith,
-      turn-further (standing (a .start)) (now (a .reads)) (now (a .page)) (l .page) (standing (l .walk)) (l .bytes)
+      turn-further (walkOf (a .start)) (now (a .reads)) (now (a .page)) (l .page) (walkOf (l .walk)) (l .bytes)
           (l .inv) _ _ _ _ (t .ensures) (t .kept .1 .1 .0) on,
-      filling-turn (standing (a .start)) (now (a .reads)) (now (a .page)) (l .page) (standing (l .walk)) (l .bytes)
+      filling-turn (walkOf (a .start)) (now (a .reads)) (now (a .page)) (l .page) (walkOf (l .walk)) (l .bytes)
           (l .inv) _ _ _ _ (t .ensures) (t .kept .1 .1 .0) on .ready .within,
     )
 
@@ -104,7 +104,7 @@ loop-again c =
     let l = c .before .before .before .before .before .before .before .before .before .before .loop in
     let a = c .before .before .before .before .before .before .before .before .before .before .before .before .before .args in
     let t = c .before .before .before .before .before .before .turn in
-    filling-turn (standing (a .start)) (now (a .reads)) (now (a .page)) (l .page) (standing (l .walk)) (l .bytes)
+    filling-turn (walkOf (a .start)) (now (a .reads)) (now (a .page)) (l .page) (walkOf (l .walk)) (l .bytes)
     (l .inv) _ _ _ _ (t .ensures) (t .kept .1 .1 .0) (not-false (t .result .more) (c .if1 .left))
 
 same-length-2 : tie.Need-same-length-2 Inv-loop μ-loop

@@ -7,13 +7,13 @@ use borrow.Author.Tests.{not-false}
 use lib.ListN.{length, replicate, length-replicate}
 use lib.Seq.{length-take-le}
 use Rattle.page.specs.Lines.{headingLine}
-use Rattle.rows.specs.Page.{standing, Ready}
+use Rattle.rows.specs.Turns.{walkOf, Ready}
 use Rattle.rows.proofs.Turning.{put-within}
 use Rattle.rows.proofs.print_rows.Statement.{statement}
 use Rattle.rows.proofs.print_rows.Tie as tie
 
 abbrev Inv-loop : tie.InvT-loop
-Inv-loop reads page₀ heading walk₀ page walk = (length page ≡ 16384) × Ready (standing walk) (length reads)
+Inv-loop reads page₀ heading walk₀ page walk = (length page ≡ 16384) × Ready (walkOf walk) (length reads)
 
 abbrev μ-loop : tie.MeasureT-loop
 μ-loop reads page₀ heading walk₀ page walk = length reads - walk .place .0

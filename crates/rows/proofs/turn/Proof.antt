@@ -4,7 +4,7 @@ use mathlib.Core.Path.{refl}
 use native.Mathlib.Numerals.{add-one}
 use native.Mathlib.Omega.{arith}
 use Rattle.board.specs.declared.Event.the-variants.{Nothing, Row, Broken, Refused}
-use Rattle.rows.specs.Page.{standing}
+use Rattle.rows.specs.Turns.{walkOf}
 use Rattle.rows.proofs.Turning.{known, event-takes, turn-is}
 use borrow.Author.Needs.{needs}
 use Rattle.rows.proofs.turn.Statement.{statement}
@@ -17,7 +17,7 @@ add-place : tie.Need-add-place
 add-place c =
     omega (
       arith,
-      known (standing (c .before .before .before .before .args .walk))
+      known (walkOf (c .before .before .before .before .args .walk))
           (now (c .before .before .before .before .args .left)) (c .listen .result) (c .listen .ensures) .most,
       c .before .before .before .before .pre .0,
     )
@@ -38,7 +38,7 @@ sub-last : tie.Need-sub-last
 sub-last c =
     omega (
       arith,
-      event-takes (standing (c .before .before .before .before .before .before .before .before .args .walk))
+      event-takes (walkOf (c .before .before .before .before .before .before .before .before .args .walk))
           (now (c .before .before .before .before .before .before .before .before .args .left))
           (c .before .before .before .before .listen .result) (c .before .before .before .before .listen .ensures) Row
           (c .before .enum-told2 .given .1) refl,
@@ -63,7 +63,7 @@ sub-last-2 : tie.Need-sub-last-2
 sub-last-2 c =
     omega (
       arith,
-      event-takes (standing (c .before .before .before .before .before .before .before .before .args .walk))
+      event-takes (walkOf (c .before .before .before .before .before .before .before .before .args .walk))
           (now (c .before .before .before .before .before .before .before .before .args .left))
           (c .before .before .before .before .listen .result) (c .before .before .before .before .listen .ensures)
           (Broken (c .before .event .given .0 .0)) (c .before .event .given .1) refl,
@@ -90,7 +90,7 @@ same-length c = search needs
 returns : tie.Need-returns
 returns c =
     let a = c .before .before .before .before .before .before .before .before .before .before .before .before .args in
-    turn-is (standing (a .walk)) (now (a .left))
+    turn-is (walkOf (a .walk)) (now (a .left))
     (c .before .before .before .before .before .before .before .before .listen .result)
     (c .before .before .before .before .before .before .before .before .listen .ensures) Nothing
     (c .before .before .before .before .before .enum-told .given .1) (now (a .out)) _
@@ -105,7 +105,7 @@ returns-2 : tie.Need-returns-2
 returns-2 c =
     let a = c .before .before .before .before .before .before .before .before .before .before .before .before .before .before .args in
     rw (add-one (a .walk .rows))
-    (turn-is (standing (a .walk)) (now (a .left))
+    (turn-is (walkOf (a .walk)) (now (a .left))
     (c .before .before .before .before .before .before .before .before .before .before .listen .result)
     (c .before .before .before .before .before .before .before .before .before .before .listen .ensures) Row
     (c .before .before .before .before .before .before .before .enum-told2 .given .1) (now (a .out)) _
@@ -118,7 +118,7 @@ same-length-3 c = search needs
 returns-3 : tie.Need-returns-3
 returns-3 c =
     let a = c .before .before .before .before .before .before .before .before .before .before .before .before .before .args in
-    turn-is (standing (a .walk)) (now (a .left))
+    turn-is (walkOf (a .walk)) (now (a .left))
     (c .before .before .before .before .before .before .before .before .before .listen .result)
     (c .before .before .before .before .before .before .before .before .before .listen .ensures)
     (Broken (c .before .before .before .before .before .before .event .given .0 .0))
@@ -132,7 +132,7 @@ same-length-4 c = search needs
 returns-4 : tie.Need-returns-4
 returns-4 c =
     let a = c .before .before .before .before .before .before .before .before .before .before .before .before .before .args in
-    turn-is (standing (a .walk)) (now (a .left))
+    turn-is (walkOf (a .walk)) (now (a .left))
     (c .before .before .before .before .before .before .before .before .before .listen .result)
     (c .before .before .before .before .before .before .before .before .before .listen .ensures)
     (Refused (c .before .before .before .before .before .before .event2 .given .0 .0))

@@ -9,7 +9,7 @@ use Rattle.measure.specs.Choose.{choose}
 use Rattle.measure.specs.Ranges.{entriesMost}
 use Rattle.measure.specs.Lists.{onto}
 use Rattle.board.specs.Answers.{listened}
-use Rattle.page.specs.Walk.{Walk, onward, lineAt, goesOn, linesOf}
+use Rattle.page.specs.Walk.{Walk, afterTurn, lineAt, goesOn, linesOf}
 use Rattle.rows.specs.declared.Walk.{Walk as Stand}
 
 -- no line is longer than this
@@ -17,8 +17,8 @@ abbrev pub lineMost : ℕ
 lineMost = 1050
 
 -- where the program stands, as its way is defined
-abbrev pub standing : Stand → Walk
-standing w = record { receiver = w .receiver; place = w .place .0; rows = w .rows }
+abbrev pub walkOf : Stand → Walk
+walkOf w = record { receiver = w .receiver; place = w .place .0; rows = w .rows }
 
 -- the program stands somewhere in a stream of so many reads, which is within its limit, and no read brought two rows
 pub record Ready (w : Walk) (all : ℕ) : Type 0 where
@@ -28,13 +28,13 @@ pub record Ready (w : Walk) (all : ℕ) : Type 0 where
 
 -- the line of the next turn over the reads that are left
 abbrev pub turnLine : Walk → List ℕ → List ℕ
-turnLine w left = lineAt (onward w (listened (w .receiver) left)) (listened (w .receiver) left .0 .answer)
+turnLine w left = lineAt (afterTurn w (listened (w .receiver) left)) (listened (w .receiver) left .0 .answer)
 
 -- a turn: where the program stands after it, whether more lines follow, the line's length, and the buffer with the line
 -- at its front
 unfoldable pub turned : Walk → List ℕ → List ℕ → Walk × Bool × ℕ × List ℕ
 turned w left out = (
-  onward w (listened (w .receiver) left),
+  afterTurn w (listened (w .receiver) left),
   goesOn (listened (w .receiver) left .0 .answer),
   length (turnLine w left),
   onto (turnLine w left) out,

@@ -1,8 +1,7 @@
--- 01, "Rows program": text as bytes, the fixed words and numbers in decimal.
-use Prim.Native.Nat.{ℕ, zero, suc, _+_, _/_, _%_}
-use mathlib.Core.List.{List, [], _∷_, _++_}
-use lib.Dec.{ltb}
-use Rattle.measure.specs.Choose.{choose}
+-- 01, "Rows program": its fixed words, and bits, as bytes.
+use Prim.Native.Nat.{ℕ}
+use mathlib.Core.List.{List, [], _∷_}
+use Rattle.text.specs.Decimal.{digit}
 
 -- a line feed
 abbrev pub feed : List ℕ
@@ -36,21 +35,7 @@ refusedText = 114 ∷ 101 ∷ 102 ∷ 117 ∷ 115 ∷ 101 ∷ 100 ∷ 32 ∷ []
 abbrev pub atText : List ℕ
 atText = 32 ∷ 97 ∷ 116 ∷ 32 ∷ []
 
--- the byte of a digit, or of a bit
-abbrev pub digit : ℕ → ℕ
-digit d = 48 + d
-
--- a number in decimal, highest digit first with no zero before it, so many digits at most
-unfoldable pub decimalIn : ℕ → ℕ → List ℕ
-decimalIn zero n = []
-decimalIn (suc digits) n =
-    choose (ltb n 10) (digit n ∷ []) (decimalIn digits (n / 10) ++ digit (n % 10) ∷ [])
-
--- a number below 2^64 has at most twenty digits
-abbrev pub decimal : ℕ → List ℕ
-decimal n = decimalIn 20 n
-
--- bits one behind another
+-- bits one after another, a digit each
 unfoldable pub bitsText : List ℕ → List ℕ
 bitsText [] = []
 bitsText (bit ∷ bits) = digit bit ∷ bitsText bits

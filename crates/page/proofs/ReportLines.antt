@@ -21,38 +21,12 @@ use Rattle.board.proofs.PackedBits.{Binary, binary-take}
 use Rattle.board.proofs.RowRules.{Valid, valid-next}
 use Rattle.board.proofs.Standing.{state-of-receiver, well-formed-of}
 use Rattle.board.proofs.FeedingLaws.{later, reports-later}
+use Rattle.board.proofs.HeardLaws.{Some, First, first-report, valid-after, listened-levels}
 use Rattle.page.specs.Lines.{eventLine, endLine, eventLines, oneMore, rowsIn}
-use Rattle.page.specs.Walk.{Walk, onward, lineAt, goesOn, linesFrom}
-use Rattle.page.proofs.Firsts.{Some, First, first-report}
+use Rattle.page.specs.Walk.{Walk, afterTurn, lineAt, goesOn, linesFrom}
 
-pub levels-all : (reads : List ℕ) → Binary reads → firstAbove 1 reads ≡ length reads
-unfolding firstAbove
-levels-all [] b = refl
-levels-all (read ∷ reads) b = rw (le-leb read 1 (b 0)) (ap suc (levels-all reads (λ i. b (suc i))))
-
-valid-after : (g : Settings) (s : State) (reads : List ℕ) → Valid g s → Binary reads → Valid g (after g s reads)
-unfolding afterBy
-valid-after g s [] v b = v
-valid-after g s (read ∷ reads) v b =
-    valid-after g (next g s read .state) reads (valid-next g s read v (b 0)) (λ i. b (suc i))
-
--- listening to levels, from a well formed state and within the limit, is not refused
-pub listened-levels : (g : Settings) (s : State) (reads : List ℕ) → Valid g s → Binary reads
-    → length reads ≤ entriesMost
-    → listened (receiverOf g s) reads ≡ toEvent g s reads (reports g s 0 reads)
-unfolding listened
-listened-levels g s reads v b h =
-    rw (
-      well-formed-of g s v,
-      le-ltb entriesMost (length reads) h,
-      levels-all reads b,
-      le-ltb (length reads) (length reads) (omega arith),
-      take-length reads,
-      state-of-receiver g s v,
-    )
 
 -- what an event does in a turn
-
 line-event : (w : Walk) (event : Event) → Some event → lineAt w (given event) ≡ eventLine (w .place - 1) event
 line-event w nothing some = absurd some
 line-event w (row bits) some = refl
@@ -86,16 +60,16 @@ page-more end report more rows =
     (sym (append-assoc (eventLine (report .place) (report .event)) (eventLines more)
     (endLine end (rowsIn more + oneMore (report .event) rows))))
 
-pub lines-from : (g : Settings) (turns : ℕ) (s : State) (place rows : ℕ) (reads : List ℕ) → Valid g s → Binary reads
+pub report-lines : (g : Settings) (turns : ℕ) (s : State) (place rows : ℕ) (reads : List ℕ) → Valid g s → Binary reads
     → length reads ≤ entriesMost → length reads < turns
     → linesFrom turns (record { receiver = receiverOf g s; place = place; rows = rows }) reads
     ≡ pageFrom (place + length reads) (reports g s place reads) rows
 unfolding linesFrom
-lines-from g zero s place rows reads v b h t = absurd (omega arith)
-lines-from g (suc turns) s place rows reads v b h t =
+report-lines g zero s place rows reads v b h t = absurd (omega arith)
+report-lines g (suc turns) s place rows reads v b h t =
     let e : reports g s place reads ≡ map (later place) (reports g s 0 reads) =
     rw zero-add at (reports-later (next g) s 0 place reads) in
-    rw (listened-levels g s reads v b h, e) (go (reports g s 0 reads) refl (lines-from g turns))
+    rw (listened-levels g s reads v b h, e) (go (reports g s 0 reads) refl (report-lines g turns))
   where
     w : Walk
     w = record { receiver = receiverOf g s; place = place; rows = rows }
@@ -105,9 +79,9 @@ lines-from g (suc turns) s place rows reads v b h t =
         → length reads < turns
         → linesFrom turns (record { receiver = receiverOf g s; place = place; rows = rows }) reads
         ≡ pageFrom (place + length reads) (reports g s place reads) rows)
-        → lineAt (onward w (toEvent g s reads told)) (toEvent g s reads told .0 .answer)
+        → lineAt (afterTurn w (toEvent g s reads told)) (toEvent g s reads told .0 .answer)
         ++ choose (goesOn (toEvent g s reads told .0 .answer))
-        (linesFrom turns (onward w (toEvent g s reads told)) (drop (toEvent g s reads told .1) reads)) []
+        (linesFrom turns (afterTurn w (toEvent g s reads told)) (drop (toEvent g s reads told .1) reads)) []
         ≡ pageFrom (place + length reads) (map (later place) told) rows
     go [] e rest = page-none (place + length reads) rows
     go (report ∷ more) e rest =
@@ -134,7 +108,7 @@ lines-from g (suc turns) s place rows reads v b h t =
         let here : place + n - 1 ≡ report .place + place = omega arith in
         let whole : place + n + length left ≡ place + length reads = omega arith in
         rw (
-          line-event (onward w (toEvent g s reads (report ∷ more))) (report .event) (f .some),
+          line-event (afterTurn w (toEvent g s reads (report ∷ more))) (report .event) (f .some),
           goes-event (report .event) (f .some),
           more-lines,
           all,
