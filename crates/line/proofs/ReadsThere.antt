@@ -18,12 +18,12 @@ use Rattle.line.proofs.Clocks.{Clocks, reads-in-order, reads-take}
 use Rattle.line.proofs.LookLaws.{look-most}
 
 -- the reads from read j on, at most so many, where the last cycle ends at `end`
-abbrev pub readsFrom : (ℕ → ℕ) → (ℕ → ℕ) → List ℕ → ℕ → ℕ → ℕ → List ℕ
+abbrev pub readsFrom : (starts reads : ℕ → ℕ) (levels : List ℕ) (end most j : ℕ) → List ℕ
 readsFrom starts reads levels end most j =
     warpFrom most starts reads end j (firstLeft starts reads levels j) (drop (firstLeft starts reads levels j) levels)
 
 -- what read j is, by the definition
-abbrev pub readAt : (ℕ → ℕ) → (ℕ → ℕ) → List ℕ → ℕ → ℕ
+abbrev pub readAt : (starts reads : ℕ → ℕ) (levels : List ℕ) (j : ℕ) → ℕ
 readAt starts reads levels j =
     look starts (reads (suc j)) (firstLeft starts reads levels j) (drop (firstLeft starts reads levels j) levels)
 

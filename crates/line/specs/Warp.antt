@@ -6,15 +6,15 @@ use lib.Dec.{eqb, leb, ltb}
 use Rattle.measure.specs.Choose.{choose}
 
 -- A clock is given by when each of its cycles starts: the writer's cycle i at i·w.
-abbrev pub cycleStart : ℕ → ℕ → ℕ
+abbrev pub cycleStart : (w i : ℕ) → ℕ
 cycleStart w i = i * w
 
 -- and read j at p + j·r
-abbrev pub readStart : ℕ → ℕ → ℕ → ℕ
+abbrev pub readStart : (p r j : ℕ) → ℕ
 readStart p r j = p + j * r
 
 -- two levels that are equal are that level, and otherwise unknown
-abbrev pub reconcile : ℕ → ℕ → ℕ
+abbrev pub reconcile : (one other : ℕ) → ℕ
 reconcile one other = choose (eqb one other) one 2
 
 -- What a read that ends at time t is. It starts with cycle i, the first one left, and goes on to the next while the

@@ -65,7 +65,7 @@ module _ {tw tr S D : ℕ → ℕ} {w1 w2 r1 r2 end : ℕ} (wclk : Clock tw w1 w
   -- The receiver counts after the mark m of the cell at c, for which it waited at v from read j on, and has the bits
   -- bs. It delivers those and the bits of the cells from c on, with the last sample that the counted rule finds from
   -- read j on.
-  abbrev Delivered : ℕ → ℕ → ℕ → ℕ → List ℕ → List ℕ → ℕ → Type 0
+  abbrev Delivered : (j m ρ v : ℕ) (bs bits : List ℕ) (c : ℕ) → Type 0
   Delivered j m ρ v bs bits c =
       (s : ℕ) × (σ : ℕ)
       × Goes k n Q D (suc m) (counting k (1 - v) ρ bs) (deliveredAt s (bs ++ bits) ∷ []) (suc s) (hunting σ)
