@@ -24,19 +24,19 @@ number-size-requires : tie.Need-number-size-requires
 number-size-requires c κs = search needs
 
 add-if1 : tie.Need-add-if1
-add-if1 c = omega (arith, size-most (c .number-size .ensures))
+add-if1 c = omega (arith, size-most _ (c .number-size .ensures))
 
 add-if1-2 : tie.Need-add-if1-2
-add-if1-2 c = omega (arith, size-most (c .number-size .ensures))
+add-if1-2 c = omega (arith, size-most _ (c .number-size .ensures))
 
 number-size-requires-2 : tie.Need-number-size-requires-2
 number-size-requires-2 c κs = search needs
 
 add-if1-3 : tie.Need-add-if1-3
-add-if1-3 c = omega (arith, size-most (c .before .number-size .ensures), size-most (c .number-size2 .ensures))
+add-if1-3 c = omega (arith, size-most _ (c .before .number-size .ensures), size-most _ (c .number-size2 .ensures))
 
 add-if1-4 : tie.Need-add-if1-4
-add-if1-4 c = omega (arith, size-most (c .before .number-size .ensures), size-most (c .number-size2 .ensures))
+add-if1-4 c = omega (arith, size-most _ (c .before .number-size .ensures), size-most _ (c .number-size2 .ensures))
 
 returns : tie.Need-returns
 returns c =

@@ -21,10 +21,10 @@ number-size-requires : tie.Need-number-size-requires
 number-size-requires c κs = search needs
 
 add-others : tie.Need-add-others
-add-others c = omega (arith, size-most (c .number-size .ensures))
+add-others c = omega (arith, size-most _ (c .number-size .ensures))
 
 add-others-2 : tie.Need-add-others-2
-add-others-2 c = omega (arith, size-most (c .number-size .ensures))
+add-others-2 c = omega (arith, size-most _ (c .number-size .ensures))
 
 returns : tie.Need-returns
 returns c =
