@@ -1,12 +1,11 @@
--- What a capture that is accepted has: settings in range, a first level that is one, and reads that are levels and no more
--- than a stream may have.
+-- What a capture that is accepted has: settings in range, a first level that is one, and reads that are levels and no
+-- more than a stream may have.
 use Prim.Native.Nat.{ℕ, zero, suc, _-_, _≤_}
-use mathlib.Core.Path.{_≡_, ap, _∙_}
+use mathlib.Core.Path.{_≡_}
 use mathlib.Core.Bool.{true}
 use mathlib.Core.List.{List, [], _∷_, _++_}
 use native.Mathlib.Omega.{arith}
 use lib.ListN.{length, getD, replicate}
-use Rattle.measure.specs.Choose.{between}
 use Rattle.measure.specs.Ranges.{sampling, rowBits, quiet, entriesMost, settingsFit}
 use Rattle.measure.specs.Refusals.{given}
 use Rattle.capture.specs.Capture.{Heading, Capture, fourNumbers, runsFrom, withRuns, capture, readsOfRuns}

@@ -14,7 +14,8 @@ use Rattle.capture.specs.Numbers.{Numeral, numberAt}
 use Rattle.capture.specs.Capture.{then, fittingAt, joined, fitsAfter, someRunsFrom, runsFrom, totalMost}
 use Rattle.capture.specs.Capture.{readsOfRuns}
 use Rattle.capture.proofs.Places.{number-on}
-use Rattle.capture.proofs.Headings.{then-given, then-same, fitting-refused, fitting-in, fitting-out, fitting-given}
+use Rattle.capture.proofs.Headings.{then-given, then-same, fitting-refused, fitting-in, fitting-out}
+use Rattle.capture.proofs.Headings.{fitting-given}
 
 -- the runs from a place before the end go by the number there
 module _ (most total : ℕ) (s : List ℕ) (at : ℕ) where

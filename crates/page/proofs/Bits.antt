@@ -1,11 +1,11 @@
 -- A row's bits on its line: each bit is one byte of text, and there are as many as are asked for, or all where they are
 -- fewer.
-use mathlib.Core.Path.{_≡_, refl, sym, ap, _∙_}
+use mathlib.Core.Path.{_≡_, refl, sym, ap}
 use mathlib.Core.List.{List, [], _∷_}
-use Prim.Native.Nat.{ℕ, zero, suc, _+_, _*_, _/_, _%_, _^_, _≤_, _<_}
+use Prim.Native.Nat.{ℕ, zero, suc, _*_, _/_, _≤_, _<_}
 use native.Mathlib.Omega.{arith}
-use lib.ListN.{length, take, getD, length-take, List·getD-append}
-use lib.Seq.{getD-append-add, length-take-le, take-all}
+use lib.ListN.{length, take, getD, length-take}
+use lib.Seq.{length-take-le, take-all}
 use Rattle.board.specs.Packed.{unpacked}
 use Rattle.board.proofs.PackedBits.{length-unpacked}
 use Rattle.text.specs.Decimal.{digit}

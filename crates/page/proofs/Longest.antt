@@ -1,9 +1,8 @@
 -- No line is longer than twenty digits, a row's word, 1,024 bits and a line feed: numbers have at most twenty digits,
 -- and a row comes in 128 bytes.
-use Prim.Native.Nat.{ℕ, zero, suc, _-_, _/_, _≤_}
-use mathlib.Core.Path.{_≡_, refl}
+use Prim.Native.Nat.{ℕ, _-_, _≤_}
+use mathlib.Core.Path.{_≡_}
 use mathlib.Core.List.{List, []}
-use native.Mathlib.Decide.{decLe}
 use native.Mathlib.Omega.{arith}
 use lib.ListN.{length, take}
 use Rattle.measure.specs.Refusals.{numberOf, placeOf}

@@ -6,25 +6,21 @@ use mathlib.Core.Bool.{true}
 use mathlib.Core.List.{List, [], _∷_, _++_, map, append-assoc, append-nil}
 use native.Mathlib.Nat.{zero-add}
 use native.Mathlib.Omega.{arith}
-use borrow.Author.Tests.{le-ltb, le-leb}
 use lib.ListN.{length, take, drop, length-drop}
-use lib.Seq.{take-length, getD-drop}
+use lib.Seq.{getD-drop}
 use Rattle.measure.specs.Choose.{choose}
 use Rattle.measure.specs.Ranges.{entriesMost}
-use Rattle.measure.specs.Lists.{firstAbove}
 use Rattle.measure.specs.Refusals.{given}
 use Rattle.board.specs.Rows.{Settings, State, Event, nothing, row, broken, next}
-use Rattle.board.specs.Feeding.{Report, reports, after, afterBy}
+use Rattle.board.specs.Feeding.{Report, reports, after}
 use Rattle.board.specs.Packed.{receiverOf}
-use Rattle.board.specs.Answers.{listened, toEvent}
+use Rattle.board.specs.Answers.{toEvent}
 use Rattle.board.proofs.PackedBits.{Binary, binary-take}
-use Rattle.board.proofs.RowRules.{Valid, valid-next}
-use Rattle.board.proofs.Standing.{state-of-receiver, well-formed-of}
+use Rattle.board.proofs.RowRules.{Valid}
 use Rattle.board.proofs.FeedingLaws.{later, reports-later}
 use Rattle.board.proofs.HeardLaws.{Some, First, first-report, valid-after, listened-levels}
 use Rattle.page.specs.Lines.{eventLine, endLine, eventLines, oneMore, rowsIn}
 use Rattle.page.specs.Walk.{Walk, afterTurn, lineAt, goesOn, linesFrom}
-
 
 -- what an event does in a turn
 line-event : (w : Walk) (event : Event) → Some event → lineAt w (given event) ≡ eventLine (w .place - 1) event

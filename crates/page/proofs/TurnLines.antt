@@ -1,6 +1,6 @@
 -- A turn that goes on leaves fewer reads, since an event takes at least the read that brings it; so the number of turns
 -- does not matter once it passes that of the reads.
-use Prim.Native.Nat.{ℕ, zero, suc, _+_, _≤_, _<_}
+use Prim.Native.Nat.{ℕ, zero, suc, _+_, _<_}
 use mathlib.Core.Path.{_≡_, refl, ap}
 use mathlib.Core.Bool.{Bool, true, false}
 use mathlib.Core.List.{List, [], _++_}
@@ -74,7 +74,8 @@ turn-lines w left =
         → choose more
         (linesFrom (length left) (afterTurn w (listened (w .receiver) left))
         (drop (listened (w .receiver) left .1) left)) []
-        ≡ choose more (linesOf (afterTurn w (listened (w .receiver) left)) (drop (listened (w .receiver) left .1) left)) []
+        ≡ choose more
+        (linesOf (afterTurn w (listened (w .receiver) left)) (drop (listened (w .receiver) left .1) left)) []
     go true e =
         enough (length left) (length (drop (listened (w .receiver) left .1) left) + 1)
         (afterTurn w (listened (w .receiver) left)) (drop (listened (w .receiver) left .1) left)

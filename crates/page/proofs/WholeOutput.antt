@@ -1,11 +1,10 @@
 -- What the program writes on its way is the whole output: its reads are the accepted capture's, and the lines from
 -- fresh on are those of all their reports.
-use Prim.Native.Nat.{ℕ, _+_, _≤_}
+use Prim.Native.Nat.{ℕ, _+_}
 use mathlib.Core.Path.{_≡_, refl, ap, _∙_}
 use mathlib.Core.List.{List, _++_}
 use native.Mathlib.Nat.{add-zero, zero-add}
 use native.Mathlib.Omega.{arith}
-use borrow.Author.Tests.{le-ltb}
 use lib.Dec.{ltb}
 use lib.ListN.{length, drop}
 use lib.Seq.{take-append-seam}
@@ -40,7 +39,10 @@ module _ (c : Capture) (good : Good c) where
       (report-lines (captureSettings c) (length (captureReads c) + 1) fresh 0 0 (captureReads c)
       (valid-fresh (captureSettings c) (ranged-of (captureSettings c) (good .fit))) (good .levels) (good .few)
       (omega arith)
-      ∙ rw (zero-add (length (captureReads c)), add-zero (rowsIn (reports (captureSettings c) fresh 0 (captureReads c)))))
+      ∙ rw (
+        zero-add (length (captureReads c)),
+        add-zero (rowsIn (reports (captureSettings c) fresh 0 (captureReads c))),
+      ))
 
 wrote-printed : (input reads : List ℕ) → length reads ≡ entriesMost
     → wroteBy (readBack input reads .0) (readBack input reads .1) ≡ printed (capture input)

@@ -129,9 +129,7 @@ pub fn put_end(reads: ReadCycles, rows: usize, out: &mut [u8]) -> Put
     ensures { λ x. ⌜ lent (endLine (reads .0) rows) (now (out .entry)) ≡ (putSays x, now (out .exit)) ⌝ }
 {
     let total = reads.0;
-    if out.len()
-        < END.len() + number_size(total) + ROWS.len() + number_size(rows) + FEED.len()
-    {
+    if out.len() < END.len() + number_size(total) + ROWS.len() + number_size(rows) + FEED.len() {
         return Put::Refused(Refusal::Room);
     }
     let a = put_text(out, 0, &END);

@@ -2,7 +2,7 @@
 -- where it began.
 use Prim.Native.Nat.{ℕ, _+_, _-_, _≤_, _<_}
 use mathlib.Core.Path.{_≡_, refl, sym, ap, subst, _∙_}
-use mathlib.Core.Bool.{Bool, true}
+use mathlib.Core.Bool.{Bool, true, false}
 use mathlib.Core.List.{List, [], _++_, append-assoc, append-nil}
 use native.Mathlib.Omega.{arith}
 use lib.ListN.{length, take, drop, length-append, length-drop, drop-of-length-le}
@@ -13,7 +13,8 @@ use Rattle.measure.specs.Refusals.{Answer, given, refused, refusedAfter}
 use Rattle.board.specs.Rows.{Event, nothing, row, broken}
 use Rattle.board.specs.Answers.{Outcome, listened}
 use Rattle.page.specs.Walk.{Walk, rowsAfter, afterTurn, goesOn, linesOf}
-use Rattle.page.proofs.Heard.{Heard, heard-all, turn-lines}
+use Rattle.board.proofs.HeardLaws.{Heard, heard-all}
+use Rattle.page.proofs.TurnLines.{goes-brings, turn-lines}
 use Rattle.rows.specs.Turns.{Ready, turnLine, turned, Filled}
 
 -- the part of a list from a place to its end, as it is lent
@@ -57,7 +58,7 @@ filling-none w reads page r =
 
 -- reads bring no more rows than they are
 rows-most : (all rows : ℕ) (heard : Outcome × ℕ) → Heard all heard → rowsAfter (heard .0 .answer) rows ≤ rows + heard .1
-rows-most all rows heard h = go (heard .0 .answer) (h .least)
+rows-most all rows heard h = go (heard .0 .answer) (λ e. h .least (goes-brings (heard .0 .answer) e))
   where
     go : (answer : Answer Event) → (goesOn answer ≡ true → 1 ≤ heard .1) → rowsAfter answer rows ≤ rows + heard .1
     go (given nothing) least = omega arith
@@ -74,6 +75,19 @@ line-behind page line bytes h =
     ap (λ (k : ℕ). take (k + length line) (take bytes page ++ onto line (drop bytes page))) (sym n)
     ∙ take-append-add (take bytes page) (onto line (drop bytes page)) (length line)
     ∙ rw (take-append-seam line (drop (length line) (drop bytes page)))
+
+-- a page with the part from so many bytes on as it came back: what lies beyond that part is nothing
+abbrev pub back : List ℕ → ℕ → List ℕ → List ℕ
+back page bytes out = take bytes page ++ (out ++ drop (length page - bytes) (drop bytes page))
+
+-- what a turn makes of a page that is being filled
+pub record Turned (w : Walk) (reads page₀ page : List ℕ) (at : Walk) (bytes : ℕ) (after : Walk) (more : Bool) (n : ℕ)
+    (out : List ℕ) : Type 0 where
+  pub size : length (back page bytes out) ≡ length page₀
+  pub most : bytes + n ≤ length page₀
+  pub last : more ≡ false → Filled w reads (back page bytes out) after false (bytes + n)
+  pub further : more ≡ true → at .place < after .place
+  pub filling : more ≡ true → Filling w reads page₀ (back page bytes out) after (bytes + n)
 
 module _ (w : Walk) (reads page₀ page : List ℕ) (at : Walk) (bytes : ℕ) (f : Filling w reads page₀ page at bytes) where
   left : List ℕ
@@ -117,66 +131,51 @@ module _ (w : Walk) (reads page₀ page : List ℕ) (at : Walk) (bytes : ℕ) (f
               few = r .few;
               fewer = omega (arith, rows-most (length left) (at .rows) heard known, r .fewer);
             };
-        further = λ e. omega (arith, known .least e, f .onwards);
+        further = λ e. omega (arith, known .least (goes-brings (heard .0 .answer) e), f .onwards);
       }
 
-  -- The turn as it was told. A part of a list up to its end is lent by its length, and comes back before what lies
-  -- beyond it, which is nothing.
-  module _ (after : Walk) (more : Bool) (n : ℕ) (out : List ℕ)
-      (e : turned at (tail (at .place) reads) (tail bytes page) ≡ (after, more, n, out))
-      (kept : length out ≡ length (tail bytes page)) where
-    told : turned at (drop (at .place) reads) (drop bytes page) ≡ (after, more, n, out)
-    told = rw (tail-all (at .place) reads, tail-all bytes page) at e
-
-    size : length out ≡ length page - bytes
-    size = kept ∙ rw (tail-all bytes page) (length-drop bytes page)
-
-    abbrev pub back : List ℕ
-    back = take bytes page ++ (out ++ drop (length page - bytes) (drop bytes page))
-
-    back-is : back ≡ take bytes page ++ out
-    back-is = rw (tail-none bytes page, append-nil out)
-
-    pub back-size : length back ≡ length page₀
-    back-size =
-        rw back-is
-        (length-append (take bytes page) out
-        ∙ omega (arith, size, length-take-le bytes page (f .room), f .room, f .size))
-
-    pub filled-turn : Filled w reads back after more (bytes + n)
-    unfolding turned left heard
-    filled-turn =
-        let out-is : onto (turnLine at left) (drop bytes page) ≡ out =
-        ap (λ (t : Walk × Bool × ℕ × List ℕ). t .3) told in
-        let whole : length out
-        ≡ length (turnLine at left) + length (drop (length (turnLine at left)) (drop bytes page)) =
-        ap length (sym out-is)
-        ∙ length-append (turnLine at left) (drop (length (turnLine at left)) (drop bytes page)) in
-        rw back-is
-        (subst (λ (t : Walk × Bool × ℕ × List ℕ). Filled w reads (take bytes page ++ t .3) (t .0) (t .1)
-        (bytes + t .2)) told
-        (filled-defined (omega (arith, size, whole))))
-
-    pub added-most : bytes + n ≤ length page₀
-    added-most = omega (arith, filled-turn .room, back-size)
-
-    -- where it goes on, the page is filled further, and fewer reads are left
-
-    pub turn-further : more ≡ true → at .place < after .place
-    unfolding turned left heard
-    turn-further on =
-        let more-is : goesOn (heard .0 .answer) ≡ more = ap (λ (t : Walk × Bool × ℕ × List ℕ). t .1) told in
-        let place-is : at .place + heard .1 ≡ after .place = ap (λ (t : Walk × Bool × ℕ × List ℕ). t .0 .place) told in
-        omega (arith, known .least (more-is ∙ on), place-is)
-
-    pub filling-turn : more ≡ true → Filling w reads page₀ back after (bytes + n)
-    filling-turn on =
-        let g : Filled w reads back after true (bytes + n) = rw on at filled-turn in
-        record {
-          lines = g .lines;
-          room = g .room;
-          size = back-size;
-          ready = g .ready;
-          onwards = omega (arith, f .onwards, turn-further on);
-          further = λ _. omega (arith, f .onwards, turn-further on);
-        }
+  -- The turn as the code has it: the part of a list up to its end is lent by its length.
+  pub turned-page : (after : Walk) (more : Bool) (n : ℕ) (out : List ℕ)
+      → turned at (tail (at .place) reads) (tail bytes page) ≡ (after, more, n, out)
+      → length out ≡ length (tail bytes page) → Turned w reads page₀ page at bytes after more n out
+  unfolding turned left heard
+  turned-page after more n out e kept =
+      let told : turned at (drop (at .place) reads) (drop bytes page) ≡ (after, more, n, out) =
+      rw (tail-all (at .place) reads, tail-all bytes page) at e in
+      let size : length out ≡ length page - bytes = kept ∙ rw (tail-all bytes page) (length-drop bytes page) in
+      let back-is : back page bytes out ≡ take bytes page ++ out = rw (tail-none bytes page, append-nil out) in
+      let back-size : length (back page bytes out) ≡ length page₀ =
+      rw back-is
+      (length-append (take bytes page) out
+      ∙ omega (arith, size, length-take-le bytes page (f .room), f .room, f .size)) in
+      let out-is : onto (turnLine at left) (drop bytes page) ≡ out =
+      ap (λ (t : Walk × Bool × ℕ × List ℕ). t .3) told in
+      let whole : length out
+      ≡ length (turnLine at left) + length (drop (length (turnLine at left)) (drop bytes page)) =
+      ap length (sym out-is)
+      ∙ length-append (turnLine at left) (drop (length (turnLine at left)) (drop bytes page)) in
+      let filled : Filled w reads (back page bytes out) after more (bytes + n) =
+      rw back-is
+      (subst (λ (t : Walk × Bool × ℕ × List ℕ). Filled w reads (take bytes page ++ t .3) (t .0) (t .1)
+      (bytes + t .2)) told
+      (filled-defined (omega (arith, size, whole)))) in
+      let more-is : goesOn (heard .0 .answer) ≡ more = ap (λ (t : Walk × Bool × ℕ × List ℕ). t .1) told in
+      let place-is : at .place + heard .1 ≡ after .place = ap (λ (t : Walk × Bool × ℕ × List ℕ). t .0 .place) told in
+      let further : more ≡ true → at .place < after .place =
+      λ on. omega (arith, known .least (goes-brings (heard .0 .answer) (more-is ∙ on)), place-is) in
+      record {
+        size = back-size;
+        most = omega (arith, filled .room, back-size);
+        last = λ off. rw off at filled;
+        further = further;
+        filling = λ on.
+            let on-filled : Filled w reads (back page bytes out) after true (bytes + n) = rw on at filled in
+            record {
+              lines = on-filled .lines;
+              room = on-filled .room;
+              size = back-size;
+              ready = on-filled .ready;
+              onwards = omega (arith, f .onwards, further on);
+              further = λ _. omega (arith, f .onwards, further on);
+            };
+      }

@@ -1,5 +1,5 @@
--- A turn's line fits a buffer that has room for the longest, so it is put whole; where the program stands after it is
--- eventSays by the receiver's answer.
+-- A turn's line fits a buffer that has room for the longest, so it is put whole; where the program stands after it
+-- follows from the receiver's answer.
 use Prim.Native.Nat.{ℕ, _+_, _≤_}
 use mathlib.Core.Path.{_≡_, sym, ap, _∙_}
 use mathlib.Core.Bool.{true}
@@ -18,7 +18,8 @@ use Rattle.page.specs.Answers.{putSays}
 use Rattle.page.specs.Walk.{Walk, rowsAfter, lineAt, goesOn}
 use Rattle.page.specs.declared.Put.{Put}
 use Rattle.page.specs.declared.Put.the-variants.{Line, Refused}
-use Rattle.page.proofs.Heard.{Heard, heard-all}
+use Rattle.board.proofs.HeardLaws.{Heard, heard-all}
+use Rattle.page.proofs.TurnLines.{goes-brings}
 use Rattle.page.proofs.Longest.{longest}
 use Rattle.rows.specs.Turns.{lineMost, turned}
 
@@ -65,7 +66,8 @@ module _ (w : Walk) (left : List ℕ) (heard : Listened) (e : listened (w .recei
   -- an event takes at least the read that brings it
   pub event-takes : (event : CodeEvent) → heard .event ≡ event
       → goesOn (eventSays (heard .receiver .n) (heard .row) event) ≡ true → 1 ≤ heard .used .0
-  event-takes event is on = known .least (rw is on)
+  event-takes event is on =
+      known .least (goes-brings (eventSays (heard .receiver .n) (heard .row) (heard .event)) (rw is on))
 
   pub turn-is : (event : CodeEvent) → heard .event ≡ event → (out out′ : List ℕ) (put : Put) (bytes : ℕ)
       → lineMost ≤ length out

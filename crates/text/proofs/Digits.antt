@@ -36,6 +36,9 @@ digits-most (suc digits) n = go (decLe 10 n) (digits-most digits (n / 10))
 pub decimal-most : (n : ℕ) → length (decimal n) ≤ digitsMost
 decimal-most n = digits-most digitsMost n
 
+pub size-most : (n : ℕ) {size : ℕ} → size ≡ length (decimal n) → size ≤ digitsMost
+size-most n e = omega (arith, decimal-most n)
+
 -- what is left of a number after its last digits, so many digits at most
 pub record Left (digits left : ℕ) : Type 0 where
   pub some : 1 ≤ digits

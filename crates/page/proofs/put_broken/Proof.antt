@@ -3,7 +3,7 @@ use denote.Ref.{now}
 use native.Mathlib.Omega.{arith}
 use borrow.Author.Needs.{needs}
 use Rattle.text.specs.Decimal.{decimal}
-use Rattle.text.proofs.Digits.{decimal-most}
+use Rattle.text.proofs.Digits.{size-most}
 use Rattle.text.proofs.PutLaws.{put-four, four-short}
 use Rattle.page.specs.Words.{brokenText, feed}
 use Rattle.page.proofs.put_broken.Statement.{statement}
@@ -13,32 +13,16 @@ number-size-requires : tie.Need-number-size-requires
 number-size-requires c κs = search needs
 
 add-if1 : tie.Need-add-if1
-add-if1 c = omega (arith, c .number-size .ensures, decimal-most (c .before .before .args .place .0))
+add-if1 c = omega (arith, size-most _ (c .number-size .ensures))
 
 number-size-requires-2 : tie.Need-number-size-requires-2
 number-size-requires-2 c κs = search needs
 
 add-if1-2 : tie.Need-add-if1-2
-add-if1-2 c =
-    let a = c .before .before .before .args in
-    omega (
-      arith,
-      c .before .number-size .ensures,
-      c .number-size2 .ensures,
-      decimal-most (a .place .0),
-      decimal-most (a .found),
-    )
+add-if1-2 c = omega (arith, size-most _ (c .before .number-size .ensures), size-most _ (c .number-size2 .ensures))
 
 add-if1-3 : tie.Need-add-if1-3
-add-if1-3 c =
-    let a = c .before .before .before .args in
-    omega (
-      arith,
-      c .before .number-size .ensures,
-      c .number-size2 .ensures,
-      decimal-most (a .place .0),
-      decimal-most (a .found),
-    )
+add-if1-3 c = omega (arith, size-most _ (c .before .number-size .ensures), size-most _ (c .number-size2 .ensures))
 
 returns : tie.Need-returns
 returns c =

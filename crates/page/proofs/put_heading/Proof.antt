@@ -21,7 +21,8 @@ same-length c = search needs
 returns-2 : tie.Need-returns-2
 returns-2 c =
     let fits = c .before .before .before .before .before in
-    put-one headingLine (now (fits .before .before .args .out)) _ _ (fits .if1 .left) (c .before .before .put-text .ensures)
+    put-one headingLine (now (fits .before .before .args .out)) _ _ (fits .if1 .left)
+    (c .before .before .put-text .ensures)
 
 pub put-heading-spec : {M : Type 1} → statement M
 put-heading-spec =

@@ -7,7 +7,7 @@ use native.Mathlib.Omega.{arith}
 use borrow.Author.Needs.{needs}
 use Rattle.measure.specs.Refusals.{lent}
 use Rattle.text.specs.Decimal.{decimal}
-use Rattle.text.proofs.Digits.{decimal-most}
+use Rattle.text.proofs.Digits.{size-most}
 use Rattle.text.proofs.PutLaws.{put-five, five-short}
 use Rattle.page.specs.Words.{refusedText, atText, feed}
 use Rattle.page.proofs.Longest.{refused-same}
@@ -24,35 +24,19 @@ number-size-requires : tie.Need-number-size-requires
 number-size-requires c κs = search needs
 
 add-if1 : tie.Need-add-if1
-add-if1 c = omega (arith, c .number-size .ensures, decimal-most (c .before .before .number .result))
+add-if1 c = omega (arith, size-most _ (c .number-size .ensures))
 
 add-if1-2 : tie.Need-add-if1-2
-add-if1-2 c = omega (arith, c .number-size .ensures, decimal-most (c .before .before .number .result))
+add-if1-2 c = omega (arith, size-most _ (c .number-size .ensures))
 
 number-size-requires-2 : tie.Need-number-size-requires-2
 number-size-requires-2 c κs = search needs
 
 add-if1-3 : tie.Need-add-if1-3
-add-if1-3 c =
-    let place = c .before .before in
-    omega (
-      arith,
-      c .before .number-size .ensures,
-      c .number-size2 .ensures,
-      decimal-most (place .before .number .result),
-      decimal-most (place .place .result),
-    )
+add-if1-3 c = omega (arith, size-most _ (c .before .number-size .ensures), size-most _ (c .number-size2 .ensures))
 
 add-if1-4 : tie.Need-add-if1-4
-add-if1-4 c =
-    let place = c .before .before in
-    omega (
-      arith,
-      c .before .number-size .ensures,
-      c .number-size2 .ensures,
-      decimal-most (place .before .number .result),
-      decimal-most (place .place .result),
-    )
+add-if1-4 c = omega (arith, size-most _ (c .before .number-size .ensures), size-most _ (c .number-size2 .ensures))
 
 returns : tie.Need-returns
 returns c =

@@ -7,7 +7,7 @@ use lib.ListN.{take}
 use borrow.Author.Needs.{needs}
 use Rattle.board.specs.Packed.{unpacked}
 use Rattle.text.specs.Decimal.{decimal}
-use Rattle.text.proofs.Digits.{decimal-most}
+use Rattle.text.proofs.Digits.{size-most}
 use Rattle.text.proofs.PutLaws.{put-gives, put-four, four-short}
 use Rattle.page.specs.Words.{rowText, bitsText, feed}
 use Rattle.page.proofs.Bits.{text-length, taken-within, taken-again}
@@ -21,10 +21,10 @@ number-size-requires : tie.Need-number-size-requires
 number-size-requires c κs = search needs
 
 add-others : tie.Need-add-others
-add-others c = omega (arith, c .number-size .ensures, decimal-most (c .before .before .before .before .args .place .0))
+add-others c = omega (arith, size-most _ (c .number-size .ensures))
 
 add-others-2 : tie.Need-add-others-2
-add-others-2 c = omega (arith, c .number-size .ensures, decimal-most (c .before .before .before .before .args .place .0))
+add-others-2 c = omega (arith, size-most _ (c .number-size .ensures))
 
 returns : tie.Need-returns
 returns c =

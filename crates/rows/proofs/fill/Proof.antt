@@ -6,8 +6,7 @@ use native.Mathlib.Omega.{arith}
 use borrow.Author.Tests.{not-true, not-false}
 use lib.ListN.{length, length-drop}
 use Rattle.rows.specs.Turns.{walkOf}
-use Rattle.rows.proofs.Filling.{Filling, filling-none, tail-all, ready-left, back-size, added-most, turn-further}
-use Rattle.rows.proofs.Filling.{filling-turn, filled-turn}
+use Rattle.rows.proofs.Filling.{Filling, filling-none, tail-all, ready-left, Turned, turned-page}
 use Rattle.rows.proofs.fill.Statement.{statement}
 use Rattle.rows.proofs.fill.Tie as tie
 
@@ -56,56 +55,43 @@ turn-requires c κs =
       ),
     )
 
+-- what a turn makes of the page
+abbrev start : tie.After-turn Inv-loop μ-loop → tie.Start Inv-loop μ-loop
+start c = c .before .before .before .before .before .before .before
+
+page-turned : (c : tie.After-turn Inv-loop μ-loop)
+    → Turned (walkOf (start c .args .start)) (now (start c .args .reads)) (now (start c .args .page))
+    (c .before .before .before .before .loop .page) (walkOf (c .before .before .before .before .loop .walk))
+    (c .before .before .before .before .loop .bytes) (walkOf (c .turn .result .walk)) (c .turn .result .more)
+    (c .turn .result .bytes) (c .turn .last .1 .1 .0)
+page-turned c =
+    let l = c .before .before .before .before .loop in
+    turned-page _ _ _ (l .page) (walkOf (l .walk)) (l .bytes) (l .inv) _ _ _ _ (c .turn .ensures)
+    (c .turn .kept .1 .1 .0)
+
 add-bytes : tie.Need-add-bytes Inv-loop μ-loop
 add-bytes c =
-    let l = c .before .before .before .before .before .before .before .before .loop in
-    let a = c .before .before .before .before .before .before .before .before .before .before .before .args in
-    let t = c .before .before .before .before .turn in
-    omega (
-      arith,
-      added-most (walkOf (a .start)) (now (a .reads)) (now (a .page)) (l .page) (walkOf (l .walk)) (l .bytes)
-          (l .inv) _ _ _ _ (t .ensures) (t .kept .1 .1 .0),
-      c .before .before .before .before .before .before .before .before .before .before .before .good .1 .1 .0 .0,
-    )
+    let turn = c .before .before .before .before in
+    omega (arith, page-turned turn .most, start turn .good .1 .1 .0 .0)
 
 same-length : tie.Need-same-length Inv-loop μ-loop
-same-length c =
-    let l = c .before .before .before .before .before .before .before .before .before .before .loop in
-    let a = c .before .before .before .before .before .before .before .before .before .before .before .before .before .args in
-    let t = c .before .before .before .before .before .before .turn in
-    back-size (walkOf (a .start)) (now (a .reads)) (now (a .page)) (l .page) (walkOf (l .walk)) (l .bytes)
-    (l .inv) _ _ _ _ (t .ensures) (t .kept .1 .1 .0)
+same-length c = page-turned (c .before .before .before .before .before .before) .size
 
 returns : tie.Need-returns Inv-loop μ-loop
 returns c =
-    let l = c .before .before .before .before .before .before .before .before .before .before .loop in
-    let a = c .before .before .before .before .before .before .before .before .before .before .before .before .before .args in
-    let t = c .before .before .before .before .before .before .turn in
-    rw (not-true (t .result .more) (c .if1 .taken)) at
-    (filled-turn (walkOf (a .start)) (now (a .reads)) (now (a .page)) (l .page) (walkOf (l .walk)) (l .bytes)
-    (l .inv) _ _ _ _ (t .ensures) (t .kept .1 .1 .0))
+    let turn = c .before .before .before .before .before .before in
+    page-turned turn .last (not-true (turn .turn .result .more) (c .if1 .taken))
 
 loop-less : tie.Need-loop-less Inv-loop μ-loop
 loop-less c =
-    let l = c .before .before .before .before .before .before .before .before .before .before .loop in
-    let a = c .before .before .before .before .before .before .before .before .before .before .before .before .before .args in
-    let t = c .before .before .before .before .before .before .turn in
-    let on = (not-false (t .result .more) (c .if1 .left)) in
-    omega (
-      arith,
-      turn-further (walkOf (a .start)) (now (a .reads)) (now (a .page)) (l .page) (walkOf (l .walk)) (l .bytes)
-          (l .inv) _ _ _ _ (t .ensures) (t .kept .1 .1 .0) on,
-      filling-turn (walkOf (a .start)) (now (a .reads)) (now (a .page)) (l .page) (walkOf (l .walk)) (l .bytes)
-          (l .inv) _ _ _ _ (t .ensures) (t .kept .1 .1 .0) on .ready .within,
-    )
+    let turn = c .before .before .before .before .before .before in
+    let on = not-false (turn .turn .result .more) (c .if1 .left) in
+    omega (arith, page-turned turn .further on, page-turned turn .filling on .ready .within)
 
 loop-again : tie.Need-loop-again Inv-loop μ-loop
 loop-again c =
-    let l = c .before .before .before .before .before .before .before .before .before .before .loop in
-    let a = c .before .before .before .before .before .before .before .before .before .before .before .before .before .args in
-    let t = c .before .before .before .before .before .before .turn in
-    filling-turn (walkOf (a .start)) (now (a .reads)) (now (a .page)) (l .page) (walkOf (l .walk)) (l .bytes)
-    (l .inv) _ _ _ _ (t .ensures) (t .kept .1 .1 .0) (not-false (t .result .more) (c .if1 .left))
+    let turn = c .before .before .before .before .before .before in
+    page-turned turn .filling (not-false (turn .turn .result .more) (c .if1 .left))
 
 same-length-2 : tie.Need-same-length-2 Inv-loop μ-loop
 same-length-2 c = c .before .loop .inv .size

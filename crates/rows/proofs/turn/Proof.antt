@@ -10,16 +10,20 @@ use borrow.Author.Needs.{needs}
 use Rattle.rows.proofs.turn.Statement.{statement}
 use Rattle.rows.proofs.turn.Tie as tie
 
+-- where the turn began
+abbrev start : tie.After-listen → tie.Start
+start c = c .before .before .before .before
+
 listen-requires : tie.Need-listen-requires
 listen-requires c κs = search needs
 
 add-place : tie.Need-add-place
 add-place c =
+    let a = start c .args in
     omega (
       arith,
-      known (walkOf (c .before .before .before .before .args .walk))
-          (now (c .before .before .before .before .args .left)) (c .listen .result) (c .listen .ensures) .most,
-      c .before .before .before .before .pre .0,
+      known (walkOf (a .walk)) (now (a .left)) (c .listen .result) (c .listen .ensures) .most,
+      start c .pre .0,
     )
 
 enum-told : tie.Need-enum-told
@@ -36,12 +40,13 @@ enum-told-2 c = search needs
 
 sub-last : tie.Need-sub-last
 sub-last c =
+    let told = c .before in
+    let heard = told .before .before .before in
+    let a = start heard .args in
     omega (
       arith,
-      event-takes (walkOf (c .before .before .before .before .before .before .before .before .args .walk))
-          (now (c .before .before .before .before .before .before .before .before .args .left))
-          (c .before .before .before .before .listen .result) (c .before .before .before .before .listen .ensures) Row
-          (c .before .enum-told2 .given .1) refl,
+      event-takes (walkOf (a .walk)) (now (a .left)) (heard .listen .result) (heard .listen .ensures) Row
+          (told .enum-told2 .given .1) refl,
     )
 
 slice-aggregate-put-row : tie.Need-slice-aggregate-put-row
@@ -61,12 +66,13 @@ enum-known-event c = search needs
 
 sub-last-2 : tie.Need-sub-last-2
 sub-last-2 c =
+    let event = c .before in
+    let heard = event .before .before .before in
+    let a = start heard .args in
     omega (
       arith,
-      event-takes (walkOf (c .before .before .before .before .before .before .before .before .args .walk))
-          (now (c .before .before .before .before .before .before .before .before .args .left))
-          (c .before .before .before .before .listen .result) (c .before .before .before .before .listen .ensures)
-          (Broken (c .before .event .given .0 .0)) (c .before .event .given .1) refl,
+      event-takes (walkOf (a .walk)) (now (a .left)) (heard .listen .result) (heard .listen .ensures)
+          (Broken (event .event .given .0 .0)) (event .event .given .1) refl,
     )
 
 put-broken-requires : tie.Need-put-broken-requires
@@ -89,56 +95,53 @@ same-length c = search needs
 
 returns : tie.Need-returns
 returns c =
-    let a = c .before .before .before .before .before .before .before .before .before .before .before .before .args in
-    turn-is (walkOf (a .walk)) (now (a .left))
-    (c .before .before .before .before .before .before .before .before .listen .result)
-    (c .before .before .before .before .before .before .before .before .listen .ensures) Nothing
-    (c .before .before .before .before .before .enum-told .given .1) (now (a .out)) _
-    (c .before .before .before .put-end .result) _
-    (c .before .before .before .before .before .before .before .before .before .before .before .before .pre .1)
-    (c .before .before .before .put-end .ensures) (c .bytes-of .ensures)
+    let put = c .before .before .before in
+    let told = put .before .before in
+    let heard = told .before .before .before in
+    let a = start heard .args in
+    turn-is (walkOf (a .walk)) (now (a .left)) (heard .listen .result) (heard .listen .ensures) Nothing
+    (told .enum-told .given .1) (now (a .out)) _ (put .put-end .result) _ (start heard .pre .1)
+    (put .put-end .ensures) (c .bytes-of .ensures)
 
 same-length-2 : tie.Need-same-length-2
 same-length-2 c = search needs
 
 returns-2 : tie.Need-returns-2
 returns-2 c =
-    let a = c .before .before .before .before .before .before .before .before .before .before .before .before .before .before .args in
+    let put = c .before .before .before in
+    let told = put .before .before .before .before in
+    let heard = told .before .before .before in
+    let a = start heard .args in
     rw (add-one (a .walk .rows))
-    (turn-is (walkOf (a .walk)) (now (a .left))
-    (c .before .before .before .before .before .before .before .before .before .before .listen .result)
-    (c .before .before .before .before .before .before .before .before .before .before .listen .ensures) Row
-    (c .before .before .before .before .before .before .before .enum-told2 .given .1) (now (a .out)) _
-    (c .before .before .before .put-row .result) _
-    (c .before .before .before .before .before .before .before .before .before .before .before .before .before .before .pre .1) (c .before .before .before .put-row .ensures) (c .bytes-of2 .ensures))
+    (turn-is (walkOf (a .walk)) (now (a .left)) (heard .listen .result) (heard .listen .ensures) Row
+    (told .enum-told2 .given .1) (now (a .out)) _ (put .put-row .result) _ (start heard .pre .1)
+    (put .put-row .ensures) (c .bytes-of2 .ensures))
 
 same-length-3 : tie.Need-same-length-3
 same-length-3 c = search needs
 
 returns-3 : tie.Need-returns-3
 returns-3 c =
-    let a = c .before .before .before .before .before .before .before .before .before .before .before .before .before .args in
-    turn-is (walkOf (a .walk)) (now (a .left))
-    (c .before .before .before .before .before .before .before .before .before .listen .result)
-    (c .before .before .before .before .before .before .before .before .before .listen .ensures)
-    (Broken (c .before .before .before .before .before .before .event .given .0 .0))
-    (c .before .before .before .before .before .before .event .given .1) (now (a .out)) _
-    (c .before .before .before .put-broken .result) _
-    (c .before .before .before .before .before .before .before .before .before .before .before .before .before .pre .1) (c .before .before .before .put-broken .ensures) (c .bytes-of3 .ensures)
+    let put = c .before .before .before in
+    let event = put .before .before .before in
+    let heard = event .before .before .before in
+    let a = start heard .args in
+    turn-is (walkOf (a .walk)) (now (a .left)) (heard .listen .result) (heard .listen .ensures)
+    (Broken (event .event .given .0 .0)) (event .event .given .1) (now (a .out)) _ (put .put-broken .result) _
+    (start heard .pre .1) (put .put-broken .ensures) (c .bytes-of3 .ensures)
 
 same-length-4 : tie.Need-same-length-4
 same-length-4 c = search needs
 
 returns-4 : tie.Need-returns-4
 returns-4 c =
-    let a = c .before .before .before .before .before .before .before .before .before .before .before .before .before .args in
-    turn-is (walkOf (a .walk)) (now (a .left))
-    (c .before .before .before .before .before .before .before .before .before .listen .result)
-    (c .before .before .before .before .before .before .before .before .before .listen .ensures)
-    (Refused (c .before .before .before .before .before .before .event2 .given .0 .0))
-    (c .before .before .before .before .before .before .event2 .given .1) (now (a .out)) _
-    (c .before .before .before .put-refused .result) _
-    (c .before .before .before .before .before .before .before .before .before .before .before .before .before .pre .1) (c .before .before .before .put-refused .ensures) (c .bytes-of4 .ensures)
+    let put = c .before .before .before in
+    let event = put .before .before .before in
+    let heard = event .before .before .before in
+    let a = start heard .args in
+    turn-is (walkOf (a .walk)) (now (a .left)) (heard .listen .result) (heard .listen .ensures)
+    (Refused (event .event2 .given .0 .0)) (event .event2 .given .1) (now (a .out)) _ (put .put-refused .result) _
+    (start heard .pre .1) (put .put-refused .ensures) (c .bytes-of4 .ensures)
 
 pub turn-spec : {M : Type 1} → statement M
 turn-spec =
