@@ -2,7 +2,7 @@
 
 use std::fmt;
 
-/// Why an operation refused: the number from 01's table and the place of the fault.
+/// Why an operation refused: the number from the rules' table and the place of the fault.
 #[derive(Clone, Copy, Debug, PartialEq, Eq, Hash)]
 pub struct Refusal {
     /// 1 to 8, as in "Refusal numbers".

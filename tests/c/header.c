@@ -1,5 +1,5 @@
 /*
- * Holds include/siengulot.h to the library: the sizes that cross, every entry point called as C calls it, with the worked numbers of document 01,
+ * Holds include/siengulot.h to the library: the sizes that cross, every entry point called as C calls it, with the worked numbers of the rules,
  * and each inline function beside the entry point that it wraps. Guards stand before and after what is lent.
  */
 #include <siengulot.h>
@@ -150,7 +150,7 @@ static void counting(void)
     expect_out("counted writes though it refuses", "");
 }
 
-/* The example of document 01: k 2, n 2, Q 6, and these 26 reads. */
+/* The example of the rules: k 2, n 2, Q 6, and these 26 reads. */
 static const uint8_t capture[11] = {0x02, 0x02, 0x06, 0x01, 0x06, 0x02, 0x01, 0x03, 0x06, 0x02, 0x06};
 static const char reads_of_it[] = "11111100100011111100111111";
 

@@ -1,5 +1,5 @@
 #!/usr/bin/env python3
-"""What document 01 says the rows program writes for a capture, written down from its rules alone and one read at a time.
+"""What the rules says the rows program writes for a capture, written down from its rules alone and one read at a time.
 
     expected.py < CAPTURE > OUTPUT
 

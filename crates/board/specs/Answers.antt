@@ -1,5 +1,5 @@
--- 01, "The row receiver" and "Refusal numbers": what starting, one read, and reads up to the first event answer, for
--- all input; and what each case of the code says.
+-- Rules B and R: what starting, one read, and reads up to the first event answer, for all input; and what each case of
+-- the code says.
 use Prim.Native.Nat.{ℕ}
 use mathlib.Core.List.{List, [], _∷_}
 use mathlib.Core.Bool.{Bool, true, false, _&&_}
@@ -22,28 +22,28 @@ use Rattle.board.specs.declared.Start.the-variants.{Fresh, Refused as St
 use Rattle.board.specs.declared.Stepped.{Stepped}
 use Rattle.board.specs.declared.Listened.{Listened}
 
--- the receiver afterwards, what the reads brought or the refusal, and a delivered row's bits as they are kept (all 0
--- otherwise)
+-- R50: the receiver afterwards, what the reads brought or the refusal, and a delivered row's bits as they are kept (all
+-- 0 otherwise)
 pub record Outcome : Type 0 where
   pub receiver : Receiver
   pub answer : Answer Event
   pub row : List ℕ
 
--- the bits of a delivered row
+-- B31: the bits of a delivered row
 abbrev pub rowOf : Event → List ℕ
 rowOf nothing = []
 rowOf (row bits) = bits
 rowOf (broken found) = []
 
--- the outcome of a state that was reached
+-- B31: the outcome of a state that was reached
 abbrev pub reached : Settings → State → Event → Outcome
 reached g s event = record { receiver = receiverOf g s; answer = given event; row = kept (rowOf event) }
 
--- a refusal leaves the receiver unchanged
+-- R30: a refusal leaves the receiver unchanged
 abbrev pub refusing : Receiver → (number place : ℕ) → Outcome
 refusing x number place = record { receiver = x; answer = refused number place; row = kept [] }
 
--- 01: a refused fresh state is hunting, and every number and bit of it is 0, the level too
+-- R33: a refused fresh state is hunting, and every number and bit of it is 0, the level too
 abbrev pub refusedFresh : Receiver
 refusedFresh =
     record {
@@ -58,13 +58,13 @@ refusedFresh =
       bits = kept [];
     }
 
--- starting: a fresh receiver, or refusal 1 for k, n or Q out of range
+-- R48, R33: starting: a fresh receiver, or refusal 1 for k, n or Q out of range
 unfoldable pub begun : (k n Q : ℕ) → Answer Event × Receiver
 begun k n Q =
     choose (settingsFit k n Q) (given nothing, receiverOf (record { k = k; n = n; Q = Q }) fresh)
     (refused 1 0, refusedFresh)
 
--- one read: refusal 1 for a state that is not well formed, 2 for a read above 1
+-- R50: one read: refusal 1 for a state that is not well formed, 2 for a read above 1
 unfoldable pub stepped : Receiver → (read : ℕ) → Outcome
 stepped x read =
     choose (wellFormed x)
@@ -73,24 +73,24 @@ stepped x read =
     (refusing x 2 0))
     (refusing x 1 0)
 
--- the reads before the first that is no level
+-- R51: the reads before the first that is no level
 abbrev pub levelsOf : (reads : List ℕ) → List ℕ
 levelsOf reads = take (firstAbove 1 reads) reads
 
--- nothing is reported
+-- B43: nothing is reported
 abbrev pub silent : List Report → Bool
 silent [] = true
 silent (report ∷ more) = false
 
--- the outcome of the reads up to and with the first that brings an event, or of all, and how many these are
+-- B40, B41: the outcome of the reads up to and with the first that brings an event, or of all, and how many these are
 abbrev pub toEvent : Settings → State → (reads : List ℕ) (reported : List Report) → Outcome × ℕ
 toEvent g s reads reported = (
   reached g (after g s (take (usedOf reported (length reads)) reads)) (firstEvent reported),
   usedOf reported (length reads),
 )
 
--- Reads up to and with the first that brings an event: refusal 1 as above, 3 for a list over its limit, 2 for a read
--- that is no level where no event comes before it. With a refusal no read is used.
+-- R51, R34: Reads up to and with the first that brings an event: refusal 1 as above, 3 for a list over its limit, 2 for
+-- a read that is no level where no event comes before it. With a refusal no read is used.
 unfoldable pub listened : Receiver → (reads : List ℕ) → Outcome × ℕ
 listened x reads =
     choose (wellFormed x)
@@ -100,21 +100,23 @@ listened x reads =
     (toEvent (settingsOf x) (stateOf x) (levelsOf reads) (reports (settingsOf x) (stateOf x) 0 (levelsOf reads)))))
     (refusing x 1 0, 0)
 
--- what each case of the code's answers says; a row's bits stand beside the event, n of them
+-- A8: what each case of the code's answers says; a row's bits stand beside the event, n of them
 abbrev pub eventSays : (n : ℕ) (bytes : List ℕ) → CodeEvent → Answer Event
 eventSays n bytes Nothing = given nothing
 eventSays n bytes Row = given (row (take n (unpacked 8 bytes)))
 eventSays n bytes (Broken found) = given (broken found)
 eventSays n bytes (Refused refusal) = denied refusal
 
--- the same of starting, of one read, and of reads up to an event
+-- A8: the same of starting, of one read, and of reads up to an event
 abbrev pub startSays : Start → Answer Event
 startSays Fresh = given nothing
 startSays (StartRefused refusal) = denied refusal
 
+-- A8
 abbrev pub steppedSays : Stepped → Outcome
 steppedSays x = record { receiver = x .receiver; answer = eventSays (x .receiver .n) (x .row) (x .event); row = x .row }
 
+-- A8
 abbrev pub listenedSays : Listened → Outcome × ℕ
 listenedSays x = (
   record { receiver = x .receiver; answer = eventSays (x .receiver .n) (x .row) (x .event); row = x .row },

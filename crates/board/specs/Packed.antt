@@ -1,42 +1,42 @@
--- 01, "The row receiver" and the forms: a row's bits are kept packed, the first bit lowest in the first word, 128 bytes
--- for up to 1,024 bits; and how a receiver keeps a state.
+-- Rules B30, B31 and form A3: a row's bits are kept packed, the first bit lowest in the first word, 128 bytes for up to
+-- 1,024 bits; and how a receiver keeps a state.
 use Prim.Native.Nat.{ℕ, zero, suc, _+_, _*_, _/_, _%_}
 use mathlib.Core.List.{List, [], _∷_, _++_}
 use lib.ListN.{length, take, drop}
 use Rattle.board.specs.Rows.{Settings, State}
 use Rattle.board.specs.declared.Receiver.{Receiver}
 
--- the number whose binary digits, lowest first, are the first `width` entries of a list; a place past the end counts as
--- 0
+-- B30: the number whose binary digits, lowest first, are the first `width` entries of a list; a place past the end
+-- counts as 0
 unfoldable pub number : ℕ → List ℕ → ℕ
 number zero bits = 0
 number (suc width) [] = 0
 number (suc width) (bit ∷ bits) = bit + 2 * number width bits
 
--- the lowest binary digits of a number, so many, lowest first
+-- B30: the lowest binary digits of a number, so many, lowest first
 unfoldable pub digits : ℕ → ℕ → List ℕ
 digits zero x = []
 digits (suc width) x = x % 2 ∷ digits width (x / 2)
 
--- bits as so many words of a width
+-- B30: bits as so many words of a width
 unfoldable pub packed : ℕ → ℕ → List ℕ → List ℕ
 packed width zero bits = []
 packed width (suc words) bits = number width bits ∷ packed width words (drop width bits)
 
--- the bits of words of a width
+-- B30: the bits of words of a width
 unfoldable pub unpacked : ℕ → List ℕ → List ℕ
 unpacked width [] = []
 unpacked width (x ∷ words) = digits width x ++ unpacked width words
 
--- a row's bits as they are kept and handed over
+-- B30: a row's bits as they are kept and handed over
 abbrev pub kept : List ℕ → List ℕ
 kept bits = packed 8 128 bits
 
--- the settings that a receiver keeps
+-- B1: the settings that a receiver keeps
 abbrev pub settingsOf : Receiver → Settings
 settingsOf x = record { k = x .k .0; n = x .n; Q = x .q .0 }
 
--- the state that a receiver keeps
+-- B1, B30: the state that a receiver keeps
 abbrev pub stateOf : Receiver → State
 stateOf x =
     record {
@@ -47,7 +47,7 @@ stateOf x =
       bits = take (x .found) (unpacked 8 (x .bits));
     }
 
--- the receiver that keeps settings and a state
+-- B1, B30: the receiver that keeps settings and a state
 abbrev pub receiverOf : Settings → State → Receiver
 receiverOf g s =
     record {

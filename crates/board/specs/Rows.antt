@@ -1,4 +1,4 @@
--- 01, "The row receiver": what one read does. The bits so far are a list here; how they are kept is said in Packed.
+-- Rules B: what one read does. The bits so far are a list here; how they are kept is said in Packed.
 use Prim.Native.Nat.{ℕ, _+_, _-_, min}
 use mathlib.Core.List.{List, [], _∷_, _++_}
 use mathlib.Core.Bool.{Bool, true, false}
@@ -9,13 +9,13 @@ use Rattle.measure.specs.Cells.{bitOf}
 use Rattle.board.specs.declared.Mode.{Mode}
 use Rattle.board.specs.declared.Mode.the-variants.{Hunting, Ready, Counting, Waiting}
 
--- the sampling count, the bits of a row, the quiet count
+-- B1: the sampling count, the bits of a row, the quiet count
 pub record Settings : Type 0 where
   pub k : ℕ
   pub n : ℕ
   pub Q : ℕ
 
--- the mode, the reads left up to the sample, the level or mark kept, the run of high reads, the bits so far
+-- B1: the mode, the reads left up to the sample, the level or mark kept, the run of high reads, the bits so far
 pub record State : Type 0 where
   pub mode : Mode
   pub left : ℕ
@@ -23,47 +23,49 @@ pub record State : Type 0 where
   pub run : ℕ
   pub bits : List ℕ
 
--- what a read brings: nothing, a row with its bits, or a row broken after so many bits
+-- B4: what a read brings: nothing, a row with its bits, or a row broken after so many bits
 pub data Event : Type 0 where
   nothing : Event
   row : List ℕ → Event
   broken : ℕ → Event
 
--- the state after a read, and what the read brought
+-- B5: the state after a read, and what the read brought
 pub record Moved : Type 0 where
   pub state : State
   pub event : Event
 
--- 01, first rule of a read: the run grows by one with each high read until it stands at Q, and falls back to 0 with a
--- low one
+-- B10: the run grows by one with each high read until it stands at Q, and falls back to 0 with a low one
 abbrev pub runAfter : (Q run read : ℕ) → ℕ
 runAfter Q run read = choose (eqb read 1) (min (run + 1) Q) 0
 
--- the four modes with what each keeps; in hunting and ready the level is high and there are no bits
+-- B19: the four modes with what each keeps; in hunting and ready the level is high and there are no bits
 abbrev pub hunting : (run : ℕ) → State
 hunting run = record { mode = Hunting; left = 0; level = 1; run = run; bits = [] }
 
+-- B19
 abbrev pub ready : (run : ℕ) → State
 ready run = record { mode = Ready; left = 0; level = 1; run = run; bits = [] }
 
+-- B15
 abbrev pub counting : (left mark run : ℕ) (bits : List ℕ) → State
 counting left mark run bits = record { mode = Counting; left = left; level = mark; run = run; bits = bits }
 
+-- B18
 abbrev pub waiting : (sample run : ℕ) (bits : List ℕ) → State
 waiting sample run bits = record { mode = Waiting; left = 0; level = sample; run = run; bits = bits }
 
--- 01: where a receiver starts, with nothing heard and nothing found
+-- B3: where a receiver starts, with nothing heard and nothing found
 abbrev pub fresh : State
 fresh = hunting 0
 
--- 01: only these two modes are inside a row
+-- B2: only these two modes are inside a row
 abbrev pub inProgress : Mode → Bool
 inProgress Hunting = false
 inProgress Ready = false
 inProgress Counting = true
 inProgress Waiting = true
 
--- nothing but the run changes, and nothing is reported
+-- B12: nothing but the run changes, and nothing is reported
 abbrev pub stays : State → (run : ℕ) → Moved
 stays s run =
     record {
@@ -71,42 +73,41 @@ stays s run =
       event = nothing;
     }
 
--- 01, when the run stands at Q: whatever the mode was it is now ready, and a row that was under way is lost, which is
--- reported with how many bits it had
+-- B11: whatever the mode was it is now ready, and a row that was under way is lost, which is reported with how many
+-- bits it had
 abbrev pub quietened : Settings → State → Moved
 quietened g s =
     record { state = ready (g .Q); event = choose (inProgress (s .mode)) (broken (length (s .bits))) nothing }
 
--- 01, a mark was read: its level is kept, and its sample is k reads away
+-- B15: its level is kept, and its sample is k reads away
 abbrev pub marked : Settings → State → (run read : ℕ) → Moved
 marked g s run read = record { state = counting (g .k) read run (s .bits); event = nothing }
 
--- 01, a sample has given one bit more: the n-th completes the row, which is delivered, and nothing is kept but the run;
--- before that the receiver waits, keeping the sample's level
+-- B17, B18: the n-th completes the row, which is delivered, and nothing is kept but the run; before that the receiver
+-- waits, keeping the sample's level
 abbrev pub collected : Settings → (run sample : ℕ) (bits : List ℕ) → Moved
 collected g run sample bits =
     choose (eqb (length bits) (g .n)) (record { state = hunting run; event = row bits })
     (record { state = waiting sample run bits; event = nothing })
 
--- 01, counting: this read takes one from what is left, and when that leaves nothing it is the sample
+-- B16: this read takes one from what is left, and when that leaves nothing it is the sample
 abbrev pub countedDown : Settings → State → (run read : ℕ) → Moved
 countedDown g s run read =
     choose (eqb (s .left - 1) 0) (collected g run read (s .bits ++ bitOf (s .level) read ∷ []))
     (record { state = counting (s .left - 1) (s .level) run (s .bits); event = nothing })
 
--- 01, ready and waiting: the first read unlike the level kept is a mark. A ready receiver keeps high, so for it that is
--- a low read
+-- B13, B14: the first read unlike the level kept is a mark. A ready receiver keeps high, so for it that is a low read
 abbrev pub awaited : Settings → State → (run read : ℕ) → Moved
 awaited g s run read = choose (eqb read (s .level)) (stays s run) (marked g s run read)
 
--- 01, the run is short of Q: what the read does in each mode, and in hunting it does nothing
+-- B12 to B16: what the read does in each mode, and in hunting it does nothing
 abbrev pub listening : Mode → Settings → State → (run read : ℕ) → Moved
 listening Hunting g s run read = stays s run
 listening Ready g s run read = awaited g s run read
 listening Counting g s run read = countedDown g s run read
 listening Waiting g s run read = awaited g s run read
 
--- 01, one read: the run first, and only then the mode
+-- B10, B11: the run first, and only then the mode
 unfoldable pub next : Settings → State → (read : ℕ) → Moved
 next g s read =
     choose (eqb (runAfter (g .Q) (s .run) read) (g .Q)) (quietened g s)

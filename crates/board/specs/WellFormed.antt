@@ -1,4 +1,4 @@
--- 01, "The row receiver": when a receiver's state is well formed.
+-- Rules B: when a receiver's state is well formed.
 use Prim.Native.Nat.{ℕ}
 use mathlib.Core.List.{List, [], _∷_}
 use mathlib.Core.Bool.{Bool, true, _&&_}
@@ -11,44 +11,44 @@ use Rattle.board.specs.declared.Mode.{Mode}
 use Rattle.board.specs.declared.Mode.the-variants.{Hunting, Ready, Counting, Waiting}
 use Rattle.board.specs.declared.Receiver.{Receiver}
 
--- a full run and the mode ready come together; in every other mode the run is short of Q
+-- B21: a full run and the mode ready come together; in every other mode the run is short of Q
 abbrev pub runFits : Mode → (run Q : ℕ) → Bool
 runFits Hunting run Q = ltb run Q
 runFits Ready run Q = eqb run Q
 runFits Counting run Q = ltb run Q
 runFits Waiting run Q = ltb run Q
 
--- only a counting receiver has reads left up to a sample, at least one and no more than k
+-- B22: only a counting receiver has reads left up to a sample, at least one and no more than k
 abbrev pub leftFits : Mode → (left k : ℕ) → Bool
 leftFits Hunting left k = eqb left 0
 leftFits Ready left k = eqb left 0
 leftFits Counting left k = between 1 k left
 leftFits Waiting left k = eqb left 0
 
--- a row under way lacks at least one bit, and outside a row there are none
+-- B23: a row under way lacks at least one bit, and outside a row there are none
 abbrev pub foundFits : Mode → (found n : ℕ) → Bool
 foundFits Hunting found n = eqb found 0
 foundFits Ready found n = eqb found 0
 foundFits Counting found n = ltb found n
 foundFits Waiting found n = ltb found n
 
--- what is kept is a level, and high where no row is under way
+-- B25: what is kept is a level, and high where no row is under way
 abbrev pub levelFits : Mode → (level : ℕ) → Bool
 levelFits Hunting level = eqb level 1
 levelFits Ready level = eqb level 1
 levelFits Counting level = leb level 1
 levelFits Waiting level = leb level 1
 
--- every entry is 0
+-- B24: every entry is 0
 abbrev pub allZero : List ℕ → Bool
 allZero [] = true
 allZero (x ∷ xs) = eqb x 0 && allZero xs
 
--- nothing stands in the places from the number found on
+-- B24: nothing stands in the places from the number found on
 unfoldable pub unusedZero : ℕ → List ℕ → Bool
 unusedZero found bytes = allZero (drop found (unpacked 8 bytes))
 
--- 01, the whole of it: all of these
+-- B20 to B25, R49: all of these
 unfoldable pub wellFormed : Receiver → Bool
 wellFormed x =
     settingsFit (x .k .0) (x .n) (x .q .0)

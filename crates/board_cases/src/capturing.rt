@@ -149,7 +149,7 @@ fn refused_reads() {
     write(b"write, 2 before 4", 2, 2, 6, &[1, 0, 1, 0, 1, 0, 1, 0, 2]);
 }
 
-// The reads of 01's program case, written and so come back as its bytes.
+// The reads of the rules' program case, written and so come back as its bytes.
 fn back() {
     let mut reads = [9u8; 26];
     told(capture::read_capture(&[2, 2, 6, 1, 6, 2, 1, 3, 6, 2, 6], &mut reads));

@@ -1,4 +1,4 @@
--- 01, "Numbers to try": P11.
+-- Rules P: P11.
 use Prim.Native.Nat.{ℕ}
 use mathlib.Core.List.{List, [], _∷_}
 use Rattle.measure.specs.Refusals.{Answer, refused}
@@ -22,5 +22,6 @@ P11-long = record { kind = Answer Numeral; gives = numberAt (0x80 ∷ 0x00 ∷ [
 abbrev P11-run : Case
 P11-run = record { kind = Answer (List ℕ); gives = runsFrom 0 (0x81 ∷ 0x80 ∷ 0x40 ∷ []) 0; printed = refused 8 0 }
 
+-- P11
 abbrev pub cases : List Case
 cases = P11-127 ∷ P11-128 ∷ P11-1048576 ∷ P11-long ∷ P11-run ∷ []

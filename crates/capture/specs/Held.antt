@@ -1,4 +1,4 @@
--- 01, "Capture file", on reading: the reader is the bytes lent to it and where it has got to.
+-- Rules F, on reading: the reader is the bytes lent to it and where it has got to.
 use Prim.Native.Nat.{ℕ}
 use mathlib.Core.List.{List}
 use denote.Ref.{RefT, now}
@@ -6,16 +6,16 @@ use Rattle.measure.specs.Refusals.{Answer, given, refused, refusedAfter}
 use Rattle.capture.specs.Numbers.{Numeral, numberAt}
 use Rattle.capture.specs.declared.held.CaptureReader.{CaptureReader}
 
--- a reader of lent bytes, at their first
+-- F20: a reader of lent bytes, at their first
 abbrev pub begunReader : RefT (List ℕ) → CaptureReader
 begunReader src = record { src = src; at = 0 }
 
--- the place after a number that was read, and the place itself where it was refused
+-- F21: the place after a number that was read, and the place itself where it was refused
 abbrev pub placeAfter : ℕ → Answer Numeral → ℕ
 placeAfter at (given n) = n .after
 placeAfter at (refused number place) = at
 placeAfter at (refusedAfter number place count) = at
 
--- the reader past the number at its place
+-- F21: the reader past the number at its place
 abbrev pub advanced : CaptureReader → CaptureReader
 advanced r = record { src = r .src; at = placeAfter (r .at) (numberAt (now (r .src)) (r .at)) }

@@ -1,5 +1,5 @@
--- What the format promises of writing and reading together (01, "Capture file"): reads that are written are read back,
--- and a capture that is read is written back. Statements only; proofs/RoundTrips has their proofs.
+-- What the format promises of writing and reading together (F31, F32): reads that are written are read back, and a
+-- capture that is read is written back. Statements only; proofs/RoundTrips has their proofs.
 use Prim.Native.Nat.{ℕ, _≤_}
 use mathlib.Core.Path.{_≡_}
 use mathlib.Core.Bool.{true, false}
@@ -13,7 +13,7 @@ use Rattle.capture.specs.Writing.{runsOf, captureOf}
 use Rattle.capture.specs.Answers.{readBack, written}
 use Rattle.capture.specs.declared.Summary.{Summary}
 
--- bytes are an accepted capture with these settings and these reads
+-- F31: bytes are an accepted capture with these settings and these reads
 pub record ReadsAs (k n Q : ℕ) (reads bytes : List ℕ) : Type 0 where
   pub is : Capture
   pub accepted : capture bytes ≡ given is
@@ -22,20 +22,20 @@ pub record ReadsAs (k n Q : ℕ) (reads bytes : List ℕ) : Type 0 where
   pub same-Q : is .Q ≡ Q
   pub same-reads : readsOfRuns (is .level) (is .runs) ≡ reads
 
--- settings in range and levels within their limit, written, read back to the same settings and levels
+-- F31: settings in range and levels within their limit, written, read back to the same settings and levels
 abbrev pub ReadsBack : Type 0
 ReadsBack =
     (k n Q : ℕ) (reads : List ℕ) → settingsFit k n Q ≡ true → length reads ≤ entriesMost → someAbove 1 reads ≡ false
     → ReadsAs k n Q reads (captureOf k n Q reads)
 
--- an accepted capture, read and written again, is the same bytes
+-- F32: an accepted capture, read and written again, is the same bytes
 abbrev pub WritesBack : Type 0
 WritesBack =
     (bytes : List ℕ) → someAbove 255 bytes ≡ false → (c : Capture) → capture bytes ≡ given c
     → captureOf (c .k) (c .n) (c .Q) (readsOfRuns (c .level) (c .runs)) ≡ bytes
 
--- The same of the operations. What `write_capture` put at the front of an output, `read_capture` answers with the same
--- settings and puts the same reads at the front of another that has room.
+-- F31: The same of the operations. What `write_capture` put at the front of an output, `read_capture` answers with the
+-- same settings and puts the same reads at the front of another that has room.
 abbrev pub WrittenReadsBack : Type 0
 WrittenReadsBack =
     (k n Q : ℕ) (reads out out′ room : List ℕ) (size : ℕ) → written k n Q reads out ≡ (given size, out′)
@@ -54,7 +54,7 @@ WrittenReadsBack =
       onto reads room,
     )
 
--- What `read_capture` read, `write_capture` puts as the same bytes at the front of an output that has room.
+-- F32: What `read_capture` read, `write_capture` puts as the same bytes at the front of an output that has room.
 abbrev pub ReadWritesBack : Type 0
 ReadWritesBack =
     (bytes room room′ out : List ℕ) (s : Summary) → someAbove 255 bytes ≡ false

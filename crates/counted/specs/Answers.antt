@@ -1,5 +1,4 @@
--- 01, "The counted receiver" and "Refusal numbers": what it answers and leaves in the lent output, for all input, and
--- what each case of the code says.
+-- Rules C and R: what it answers and leaves in the lent output, for all input, and what each case of the code says.
 use Prim.Native.Nat.{ℕ}
 use mathlib.Core.Bool.{Bool, _&&_}
 use mathlib.Core.List.{List}
@@ -13,8 +12,8 @@ use Rattle.counted.specs.Counted.{counted}
 use Rattle.counted.specs.declared.Received.{Received}
 use Rattle.counted.specs.declared.Received.the-variants.{Bits, RanOut, Refused}
 
--- The bits found stand at the output's front, also where they are fewer than asked for, which is refusal 5 and says how
--- many they are. It has no place.
+-- C6, R5, R31: The bits found stand at the output's front, also where they are fewer than asked for, which is refusal 5
+-- and says how many they are. It has no place.
 abbrev pub countedInto : (n : ℕ) (bits output : List ℕ) → Answer ℕ × List ℕ
 countedInto n bits output = (choose (eqb (length bits) n) (given n) (refusedAfter 5 0 (length bits)), onto bits output)
 
@@ -22,8 +21,8 @@ countedInto n bits output = (choose (eqb (length bits) n) (given n) (refusedAfte
 abbrev pub countedInRange : (k n level : ℕ) → Bool
 countedInRange k n level = sampling k && leb n bitsMost && leb level 1
 
--- Refusal 1 for k, n or the level in force out of range, 3 for a list of reads over its limit, 2 for an entry that is
--- no level, 4 for an output shorter than n bits, then 5.
+-- R47: Refusal 1 for k, n or the level in force out of range, 3 for a list of reads over its limit, 2 for an entry that
+-- is no level, 4 for an output shorter than n bits, then 5.
 unfoldable pub countedBits : (k n level : ℕ) (reads output : List ℕ) → Answer ℕ × List ℕ
 countedBits k n level reads output =
     ranged (countedInRange k n level) output
@@ -32,7 +31,7 @@ countedBits k n level reads output =
     (choose (ltb (length output) n) (refused 4 0, output)
     (countedInto n (counted k n level reads) output))))
 
--- what each case of the code's answer says
+-- A8: what each case of the code's answer says
 abbrev pub countedSays : Received → Answer ℕ
 countedSays (Bits n) = given n
 countedSays (RanOut n) = refusedAfter 5 0 n

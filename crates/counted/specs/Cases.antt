@@ -1,4 +1,4 @@
--- 01, "Numbers to try": P7.
+-- Rules P: P7.
 use Prim.Native.Nat.{ℕ}
 use mathlib.Core.List.{List, [], _∷_}
 use Rattle.measure.specs.Refusals.{Answer, given, refusedAfter}
@@ -28,5 +28,6 @@ P7-3 = record {
 abbrev P7-0 : Case
 P7-0 = record { kind = Answer ℕ × List ℕ; gives = countedBits 3 0 1 sent output; printed = (given 0, 7 ∷ 8 ∷ 9 ∷ []) }
 
+-- P7
 abbrev pub cases : List Case
 cases = P7-2 ∷ P7-3 ∷ P7-0 ∷ []

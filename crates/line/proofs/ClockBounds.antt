@@ -59,7 +59,7 @@ within-bounds wclk rclk pos phase below = record {
   unended = below;
 }
 
--- 01's two clocks
+-- the rules' two clocks
 pub cycle-clock : (w : ℕ) → Clock (cycleStart w) w w
 cycle-clock w = record { low = λ i. omega arith; high = λ i. omega arith }
 

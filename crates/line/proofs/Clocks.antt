@@ -1,4 +1,4 @@
--- Two clocks that a wave is warped by: what their starts must satisfy for every law of the line, and that 01's clocks
+-- Two clocks that a wave is warped by: what their starts must satisfy for every law of the line, and that the rules' clocks
 -- do.
 use Prim.Native.Nat.{ℕ, zero, suc, _+_, _-_, _<_, _≤_}
 use native.Mathlib.Nat.{add-zero, add-suc, add-sub-of-le}

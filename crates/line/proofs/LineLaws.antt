@@ -79,7 +79,7 @@ module _ {tw tr : ℕ → ℕ} (clocks : Clocks tw tr) (g : ℕ) (wave choices :
     ends = λ j here. read-ends clocks (smoothBy g 0 1 wave) j (rw length-settle at here);
   }
 
--- 01's line is the case of constant lengths and a settling count of 1
+-- the rules' line is the case of constant lengths and a settling count of 1
 module _ (w r p : ℕ) (wave choices : List ℕ) where
   pub over-the-line : overTheLine w r p wave choices ≡ lineBy (cycleStart w) (readStart p r) 1 wave choices
   unfolding overTheLine

@@ -1,5 +1,5 @@
 -- Smoothing with a settling count g: a change makes its cycle and the g - 1 after it unknown, so a stretch of one level
--- is known from its cycle g on. 01's smooth is the case of 1.
+-- is known from its cycle g on. the rules' smooth is the case of 1.
 use mathlib.Core.Path.{_≡_, refl, subst, sym, ap, _∙_}
 use mathlib.Core.Logic.{_≢_, dite}
 use mathlib.Core.Bool.{Bool, true, false}
@@ -43,7 +43,7 @@ smooth-from-is before (level ∷ levels) = go (eqb before level) (smooth-from-is
     go true e = ap (λ l. level ∷ l) e
     go false e = ap (λ l. 2 ∷ l) e
 
--- 01's pass
+-- the rules' pass
 pub smooth-is : (levels : List ℕ) → smooth levels ≡ smoothBy 1 0 1 levels
 smooth-is = smooth-from-is 1
 

@@ -1,4 +1,4 @@
--- The laws of warp that 01 asks for: those of any two clocks, at cycles of w units and reads of r units from p on. The
+-- The laws of warp that the rules ask for: those of any two clocks, at cycles of w units and reads of r units from p on. The
 -- number of reads is the quotient, since read j is there exactly if its end, p + (j + 1)·r, is at most L·w.
 use mathlib.Core.Path.{_≡_, refl}
 use mathlib.Core.Logic.{dite}
@@ -14,7 +14,7 @@ use Rattle.line.proofs.Clocks.{even-clocks}
 use Rattle.line.proofs.ReadsThere.{read-there, read-ends, read-looks}
 use Rattle.line.proofs.SharedCycles.{shared-looked-at, looks-at-shared, read-is}
 
--- the pass is the warp by 01's two clocks
+-- the pass is the warp by the rules' two clocks
 pub warp-by : (w r p : ℕ) (levels : List ℕ) → warp w r p levels ≡ warpBy (cycleStart w) (readStart p r) levels
 unfolding warp
 warp-by w r p levels = refl

@@ -1,5 +1,5 @@
--- 01, "The line, three passes" and "Refusal numbers": what each pass answers and leaves in the lent output, for all
--- input, and what each case of the code says.
+-- Rules L and R: what each pass answers and leaves in the lent output, for all input, and what each case of the code
+-- says.
 use Prim.Native.Nat.{ℕ}
 use mathlib.Core.Bool.{Bool, _&&_}
 use mathlib.Core.List.{List}
@@ -15,18 +15,18 @@ use Rattle.line.specs.declared.Smoothed.the-variants.{Wave, Refused as S
 use Rattle.line.specs.declared.Read.{Read}
 use Rattle.line.specs.declared.Read.the-variants.{Reads, Refused}
 
--- smooth takes levels: a 2 is refused
+-- R44: smooth takes levels: a 2 is refused
 unfoldable pub smoothed : (levels output : List ℕ) → Answer ℕ × List ℕ
 smoothed levels output =
     limited entriesMost (length levels) output
     (entered 1 levels output
     (lent (smooth levels) output))
 
--- w and r are in range and p is below w
+-- N4, N5, N6: w and r are in range and p is below w
 abbrev pub timed : (w r p : ℕ) → Bool
 timed w r p = cycleLength w && cycleLength r && ltb p w
 
--- warp takes levels and unknowns; refusal 3 also where the reads would be over the limit
+-- R45: warp takes levels and unknowns; refusal 3 also where the reads would be over the limit
 unfoldable pub warped : (w r p : ℕ) (levels output : List ℕ) → Answer ℕ × List ℕ
 warped w r p levels output =
     ranged (timed w r p) output
@@ -35,7 +35,7 @@ warped w r p levels output =
     (entered 2 levels output
     (lent (warp w r p levels) output))))
 
--- settle takes reads, known or not, and choices; a bad read is found before a bad choice
+-- R46, R23: settle takes reads, known or not, and choices; a bad read is found before a bad choice
 unfoldable pub settled : (reads choices output : List ℕ) → Answer ℕ × List ℕ
 settled reads choices output =
     limited entriesMost (length reads) output
@@ -44,12 +44,12 @@ settled reads choices output =
     (entered 1 choices output
     (lent (settle reads choices) output))))
 
--- what each case of the code's answers says
+-- A8: what each case of the code's answers says
 abbrev pub smoothedSays : Smoothed → Answer ℕ
 smoothedSays (Wave cycles) = given (cycles .0)
 smoothedSays (SmoothRefused refusal) = denied refusal
 
--- the same of warp and settle
+-- A8: the same of warp and settle
 abbrev pub readSays : Read → Answer ℕ
 readSays (Reads reads) = given (reads .0)
 readSays (Refused refusal) = denied refusal

@@ -1,4 +1,4 @@
--- 01, "Numbers to try": P2 to P6.
+-- Rules P: P2 to P6.
 use Prim.Native.Nat.{ℕ}
 use mathlib.Core.List.{List, [], _∷_}
 use Rattle.measure.specs.Table.{Case}
@@ -50,5 +50,6 @@ P6-0 = record { kind = List ℕ; gives = warp 3 3 0 (1 ∷ []); printed = 1 ∷ 
 abbrev P6-1 : Case
 P6-1 = record { kind = List ℕ; gives = warp 3 3 1 (1 ∷ []); printed = [] }
 
+-- P2 to P6
 abbrev pub cases : List Case
 cases = P2 ∷ P3-1 ∷ P3-0 ∷ P4 ∷ P5-3 ∷ P5-4 ∷ P6-0 ∷ P6-1 ∷ []

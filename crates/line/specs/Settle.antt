@@ -1,16 +1,17 @@
--- 01, "The line, three passes", 3: settle.
+-- Rules L, 3: settle.
 use Prim.Native.Nat.{ℕ}
 use mathlib.Core.List.{List, [], _∷_}
 use lib.ListN.{drop}
 use lib.Dec.{eqb}
 use Rattle.measure.specs.Choose.{choose}
 
--- the next choice; where none is left it is low
+-- L30, L32: the next choice; where none is left it is low
 abbrev pub nextChoice : List ℕ → ℕ
 nextChoice [] = 0
 nextChoice (choice ∷ choices) = choice
 
--- An unknown read becomes the next choice, which is then used up. A known read stays and leaves the choices alone.
+-- L30, L31: An unknown read becomes the next choice, which is then used up. A known read stays and leaves the choices
+-- alone.
 unfoldable pub settle : List ℕ → List ℕ → List ℕ
 settle [] choices = []
 settle (read ∷ reads) choices =

@@ -184,8 +184,7 @@ fn leave(looking: Looking, t: TimeUnits) -> Looked
 const BLOCK: usize = 64;
 
 // Reconciles the level found so far with the cycles that the read, which ends at `t`, has yet to look at: with a block
-// of them here, and
-// with the rest by a call of itself. The number of cycles left falls at each call.
+// of them here, and with the rest by a call of itself. The number of cycles left falls at each call.
 fn reconcile(wave: &[u8], looking: Looking, w: TimeUnits, t: TimeUnits) -> Looked
     requires { ⌜ (cycleLength (w .0) ≡ true) × (length (now wave) ≤ entriesMost)
         × (looking .next .0 * w .0 ≡ looking .end .0)
@@ -214,8 +213,7 @@ fn reconcile(wave: &[u8], looking: Looking, w: TimeUnits, t: TimeUnits) -> Looke
 }
 
 // One read, which ends at `t`: it looks at the cycles left over, one after another. A read of up to twice a cycle's
-// length looks at
-// three at most, and those are taken here, without a call.
+// length looks at three at most, and those are taken here, without a call.
 fn one_read(wave: &[u8], first: WriterCycles, w: TimeUnits, t: TimeUnits) -> Looked
     requires { ⌜ (cycleLength (w .0) ≡ true) × (length (now wave) ≤ entriesMost)
         × (first .0 * w .0 < t .0) × (t .0 ≤ length (now wave) * w .0) ⌝ }

@@ -1,4 +1,4 @@
--- 01, "What the link software covers": levels and bits are 0 or 1, and a read that is not known is 2.
+-- Rules What the link software covers: levels and bits are 0 or 1, and a read that is not known is 2.
 use Prim.Native.Nat.{ℕ, _≤_}
 use mathlib.Core.List.{List, [], _∷_}
 
@@ -7,6 +7,6 @@ abbrev pub AtMost : ℕ → List ℕ → Type 0
 AtMost m [] = Unit {0}
 AtMost m (entry ∷ entries) = (entry ≤ m) × AtMost m entries
 
--- every entry is a level, or a bit
+-- G3: every entry is a level, or a bit
 abbrev pub Levels : List ℕ → Type 0
 Levels entries = AtMost 1 entries

@@ -1,4 +1,4 @@
--- 01, "Rows program": the example, byte for byte, and an empty input.
+-- Rules E: the example, byte for byte, and an empty input.
 use Prim.Native.Nat.{ℕ}
 use mathlib.Core.List.{List, [], _∷_, _++_}
 use Rattle.measure.specs.Table.{Case}
@@ -30,5 +30,6 @@ empty = record {
       114 ∷ 101 ∷ 102 ∷ 117 ∷ 115 ∷ 101 ∷ 100 ∷ 32 ∷ 54 ∷ 32 ∷ 97 ∷ 116 ∷ 32 ∷ 48 ∷ 10 ∷ [];
 }
 
+-- E8
 abbrev pub cases : List Case
 cases = example ∷ empty ∷ []

@@ -1,4 +1,4 @@
--- 01, "Rows program": its lines, and the whole of what it writes for any input.
+-- Rules E: its lines, and the whole of what it writes for any input.
 use Prim.Native.Nat.{ℕ, suc}
 use mathlib.Core.List.{List, [], _∷_, _++_}
 use lib.ListN.{length}
@@ -13,41 +13,42 @@ use Rattle.page.specs.Words.{feed, headingText, rowText, brokenText, end
 use Rattle.text.specs.Decimal.{decimal}
 use Rattle.page.specs.Words.{bitsText}
 
--- the same first line, whatever the capture
+-- E2: the same first line, whatever the capture
 abbrev pub headingLine : List ℕ
 headingLine = headingText
 
--- the line of an event: which read brought it, counted from 0; what it was; and the bits, or how many of them were lost
+-- E3: the line of an event: which read brought it, counted from 0; what it was; and the bits, or how many of them were
+-- lost
 abbrev pub eventLine : ℕ → Event → List ℕ
 eventLine place nothing = []
 eventLine place (row bits) = decimal place ++ rowText ++ bitsText bits ++ feed
 eventLine place (broken found) = decimal place ++ brokenText ++ decimal found ++ feed
 
--- the line at the end: how many reads there were and how many rows came out of them
+-- E4: the line at the end: how many reads there were and how many rows came out of them
 abbrev pub endLine : ℕ → ℕ → List ℕ
 endLine reads rows = endText ++ decimal reads ++ rowsText ++ decimal rows ++ feed
 
--- the only line of a bad capture
+-- E5: the only line of a bad capture
 abbrev pub refusedLine : ℕ → ℕ → List ℕ
 refusedLine number place = refusedText ++ decimal number ++ atText ++ decimal place ++ feed
 
--- a line for each report
+-- E3: a line for each report
 unfoldable pub eventLines : List Report → List ℕ
 eventLines [] = []
 eventLines (report ∷ more) = eventLine (report .place) (report .event) ++ eventLines more
 
--- how many rows were delivered, with one event more
+-- E4: how many rows were delivered, with one event more
 abbrev pub oneMore : Event → ℕ → ℕ
 oneMore nothing rows = rows
 oneMore (row bits) rows = suc rows
 oneMore (broken found) rows = rows
 
--- the same of a list of reports
+-- E4: the same of a list of reports
 unfoldable pub rowsIn : List Report → ℕ
 rowsIn [] = 0
 rowsIn (report ∷ more) = oneMore (report .event) (rowsIn more)
 
--- the heading, the reports of the reads from fresh, and the totals
+-- E1: the heading, the reports of the reads from fresh, and the totals
 abbrev pub page : List ℕ → List Report → List ℕ
 page reads told = headingLine ++ eventLines told ++ endLine (length reads) (rowsIn told)
 
@@ -59,12 +60,12 @@ captureSettings c = record { k = c .k; n = c .n; Q = c .Q }
 abbrev pub captureReads : Capture → List ℕ
 captureReads c = readsOfRuns (c .level) (c .runs)
 
--- a good capture gives its page, a bad one only its refusal
+-- E5: a good capture gives its page, a bad one only its refusal
 abbrev pub printed : Answer Capture → List ℕ
 printed (given c) = page (captureReads c) (reports (captureSettings c) fresh 0 (captureReads c))
 printed (refused number place) = refusedLine number place
 printed (refusedAfter number place count) = refusedLine number place
 
--- what the program writes for its input; more than 65,536 bytes are refused before anything else
+-- E6: what the program writes for its input; more than 65,536 bytes are refused before anything else
 unfoldable pub output : List ℕ → List ℕ
 output input = choose (ltb inputMost (length input)) (refusedLine 3 0) (printed (capture input))

@@ -1,5 +1,5 @@
--- 01, "Rows program": the program's way through a capture, turn by turn, as its operations answer, and the claim that
--- what it writes on this way is the whole output.
+-- Rules E: the program's way through a capture, turn by turn, as its operations answer, and the claim that what it
+-- writes on this way is the whole output.
 use Prim.Native.Nat.{ℕ, zero, suc, _+_, _-_}
 use mathlib.Core.Path.{_≡_}
 use mathlib.Core.Bool.{Bool, true, false}
@@ -16,13 +16,13 @@ use Rattle.board.specs.Answers.{Outcome, begun, listened}
 use Rattle.board.specs.declared.Receiver.{Receiver}
 use Rattle.page.specs.Lines.{headingLine, eventLine, endLine, refusedLine, oneMore, output}
 
--- where the program stands: its receiver, the place of the next read, and the rows delivered so far
+-- E1: where the program stands: its receiver, the place of the next read, and the rows delivered so far
 pub record Walk : Type 0 where
   pub receiver : Receiver
   pub place : ℕ
   pub rows : ℕ
 
--- a row that was delivered is one more
+-- E4: a row that was delivered is one more
 abbrev pub rowsAfter : Answer Event → ℕ → ℕ
 rowsAfter (given event) rows = oneMore event rows
 rowsAfter (refused number place) rows = rows
@@ -37,7 +37,7 @@ afterTurn w heard =
       rows = rowsAfter (heard .0 .answer) (w .rows);
     }
 
--- the line that it puts there: an event's, with the place of the read just taken, or the last where nothing was
+-- E3, E4: the line that it puts there: an event's, with the place of the read just taken, or the last where nothing was
 -- reported
 abbrev pub lineAt : Walk → Answer Event → List ℕ
 lineAt w (given nothing) = endLine (w .place) (w .rows)
@@ -46,7 +46,7 @@ lineAt w (given (broken found)) = eventLine (w .place - 1) (broken found)
 lineAt w (refused number place) = refusedLine number place
 lineAt w (refusedAfter number place count) = refusedLine number place
 
--- more lines follow that of an event
+-- E4: more lines follow that of an event
 abbrev pub goesOn : Answer Event → Bool
 goesOn (given nothing) = false
 goesOn (given (row bits)) = true
@@ -54,8 +54,8 @@ goesOn (given (broken found)) = true
 goesOn (refused number place) = false
 goesOn (refusedAfter number place count) = false
 
--- The lines from there on over the reads that are left, so many turns at most: in a turn the receiver takes the reads
--- up to and with the next that brings an event.
+-- E1: The lines from there on over the reads that are left, so many turns at most: in a turn the receiver takes the
+-- reads up to and with the next that brings an event.
 unfoldable pub linesFrom : ℕ → Walk → List ℕ → List ℕ
 linesFrom zero w left = []
 linesFrom (suc turns) w left =
@@ -63,28 +63,28 @@ linesFrom (suc turns) w left =
     ++ choose (goesOn (listened (w .receiver) left .0 .answer))
     (linesFrom turns (afterTurn w (listened (w .receiver) left)) (drop (listened (w .receiver) left .1) left)) []
 
--- all of them, since a turn for each read that is left is enough
+-- E1: all of them, since a turn for each read that is left is enough
 abbrev pub linesOf : Walk → List ℕ → List ℕ
 linesOf w left = linesFrom (length left + 1) w left
 
--- the way begins with a fresh receiver before the first read
+-- E1: the way begins with a fresh receiver before the first read
 abbrev pub begin : Summary → Walk
 begin s = record { receiver = begun (s .k .0) (s .n) (s .q .0) .1; place = 0; rows = 0 }
 
--- a capture that was read into a lent list gives the heading and its lines, a bad one only its refusal
+-- E5: a capture that was read into a lent list gives the heading and its lines, a bad one only its refusal
 abbrev pub wroteBy : Answer Summary → List ℕ → List ℕ
 wroteBy (given s) reads = headingLine ++ linesOf (begin s) (take (s .reads .0) reads)
 wroteBy (refused number place) reads = refusedLine number place
 wroteBy (refusedAfter number place count) reads = refusedLine number place
 
--- what the program writes for its input, with a lent list for the reads; too long an input is refused before it is
+-- E6: what the program writes for its input, with a lent list for the reads; too long an input is refused before it is
 -- looked at
 unfoldable pub wrote : List ℕ → List ℕ → List ℕ
 wrote input reads =
     choose (ltb inputMost (length input)) (refusedLine 3 0)
     (wroteBy (readBack input reads .0) (readBack input reads .1))
 
--- what it writes on this way is the whole output, for every input, where the lent list has room for the longest stream
--- of reads
+-- D2: what it writes on this way is the whole output, for every input, where the lent list has room for the longest
+-- stream of reads
 abbrev pub Whole : Type 0
 Whole = (input reads : List ℕ) → length reads ≡ entriesMost → wrote input reads ≡ output input

@@ -1,4 +1,4 @@
--- Where 01's words place a row: the Q reads of a lead are the first that pass the test of lying within it, so the Q-th
+-- Where the rules' words place a row: the Q reads of a lead are the first that pass the test of lying within it, so the Q-th
 -- is the last of them, and the last sample is counted from the read after it.
 use mathlib.Core.Path.{_≡_, refl, subst, ap, _∙_}
 use mathlib.Core.Bool.{Bool, true, false}
@@ -103,7 +103,7 @@ module _ (x : Link) where
     unfolding heard withinLead
     heard-is = the-Qth (wholly x (suc c) (c + row .lead)) i0 (x .Q) (length R) there outside inside
 
-  -- rows that are placed are placed where 01's words place them
+  -- rows that are placed are placed where the rules' words place them
   pub placed-is : {c : ℕ} {rows : List Row} {fs : List Report} → 0 < x .Q → Fit (x .n) (x .Q) 1 (x .w) (x .r) rows
       → Placed tw tr (λ i. getD R i 2) 1 (x .k) (x .Q) (x .a + x .b) (length R) c rows fs → fs ≡ deliveries x c rows
   unfolding deliveries lastSample

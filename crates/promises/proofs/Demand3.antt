@@ -1,5 +1,5 @@
 -- Demand 3 holds: the case of the inner theorem at clocks of equal lengths and a settling count of 1, whose margins ask
--- one time unit less than 01's.
+-- one time unit less than the rules'.
 use mathlib.Core.Path.{_≡_, subst, sym, ap, _∙_}
 use mathlib.Core.List.{List, [], _∷_, _++_}
 use Prim.Native.Nat.{ℕ, suc, _+_, _*_, _-_, _≤_, _<_}

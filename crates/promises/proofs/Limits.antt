@@ -1,4 +1,4 @@
--- 01's limits leave room for a lost message wherever one bit fits at all: at the last phase with no pads it has the
+-- the rules' limits leave room for a lost message wherever one bit fits at all: at the last phase with no pads it has the
 -- fewest reads, and where a lead is needed, the cell is short enough for it.
 use mathlib.Core.Path.{_≡_, refl, sym, _∙_}
 use mathlib.Core.Logic.{dite}
@@ -48,7 +48,7 @@ module _ (a b w r : ℕ) (pos : 0 < r) (m : OneBit w) where
   ends-late : length R ≤ entriesMost → (m .p1 + (a + b) + m .p2) * w < m .p + suc entriesMost * r
   ends-late h = rw size at (reads-few reads entriesMost h)
 
-  -- the witnesses are reads of 01's line
+  -- the witnesses are reads of the rules' line
   same-reads : length R ≡ length (unsettled 1 w r (m .p) l)
   same-reads = rw (over-the-line w r (m .p) l (m .choices)) (length-settle _ _)
 

@@ -1,4 +1,4 @@
--- Each margin of 01 is a difference of two naturals, so that it is minus one or more is an order between these: the
+-- Each margin of the rules is a difference of two naturals, so that it is minus one or more is an order between these: the
 -- margins of the inner theorem.
 use mathlib.Core.Path.{_≡_, refl, sym, _∙_}
 use mathlib.Core.Bool.{true}

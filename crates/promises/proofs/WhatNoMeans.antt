@@ -1,5 +1,5 @@
--- The exact rule at 01's clocks and settling: 01's margins at minus one or more are those of the inner rule, whose lost
--- message is lost on 01's line. The harmless "no" is computed, and for that the margins are unfolded.
+-- The exact rule at the rules' clocks and settling: the rules' margins at minus one or more are those of the inner rule, whose lost
+-- message is lost on the rules' line. The harmless "no" is computed, and for that the margins are unfolded.
 use mathlib.Core.Path.{_≡_, refl, sym, _∙_}
 use mathlib.Core.Bool.{Bool, true, false, false≢true}
 use mathlib.Core.List.{[], _∷_}
@@ -15,7 +15,7 @@ use Rattle.promises.proofs.CountedReturns.{returned}
 use Rattle.promises.proofs.Witness.{Loses, margins-or}
 use Rattle.promises.proofs.Exact.{lost-1, lost-2, lost-3}
 
--- what is lost with a settling count of 1 is lost on 01's line
+-- what is lost with a settling count of 1 is lost on the rules' line
 pub loses-lost : (a b k w r : ℕ) (m : OneBit w) → Loses a b 1 k w r m → Lost a b k w r m
 loses-lost a b k w r m loses =
     rw (over-the-line w r (m .p) (wave a b (m .p1) (m .p2) (m .bit ∷ [])) (m .choices)) loses

@@ -1,4 +1,4 @@
--- 01, "Margins": with settings that are accepted, no message is lost between sender and counted receiver. Source 002's
+-- Rules M: with settings that are accepted, no message is lost between sender and counted receiver. Source 002's
 -- results are cases of it.
 use Prim.Native.Nat.{ℕ, _+_, _*_, _≤_, _<_}
 use mathlib.Core.Path.{_≡_}
@@ -20,21 +20,21 @@ use Rattle.counted.specs.Answers.{countedBits}
 abbrev pub messageReads : (a b w r p1 p2 p : ℕ) (bits choices : List ℕ) → List ℕ
 messageReads a b w r p1 p2 p bits choices = overTheLine w r p (wave a b p1 p2 bits) choices
 
--- what the counted receiver, started high, finds in them
+-- M20: what the counted receiver, started high, finds in them
 abbrev pub received : (a b k w r p1 p2 p : ℕ) (bits choices : List ℕ) → List ℕ
 received a b k w r p1 p2 p bits choices = counted k (length bits) 1 (messageReads a b w r p1 p2 p bits choices)
 
--- every message is returned, with any pads, 0 included, at any phase, and with any choices
+-- M20: every message is returned, with any pads, 0 included, at any phase, and with any choices
 abbrev pub EveryMessageReturned : (a b k w r : ℕ) → Type 0
 EveryMessageReturned a b k w r =
     (p1 p2 p : ℕ) (bits choices : List ℕ) → p < w → Levels bits → Levels choices
     → received a b k w r p1 p2 p bits choices ≡ bits
 
--- the theorem: accepted settings return every message
+-- M20: the theorem: accepted settings return every message
 abbrev pub AcceptedReturn : Type 0
 AcceptedReturn = (a b k w r : ℕ) → accepted a b k w r ≡ true → EveryMessageReturned a b k w r
 
--- What that means for the operation: where its own ranges, limits and room are kept, it answers with the number of
+-- M20: What that means for the operation: where its own ranges, limits and room are kept, it answers with the number of
 -- bits, and these stand at the output's front.
 abbrev pub OperationReturns : Type 0
 OperationReturns = (a b k w r p1 p2 p : ℕ) (bits choices output : List ℕ) → accepted a b k w r ≡ true → p < w
@@ -44,28 +44,29 @@ OperationReturns = (a b k w r p1 p2 p : ℕ) (bits choices output : List ℕ) �
     → countedBits k (length bits) 1 (messageReads a b w r p1 p2 p bits choices) output
     ≡ (given (length bits), onto bits output)
 
--- w / r is within one part in n of unity: from 1 - 1/n to 1 + 1/n
+-- M21: w / r is within one part in n of unity: from 1 - 1/n to 1 + 1/n
 pub record WithinOnePartIn (n w r : ℕ) : Type 0 where
   pub least : n * r ≤ n * w + r
   pub most : n * w ≤ n * r + r
 
--- source 002's two results: its 18-cycle cell within 1/18 of unity, and its 32-cycle cell, with k 23, within 1/32; both
--- lie inside the margins
+-- M21: source 002's two results: its 18-cycle cell within 1/18 of unity, and its 32-cycle cell, with k 23, within 1/32;
+-- both lie inside the margins
 pub record Source002 : Type 0 where
   pub cell-18-accepted : (w r : ℕ) → WithinOnePartIn 18 w r → accepted 5 13 10 w r ≡ true
   pub cell-18-returns : (w r : ℕ) → WithinOnePartIn 18 w r → EveryMessageReturned 5 13 10 w r
   pub cell-32-accepted : (w r : ℕ) → WithinOnePartIn 32 w r → accepted 16 16 23 w r ≡ true
   pub cell-32-returns : (w r : ℕ) → WithinOnePartIn 32 w r → EveryMessageReturned 16 16 23 w r
 
--- the shortest and the longest read that the 18-cycle cell bears at w 100
+-- M23: the shortest and the longest read that the 18-cycle cell bears at w 100
 abbrev pub shortestRead : ℕ
 shortestRead = 67
 
+-- M23
 abbrev pub longestRead : ℕ
 longestRead = 141
 
--- Source 002 conjectures that its 18-cycle cell bears ratios almost 30 per cent from unity. At w 100 the reads of these
--- lengths are accepted and no others, and return every message; one step further on either side a bit is lost.
+-- M23: Source 002 conjectures that its 18-cycle cell bears ratios almost 30 per cent from unity. At w 100 the reads of
+-- these lengths are accepted and no others, and return every message; one step further on either side a bit is lost.
 pub record Conjecture002 : Type 0 where
   pub accepts-exactly : (r : ℕ) → accepted 5 13 10 100 r ≡ between shortestRead longestRead r
   pub returns : (r : ℕ) → shortestRead ≤ r → r ≤ longestRead → EveryMessageReturned 5 13 10 100 r

@@ -16,7 +16,7 @@ use Rattle.measure.specs.Levels.{Levels}
 use Rattle.promises.specs.Places.{Link, planReads, cyclesOf, withinLead, heard, deliveries}
 use Rattle.promises.specs.Replaced.{damaged, WhollyAfter, below, above, moved}
 
--- each row has n bits and a lead with M5 zero or more
+-- D20: each row has n bits and a lead with M5 zero or more
 abbrev pub RowsFit : Link → List Row → Type 0
 RowsFit x [] = Unit {0}
 RowsFit x (row ∷ rows) =
@@ -25,7 +25,7 @@ RowsFit x (row ∷ rows) =
     × (zeroOrMore (M5 (x .w) (x .r) (x .Q) (row .lead)) ≡ true)
     × RowsFit x rows
 
--- What is asked of a link and its plan. None of 01's upper limits is, and that a read takes time follows from M2.
+-- D20: What is asked of a link and its plan. None of the rules' upper limits is, and that a read takes time follows from M2.
 pub record Fitting (x : Link) : Type 0 where
   pub phase : x .p < x .w
   pub choices : Levels (x .choices)
@@ -36,7 +36,7 @@ pub record Fitting (x : Link) : Type 0 where
   pub m3 : zeroOrMore (M3 (x .a) (x .b) (x .k) (x .w) (x .r)) ≡ true
   pub m4 : zeroOrMore (M4 (x .a) (x .b) (x .w) (x .r) (x .Q)) ≡ true
 
--- Demand 3 of a receiver that does `step` with each read.
+-- D16, D17, D18: Demand 3 of a receiver that does `step` with each read.
 pub record Demand3 (x : Link) (step : Step) : Type 0 where
   -- Ahead of the stretch: the rows that end there by their last sample are delivered, these and no others, and nothing
   -- is broken.
@@ -50,17 +50,17 @@ pub record Demand3 (x : Link) (step : Step) : Type 0 where
       → above (i + length junk + (heard x (cyclesOf x earlier) row - j)) (reportsBy step fresh 0 (damaged x i j junk))
       ≡ moved i j junk (deliveries x (cyclesOf x earlier) (row ∷ later))
 
--- the receiver's settings
+-- D3: the receiver's settings
 abbrev pub receiverSettings : Link → Settings
 receiverSettings x = record { k = x .k; n = x .n; Q = x .Q }
 
--- what is promised of 01's step
+-- D3: what is promised of the rules' step
 abbrev pub Demand3Holds : Type 0
 Demand3Holds = (x : Link) → Fitting x → Demand3 x (next (receiverSettings x))
 
--- What demand 3 takes for granted. Q reads lie within each lead, and each last sample is a read; a lead quiet that is
--- read wholly after the stretch is heard after it, and the last samples from its row on are read after that, so neither
--- difference stops at 0.
+-- D14: What demand 3 takes for granted. Q reads lie within each lead, and each last sample is a read; a lead quiet that
+-- is read wholly after the stretch is heard after it, and the last samples from its row on are read after that, so
+-- neither difference stops at 0.
 pub record Grounds (x : Link) : Type 0 where
   pub leads : (earlier : List Row) (row : Row) (later : List Row) → x .rows ≡ earlier ++ row ∷ later
       → x .Q ≤ length (withinLead x (cyclesOf x earlier) row)
@@ -71,5 +71,6 @@ pub record Grounds (x : Link) : Type 0 where
       → above (heard x (cyclesOf x earlier) row) (deliveries x (cyclesOf x earlier) (row ∷ later))
       ≡ deliveries x (cyclesOf x earlier) (row ∷ later)
 
+-- D14
 abbrev pub GroundsHold : Type 0
 GroundsHold = (x : Link) → Fitting x → Grounds x

@@ -1,6 +1,5 @@
 -- The user's demands 1, 2 and 3 in order, each over the definitions that the operations' contracts cite. That every
--- call ends is not stated here: the
--- prover shows it of each function by itself.
+-- call ends is not stated here: the prover shows it of each function by itself.
 use Prim.Native.Nat.{ℕ, _+_, _-_, _≤_}
 use mathlib.Core.Path.{_≡_}
 use mathlib.Core.Bool.{Bool, true, false}
@@ -29,35 +28,34 @@ use Rattle.promises.specs.Demand3.{Fitting, Demand3Holds, GroundsHold}
 use Rattle.promises.specs.OneByOne.{answers, reported, OperationReports}
 use Rattle.promises.specs.Operations.{Leaves, OperationsLeave}
 
--- a number is one of these
+-- D1: a number is one of these
 unfoldable pub oneOf : ℕ → List ℕ → Bool
 oneOf number [] = false
 oneOf number (one ∷ more) = choose (eqb number one) true (oneOf number more)
 
--- an answer refuses, if it does, by one of these numbers
+-- D1: an answer refuses, if it does, by one of these numbers
 unfoldable pub RefusesBy : {A : Type 0} → List ℕ → Answer A → Type 0
 RefusesBy numbers (given result) = Unit {0}
 RefusesBy numbers (refused number place) = oneOf number numbers ≡ true
 RefusesBy numbers (refusedAfter number place count) = ⊥
 
--- and leaves what was lent; refusal 5, which tells how many bits were found, leaves these bits, and is spoken of with
--- demand 2
+-- D1, R30: and leaves what was lent; refusal 5, which tells how many bits were found, leaves these bits, and is spoken
+-- of with demand 2
 unfoldable pub Refuses : {A B : Type 0} → List ℕ → B → Answer A × B → Type 0
 Refuses numbers lent (given result, left) = Unit {0}
 Refuses numbers lent (refused number place, left) = (oneOf number numbers ≡ true) × (left ≡ lent)
 Refuses numbers lent (refusedAfter number place count, left) = number ≡ 5
 
--- a receiver that is given reads
+-- D1, R30: a receiver that is given reads
 abbrev pub RefusesReads : List ℕ → Receiver → Outcome → Type 0
 RefusesReads numbers receiver outcome = Refuses numbers receiver (outcome .answer, outcome .receiver)
 
--- what a refused start hands back: hunting, and all numbers 0
+-- R33: what a refused start hands back: hunting, and all numbers 0
 abbrev pub unstarted : Receiver
 unstarted = begun 0 0 0 .1
 
--- Demand 1: whatever comes in is answered, and what is bad is refused by number and leaves what was lent. When exactly
--- which number is given, the
--- definitions say.
+-- D1: Demand 1: whatever comes in is answered, and what is bad is refused by number and leaves what was lent. When
+-- exactly which number is given, the definitions say.
 pub record Demand1 : Type 0 where
   pub judge : (a b k w r : ℕ) → RefusesBy (1 ∷ []) (judgement a b k w r)
   pub judge-quiet : (a b k w r Q p1 : ℕ) → RefusesBy (1 ∷ []) (quietJudgement a b k w r Q p1)
@@ -81,7 +79,7 @@ pub record Demand1 : Type 0 where
       → Refuses (1 ∷ 3 ∷ 2 ∷ 4 ∷ []) output (written k n Q reads output)
   pub put-line : (line output : List ℕ) → Refuses (4 ∷ []) output (lent line output)
 
--- Demand 2: what is sent, what the line makes of it and what is received are the very lists and reports of the
+-- D2: Demand 2: what is sent, what the line makes of it and what is received are the very lists and reports of the
 -- definitions, and captures go both ways.
 pub record Demand2 : Type 0 where
   pub sends-and-passes : OperationsLeave
@@ -94,11 +92,11 @@ pub record Demand2 : Type 0 where
   pub reads-back : WrittenReadsBack
   pub writes-back : ReadWritesBack
 
--- what the receiver's operation, made fresh with a link's settings and given one read a call, reports
+-- D10: what the receiver's operation, made fresh with a link's settings and given one read a call, reports
 abbrev pub reportsOf : Link → List ℕ → List Report
 reportsOf x reads = reported 0 (answers (begun (x .k) (x .n) (x .Q) .1) reads)
 
--- demand 3 of these reports, for reads that are levels
+-- D16, D17: demand 3 of these reports, for reads that are levels
 pub record OfTheOperation (x : Link) : Type 0 where
   pub before : (i j : ℕ) (junk : List ℕ) → Levels junk → i ≤ j → j ≤ length (planReads x)
       → below i (reportsOf x (damaged x i j junk)) ≡ below i (deliveries x 0 (x .rows))
@@ -108,13 +106,13 @@ pub record OfTheOperation (x : Link) : Type 0 where
       → above (i + length junk + (heard x (cyclesOf x earlier) row - j)) (reportsOf x (damaged x i j junk))
       ≡ moved i j junk (deliveries x (cyclesOf x earlier) (row ∷ later))
 
--- Demand 3: of the rules, with its grounds, and of the operation.
+-- D3: Demand 3: of the rules, with its grounds, and of the operation.
 pub record Demand3Met : Type 0 where
   pub of-the-rules : Demand3Holds
   pub grounds : GroundsHold
   pub of-the-operation : (x : Link) → Fitting x → settingsFit (x .k) (x .n) (x .Q) ≡ true → OfTheOperation x
 
--- the three
+-- D1 to D3: the three
 pub record Demands : Type 0 where
   pub demand-1 : Demand1
   pub demand-2 : Demand2

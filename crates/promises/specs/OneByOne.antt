@@ -12,29 +12,30 @@ use Rattle.board.specs.Answers.{begun, stepped}
 use Rattle.board.specs.declared.Receiver.{Receiver}
 use Rattle.measure.specs.Levels.{Levels}
 
--- the answers of one call a read, each with the receiver that the call before handed back
+-- D10: the answers of one call a read, each with the receiver that the call before handed back
 unfoldable pub answers : Receiver → List ℕ → List (Answer Event)
 answers x [] = []
 answers x (read ∷ reads) = stepped x read .answer ∷ answers (stepped x read .receiver) reads
 
--- none is a refusal
+-- D1: none is a refusal
 abbrev pub AllGiven : List (Answer Event) → Type 0
 AllGiven [] = Unit {0}
 AllGiven (given event ∷ more) = AllGiven more
 AllGiven (refused number place ∷ more) = ⊥
 AllGiven (refusedAfter number place found ∷ more) = ⊥
 
--- what they report, where the first is the answer to the read at this place
+-- B43: what they report, where the first is the answer to the read at this place
 unfoldable pub reported : ℕ → List (Answer Event) → List Report
 reported place [] = []
 reported place (given event ∷ more) = noted place event (reported (suc place) more)
 reported place (refused number at ∷ more) = reported (suc place) more
 reported place (refusedAfter number at found ∷ more) = reported (suc place) more
 
+-- D10
 pub record OneByOne (k n Q : ℕ) (reads : List ℕ) : Type 0 where
   pub refuses-none : AllGiven (answers (begun k n Q .1) reads)
   pub reports-all : reported 0 (answers (begun k n Q .1) reads) ≡ reports (record { k = k; n = n; Q = Q }) fresh 0 reads
 
--- for k, n and Q in range
+-- D10: for k, n and Q in range
 abbrev pub OperationReports : Type 0
 OperationReports = (k n Q : ℕ) (reads : List ℕ) → settingsFit k n Q ≡ true → Levels reads → OneByOne k n Q reads

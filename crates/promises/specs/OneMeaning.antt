@@ -1,4 +1,4 @@
--- 01, "Holding the promises to one meaning": no promise leaves room for two results.
+-- Rules D30 to D34: no promise leaves room for two results.
 -- Each promise is an equation: on the left the operation's definition, on the right what its answer tells and what it
 -- leaves. Here they stand one by one.
 use Prim.Native.Nat.{ℕ}
@@ -28,19 +28,20 @@ use Rattle.capture.specs.Answers.{numberSays, headSays, checked, readBack, chec
 use Rattle.page.specs.Lines.{headingLine, eventLine, endLine, refusedLine}
 use Rattle.page.specs.Answers.{putSays}
 
--- one answer tells what is defined: any two are equal
+-- D31: one answer tells what is defined: any two are equal
 abbrev pub One : {X Y : Type 0} → (X → Y) → Y → Type 0
 One {X} told defined = (x y : X) → defined ≡ told x → defined ≡ told y → x ≡ y
 
--- what is given is what is defined: any two are equal
+-- D31: what is given is what is defined: any two are equal
 abbrev pub Only : {X : Type 0} → X → Type 0
 Only {X} defined = (x y : X) → x ≡ defined → y ≡ defined → x ≡ y
 
--- and so are two answers with what each leaves in a lent output, or with the receiver that it hands back
+-- D31: and so are two answers with what each leaves in a lent output, or with the receiver that it hands back
 abbrev pub OneLeft : {X Y Z : Type 0} → (X → Y) → Y × Z → Type 0
 OneLeft {X} {Y} {Z} told defined =
     (x y : X) (left right : Z) → defined ≡ (told x, left) → defined ≡ (told y, right) → (x ≡ y) × (left ≡ right)
 
+-- D31
 pub record OneMeaning : Type 1 where
   pub judge : (a b k w r : ℕ) → One judgedSays (judgement a b k w r)
   pub judge-quiet : (a b k w r Q p1 : ℕ) → One quietJudgedSays (quietJudgement a b k w r Q p1)

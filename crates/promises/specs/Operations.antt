@@ -13,10 +13,11 @@ use Rattle.line.specs.Warp.{warp}
 use Rattle.line.specs.Settle.{settle}
 use Rattle.line.specs.Answers.{smoothed, warped, settled}
 
--- an outcome that gives so many entries leaves this list at the output's front
+-- D2: an outcome that gives so many entries leaves this list at the output's front
 abbrev pub Leaves : Answer ℕ × List ℕ → List ℕ → Type 0
 Leaves outcome list = (count : ℕ) (output : List ℕ) → outcome ≡ (given count, output) → take count output ≡ list
 
+-- D2
 pub record OperationsLeave : Type 0 where
   pub send : (a b p1 p2 : ℕ) (bits output : List ℕ) → Leaves (sentMessage a b p1 p2 bits output) (wave a b p1 p2 bits)
   pub send-plan : (a b n : ℕ) (leads trails bits output : List ℕ)

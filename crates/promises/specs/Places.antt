@@ -13,7 +13,7 @@ use Rattle.counted.specs.Counted.{fromMark}
 use Rattle.board.specs.Rows.{row as delivered}
 use Rattle.board.specs.Feeding.{Report}
 
--- the settings of a link, the plan sent over it, and what the line chooses for unknown reads
+-- D10: the settings of a link, the plan sent over it, and what the line chooses for unknown reads
 pub record Link : Type 0 where
   pub a : ℕ
   pub b : ℕ
@@ -26,67 +26,67 @@ pub record Link : Type 0 where
   pub rows : List Row
   pub choices : List ℕ
 
--- the settled reads: the plan's wave after the three passes of the line
+-- D10: the settled reads: the plan's wave after the three passes of the line
 unfoldable pub planReads : Link → List ℕ
 planReads x = overTheLine (x .w) (x .r) (x .p) (planWave (x .a) (x .b) (x .rows)) (x .choices)
 
--- how many cycles rows have, one after another
+-- D14: how many cycles rows have, one after another
 abbrev pub cyclesOf : Link → List Row → ℕ
 cyclesOf x rows = length (planWave (x .a) (x .b) rows)
 
--- an entry before others, where a test holds
+-- D14: an entry before others, where a test holds
 abbrev pub keep : {A : Type 0} → Bool → A → List A → List A
 keep true entry entries = entry ∷ entries
 keep false entry entries = entries
 
--- the places where a test holds, of so many from one on
+-- D14: the places where a test holds, of so many from one on
 unfoldable pub placesWhere : (test : ℕ → Bool) (place many : ℕ) → List ℕ
 placesWhere test place zero = []
 placesWhere test place (suc many) = keep (test place) place (placesWhere test (suc place) many)
 
--- the entry of a list with this number, the first is number 1
+-- D14: the entry of a list with this number, the first is number 1
 unfoldable pub numbered : (number : ℕ) → List ℕ → ℕ
 numbered number [] = 0
 numbered zero (entry ∷ entries) = entry
 numbered (suc zero) (entry ∷ entries) = entry
 numbered (suc (suc number)) (entry ∷ entries) = numbered (suc number) entries
 
--- a read lies wholly within the cycles from one up to another; touching ends count
+-- D13: a read lies wholly within the cycles from one up to another; touching ends count
 abbrev pub wholly : (x : Link) (from to read : ℕ) → Bool
 wholly x from to read =
     leb (cycleStart (x .w) from) (readStart (x .p) (x .r) read)
     && leb (readStart (x .p) (x .r) (suc read)) (cycleStart (x .w) to)
 
--- the reads that lie wholly within the lead cycles, without the first, of a row whose lead begins with this cycle
+-- D14: the reads that lie wholly within the lead cycles, without the first, of a row whose lead begins with this cycle
 unfoldable pub withinLead : (x : Link) (cycle : ℕ) (row : Row) → List ℕ
 withinLead x cycle row = placesWhere (wholly x (suc cycle) (cycle + row .lead)) 0 (length (planReads x))
 
--- the read at which its lead counts as heard: number Q of these
+-- D14: the read at which its lead counts as heard: number Q of these
 unfoldable pub heard : (x : Link) (cycle : ℕ) (row : Row) → ℕ
 heard x cycle row = numbered (x .Q) (withinLead x cycle row)
 
--- the place of the mark, where the first of these reads has this place
+-- C1: the place of the mark, where the first of these reads has this place
 unfoldable pub markPlace : (level place : ℕ) (reads : List ℕ) → ℕ
 markPlace level place [] = place
 markPlace level place (read ∷ reads) = choose (eqb read level) (markPlace level (suc place) reads) place
 
--- what follows a sample: the search for the next mark begins with it, at its level
+-- C4: what follows a sample: the search for the next mark begins with it, at its level
 abbrev pub fromSample : (ℕ → ℕ → List ℕ → ℕ) → ℕ → List ℕ → ℕ
 fromSample next place [] = place
 fromSample next place (sample ∷ reads) = next sample place (sample ∷ reads)
 
--- the place of the n-th sample by the counted receiver's rule: the sample of each bit is k places after its mark
+-- D15: the place of the n-th sample by the counted receiver's rule: the sample of each bit is k places after its mark
 unfoldable pub samplePlace : (k n level place : ℕ) (reads : List ℕ) → ℕ
 samplePlace k zero level place reads = place
 samplePlace k (suc n) level place reads =
     fromSample (samplePlace k n) (markPlace level place reads + k) (drop k (fromMark level reads))
 
--- a row's last sample: the n-th by that rule, started high at the read after its lead quiet has been heard
+-- D15: a row's last sample: the n-th by that rule, started high at the read after its lead quiet has been heard
 unfoldable pub lastSample : (x : Link) (cycle : ℕ) (row : Row) → ℕ
 lastSample x cycle row =
     samplePlace (x .k) (x .n) 1 (suc (heard x cycle row)) (drop (suc (heard x cycle row)) (planReads x))
 
--- rows, the first of which begins with this cycle, each delivered once, at its last sample, in order
+-- D16, D17: rows, the first of which begins with this cycle, each delivered once, at its last sample, in order
 unfoldable pub deliveries : (x : Link) (cycle : ℕ) (rows : List Row) → List Report
 deliveries x cycle [] = []
 deliveries x cycle (one ∷ rows) =

@@ -11,29 +11,31 @@ use Rattle.line.specs.Sharing.{Shares}
 use Rattle.board.specs.Feeding.{Report}
 use Rattle.promises.specs.Places.{Link, planReads, keep}
 
--- the settled reads, those from place i up to j replaced
+-- D11: the settled reads, those from place i up to j replaced
 abbrev pub damaged : (x : Link) (i j : ℕ) (junk : List ℕ) → List ℕ
 damaged x i j junk = take i (planReads x) ++ junk ++ drop j (planReads x)
 
--- 01, on which leads count after a stretch that ends before place j, for a row whose lead begins with this cycle:
+-- D12: which leads count after a stretch that ends before place j, for a row whose lead begins with this cycle:
 -- no read that overlaps its lead cycles in time stands before j.
 abbrev pub WhollyAfter : (x : Link) (cycle : ℕ) (row : Row) (j : ℕ) → Type 0
 WhollyAfter x cycle row j =
     (i read : ℕ) → cycle ≤ i → i < cycle + row .lead → read < length (planReads x)
     → Shares (cycleStart (x .w)) (readStart (x .p) (x .r)) read i → j ≤ read
 
--- the reports whose places pass a test; those below a place and those above it
+-- D16, D17: the reports whose places pass a test; those below a place and those above it
 unfoldable pub reportsAt : (ℕ → Bool) → List Report → List Report
 reportsAt test [] = []
 reportsAt test (report ∷ reports) = keep (test (report .place)) report (reportsAt test reports)
 
+-- D16
 abbrev pub below : ℕ → List Report → List Report
 below place reports = reportsAt (λ at. ltb at place) reports
 
+-- D17, D18
 abbrev pub above : ℕ → List Report → List Report
 above place reports = reportsAt (λ at. ltb place at) reports
 
--- reports of reads that stood at j or later, each at the place to which the stretch moves its read
+-- D19: reports of reads that stood at j or later, each at the place to which the stretch moves its read
 unfoldable pub moved : (i j : ℕ) (junk : List ℕ) → List Report → List Report
 moved i j junk [] = []
 moved i j junk (report ∷ reports) =

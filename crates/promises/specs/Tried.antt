@@ -11,9 +11,11 @@ use Rattle.promises.specs.Places.{Link, cyclesOf, heard, deliveries}
 use Rattle.promises.specs.Replaced.{WhollyAfter, damaged, below, above}
 use Rattle.promises.specs.Demand3.{Fitting, Demand3, receiverSettings}
 
+-- D3
 abbrev pub first : Row
 first = record { lead = 23; trail = 0; bits = 1 ∷ 0 ∷ [] }
 
+-- D3
 abbrev pub second : Row
 second = record { lead = 23; trail = 0; bits = 0 ∷ 1 ∷ [] }
 
@@ -33,7 +35,7 @@ p10 = record {
   choices = 1 ∷ 0 ∷ 0 ∷ 1 ∷ 1 ∷ 0 ∷ [];
 }
 
--- Q high reads, then a mark
+-- D11: Q high reads, then a mark
 abbrev pub false-quiet : List ℕ
 false-quiet = replicate 21 1 ++ replicate 3 0
 
@@ -44,6 +46,7 @@ damagedReports = reportsBy (next (receiverSettings p10)) fresh 0 (damaged p10 54
 abbrev at : (place : ℕ) (event : Event) → Report
 at place event = record { place = place; event = event }
 
+-- D3
 pub record Tried : Type 0 where
   -- the hypotheses are met, so demand 3 holds here
   pub fits : Fitting p10

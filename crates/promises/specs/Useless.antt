@@ -1,4 +1,4 @@
--- 01, "Holding the promises to one meaning": useless receivers that demand 3 shuts out.
+-- Rules D30 to D34: useless receivers that demand 3 shuts out.
 use Prim.Native.Nat.{ℕ}
 use mathlib.Core.Bool.{Bool, false}
 use mathlib.Core.Path.{_≡_}
@@ -13,36 +13,39 @@ use Rattle.promises.specs.Places.{planReads}
 use Rattle.promises.specs.Demand3.{Demand3, receiverSettings}
 use Rattle.promises.specs.Tried.{p10}
 
--- one that refuses everything: nothing is reported, and the state comes back unchanged
+-- D34: one that refuses everything: nothing is reported, and the state comes back unchanged
 abbrev pub refusesAll : Step
 refusesAll s read = record { state = s; event = nothing }
 
--- one that reports by the rules and leaves its state unchanged
+-- D34: one that reports by the rules and leaves its state unchanged
 abbrev pub leavesState : Settings → Step
 leavesState g s read = record { state = s; event = next g s read .event }
 
--- One that delivers a first row and hunts ever after. That it has delivered it remembers by a read left in hunting,
--- which the rules never leave.
+-- D34: One that delivers a first row and hunts ever after. That it has delivered it remembers by a read left in
+-- hunting, which the rules never leave.
 abbrev pub delivered : State
 delivered = record { mode = Hunting; left = 1; level = 1; run = 0; bits = [] }
 
+-- D34
 abbrev pub hasDelivered : Mode → ℕ → Bool
 hasDelivered Hunting left = eqb left 1
 hasDelivered Ready left = false
 hasDelivered Counting left = false
 hasDelivered Waiting left = false
 
+-- D34
 abbrev pub remembering : Moved → Event → Moved
 remembering moved nothing = moved
 remembering moved (row bits) = record { state = delivered; event = row bits }
 remembering moved (broken found) = moved
 
+-- D34
 abbrev pub deliversOnce : Settings → Step
 deliversOnce g s read =
     choose (hasDelivered (s .mode) (s .left)) (record { state = s; event = nothing })
     (remembering (next g s read) (next g s read .event))
 
--- demand 3 is false of each; the last one does deliver the first row
+-- D34: demand 3 is false of each; the last one does deliver the first row
 pub record ShutOut : Type 0 where
   pub refusing : Demand3 p10 refusesAll → ⊥
   pub leaving : Demand3 p10 (leavesState (receiverSettings p10)) → ⊥

@@ -1,4 +1,4 @@
--- 01, "Margins", on what a refusal of settings leaves open. What it does say: the margins are exact to one time unit.
+-- Rules M, on what a refusal of settings leaves open. What it does say: the margins are exact to one time unit.
 use Prim.Native.Nat.{ℕ, zero, suc, _≤_, _<_}
 use mathlib.Core.Path.{_≡_}
 use mathlib.Core.Logic.{_≢_}
@@ -13,7 +13,7 @@ use Rattle.settings.specs.Answers.{inRange}
 use Rattle.sender.specs.Sending.{wave}
 use Rattle.promises.specs.CountedReturns.{messageReads, received, EveryMessageReturned}
 
--- minus one or more: times are whole numbers, so a margin has one unit to spare
+-- M22: minus one or more: times are whole numbers, so a margin has one unit to spare
 abbrev pub minusOneOrMore : ℤ → Bool
 minusOneOrMore (pos n) = true
 minusOneOrMore (negsuc zero) = true
@@ -23,7 +23,7 @@ minusOneOrMore (negsuc (suc n)) = false
 unfoldable pub almostAccepted : (a b k w r : ℕ) → Bool
 almostAccepted a b k w r = minusOneOrMore (m1 a w r) && minusOneOrMore (m2 a k w r) && minusOneOrMore (m3 a b k w r)
 
--- a message of one bit on its way: its pads, a phase and choices
+-- M22: a message of one bit on its way: its pads, a phase and choices
 pub record OneBit (w : ℕ) : Type 0 where
   pub p1 : ℕ
   pub p2 : ℕ
@@ -34,11 +34,11 @@ pub record OneBit (w : ℕ) : Type 0 where
   pub is-bit : bit ≤ 1
   pub are-choices : Levels choices
 
--- it is not returned
+-- M22: it is not returned
 abbrev pub Lost : (a b k w r : ℕ) → OneBit w → Type 0
 Lost a b k w r m = received a b k w r (m .p1) (m .p2) (m .p) (m .bit ∷ []) (m .choices) ≢ m .bit ∷ []
 
--- its pads, its cycles, its reads and its choices are within the limits of refusals 1 and 3
+-- M22: its pads, its cycles, its reads and its choices are within the limits of refusals 1 and 3
 pub record WithinLimits (a b w r : ℕ) (m : OneBit w) : Type 0 where
   pub lead : m .p1 ≤ padMost
   pub trail : m .p2 ≤ padMost
@@ -46,26 +46,26 @@ pub record WithinLimits (a b w r : ℕ) (m : OneBit w) : Type 0 where
   pub reads : length (messageReads a b w r (m .p1) (m .p2) (m .p) (m .bit ∷ []) (m .choices)) ≤ entriesMost
   pub chosen : length (m .choices) ≤ entriesMost
 
--- Every message is returned exactly if M1, M2 and M3 are minus one or more. At all other settings a message of one bit
--- is lost.
+-- M22: Every message is returned exactly if M1, M2 and M3 are minus one or more. At all other settings a message of one
+-- bit is lost.
 pub record ExactRule (a b k w r : ℕ) : Type 0 where
   pub enough : almostAccepted a b k w r ≡ true → EveryMessageReturned a b k w r
   pub needed : EveryMessageReturned a b k w r → almostAccepted a b k w r ≡ true
   pub lost : almostAccepted a b k w r ≡ false → (m : OneBit w) × Lost a b k w r m
 
--- the rule holds of all settings of which a, k, w and r are at least 1
+-- M22: the rule holds of all settings of which a, k, w and r are at least 1
 abbrev pub MarginsAreExact : Type 0
 MarginsAreExact = (a b k w r : ℕ) → 1 ≤ a → 1 ≤ k → 1 ≤ w → 1 ≤ r → ExactRule a b k w r
 
--- A "no" that loses nothing: at a 2, b 5, k 4 and equal clocks M1 is minus one and M2 and M3 are 0, so the settings are
--- refused and return every message.
+-- M14: A "no" that loses nothing: at a 2, b 5, k 4 and equal clocks M1 is minus one and M2 and M3 are 0, so the
+-- settings are refused and return every message.
 pub record HarmlessNo : Type 0 where
   pub least : (m1 2 1 1 ≡ negsuc 0) × (m2 2 4 1 1 ≡ pos 0) × (m3 2 5 4 1 1 ≡ pos 0)
   pub refused : accepted 2 5 4 1 1 ≡ false
   pub returned : EveryMessageReturned 2 5 4 1 1
 
--- 01's limits change nothing: where the settings are in range and some message of one bit is within the limits, one
--- within the limits is lost
+-- M22: the rules' limits change nothing: where the settings are in range and some message of one bit is within the limits,
+-- one within the limits is lost
 abbrev pub LostWithinLimits : Type 0
 LostWithinLimits = (a b k w r : ℕ) → inRange a b k w r ≡ true → (m : OneBit w) → WithinLimits a b w r m
     → almostAccepted a b k w r ≡ false → (n : OneBit w) × WithinLimits a b w r n × Lost a b k w r n

@@ -1,4 +1,4 @@
--- 01, "Numbers to try": the worked cases that are proved, P1 to P11, as a single table.
+-- Rules P: the worked cases that are proved, P1 to P11, as a single table.
 use mathlib.Core.List.{List, _++_}
 use Rattle.measure.specs.Table.{Case, Agree}
 use Rattle.sender.specs.Cases as Sender
@@ -11,6 +11,6 @@ use Rattle.capture.specs.Cases as Capture
 abbrev pub table : List Case
 table = Sender.cases ++ Line.cases ++ Counted.cases ++ Settings.cases ++ Capture.cases
 
--- what the definitions give is what is printed, in every case of the table
+-- P1 to P11: what the definitions give is what is printed, in every case of the table
 abbrev pub WorkedCasesAgree : Type 0
 WorkedCasesAgree = Agree table

@@ -1,4 +1,4 @@
--- The definitions compute to what document 01 prints.
+-- The definitions compute to what the rules print.
 use mathlib.Core.Path.{refl}
 use Rattle.measure.specs.Table.{Agree}
 use Rattle.sender.specs.Sending.{wave, cells}

@@ -1,5 +1,5 @@
--- 01, "Sending" and "Refusal numbers": what sending a message and sending a plan answer and leave in the lent output,
--- for all input, and what each case of the code says.
+-- Rules S and R: what sending a message and sending a plan answer and leave in the lent output, for all input, and what
+-- each case of the code says.
 use Prim.Native.Nat.{ℕ, _*_}
 use mathlib.Core.Bool.{Bool, _&&_, not}
 use mathlib.Core.List.{List}
@@ -16,8 +16,8 @@ use Rattle.sender.specs.declared.Sent.the-variants.{Wave, Refused}
 abbrev pub messageInRange : (a b p1 p2 : ℕ) → Bool
 messageInRange a b p1 p2 = subcell a && subcell b && leb p1 padMost && leb p2 padMost
 
--- a message: refusal 1 for a, b or a pad out of range, 3 for more than 1,024 bits or a wave over its limit, 2 for an
--- entry that is no bit
+-- R42: a message: refusal 1 for a, b or a pad out of range, 3 for more than 1,024 bits or a wave over its limit, 2 for
+-- an entry that is no bit
 unfoldable pub sentMessage : (a b p1 p2 : ℕ) (bits output : List ℕ) → Answer ℕ × List ℕ
 sentMessage a b p1 p2 bits output =
     ranged (messageInRange a b p1 p2) output
@@ -26,12 +26,12 @@ sentMessage a b p1 p2 bits output =
     (entered 1 bits output
     (lent (wave a b p1 p2 bits) output))))
 
--- the lists of a plan fit one another: there is a row, a trail pad for each lead pad, and n bits for each row
+-- S23: the lists of a plan fit one another: there is a row, a trail pad for each lead pad, and n bits for each row
 abbrev pub fitting : (n : ℕ) (leads trails bits : List ℕ) → Bool
 fitting n leads trails bits =
     leb 1 (length leads) && eqb (length trails) (length leads) && eqb (length bits) (length leads * n)
 
--- each pad of a list is in range
+-- N7, N8: each pad of a list is in range
 abbrev pub padded : List ℕ → Bool
 padded pads = not (someAbove padMost pads)
 
@@ -40,8 +40,8 @@ abbrev pub planInRange : (a b n : ℕ) (leads trails bits : List ℕ) → Bool
 planInRange a b n leads trails bits =
     subcell a && subcell b && rowBits n && fitting n leads trails bits && padded leads && padded trails
 
--- a plan: refusal 1 for a, b, n or a pad out of range and for lists that do not fit, 3 for more than 1,024 rows or a
--- wave over its limit, 2 for an entry that is no bit
+-- R43: a plan: refusal 1 for a, b, n or a pad out of range and for lists that do not fit, 3 for more than 1,024 rows or
+-- a wave over its limit, 2 for an entry that is no bit
 unfoldable pub sentPlan : (a b n : ℕ) (leads trails bits output : List ℕ) → Answer ℕ × List ℕ
 sentPlan a b n leads trails bits output =
     ranged (planInRange a b n leads trails bits) output
@@ -50,7 +50,7 @@ sentPlan a b n leads trails bits output =
     (entered 1 bits output
     (lent (planWave a b (rowsOf n leads trails bits)) output))))
 
--- what each case of the code's answer says
+-- A8: what each case of the code's answer says
 abbrev pub sentSays : Sent → Answer ℕ
 sentSays (Wave cycles) = given (cycles .0)
 sentSays (Refused refusal) = denied refusal

@@ -1,4 +1,4 @@
--- 01, "Numbers to try": P1.
+-- Rules P: P1.
 use Prim.Native.Nat.{ℕ}
 use mathlib.Core.List.{List, [], _∷_}
 use Rattle.measure.specs.Table.{Case}
@@ -12,5 +12,6 @@ P1 = record {
   printed = 1 ∷ 1 ∷ 0 ∷ 0 ∷ 1 ∷ 1 ∷ 1 ∷ 0 ∷ 0 ∷ 0 ∷ 0 ∷ 0 ∷ 1 ∷ [];
 }
 
+-- P1
 abbrev pub cases : List Case
 cases = P1 ∷ []

@@ -1,4 +1,4 @@
--- The definitions compute to what document 01 prints.
+-- The definitions compute to what the rules print.
 use mathlib.Core.Path.{refl}
 use Rattle.measure.specs.Table.{Agree}
 use Rattle.settings.specs.Margins.{m1, m2, m3, m4, m5, accepted, quietAccepted}

@@ -1,5 +1,5 @@
--- What the judge and the quiet judge answer, for all input (01, "Margins" and refusal 1), and what each case of the
--- code says.
+-- What the judge and the quiet judge answer, for all input (rules M13 and R40, R41), and what each case of the code
+-- says.
 use Prim.Native.Nat.{ℕ}
 use mathlib.Core.Bool.{Bool, true, false, _&&_}
 use lib.Dec.{leb}
@@ -15,17 +15,17 @@ use Rattle.settings.specs.declared.QuietJudged.{QuietJudged}
 use Rattle.settings.specs.declared.QuietJudged.the-variants.{Yes as QuietYes, No as QuietNo}
 use Rattle.settings.specs.declared.QuietJudged.the-variants.{Refused as QuietRefused}
 
--- the margins and yes or no; a "no" has its margins too
+-- M13: the margins and yes or no; a "no" has its margins too
 pub record Judgement : Type 0 where
   pub margins : Margins
   pub accepts : Bool
 
--- the same with all five
+-- M13: the same with all five
 pub record QuietJudgement : Type 0 where
   pub margins : QuietMargins
   pub accepts : Bool
 
--- a, b, k, w and r are in range
+-- R40: a, b, k, w and r are in range
 abbrev pub inRange : (a b k w r : ℕ) → Bool
 inRange a b k w r = subcell a && subcell b && sampling k && cycleLength w && cycleLength r
 
@@ -42,27 +42,27 @@ abbrev pub allMargins : (a b k w r Q p1 : ℕ) → QuietMargins
 allMargins a b k w r Q p1 =
     record { m1 = m1 a w r; m2 = m2 a k w r; m3 = m3 a b k w r; m4 = m4 a b w r Q; m5 = m5 w r Q p1 }
 
--- the judge: refusal 1 where a setting is out of range
+-- R40: the judge: refusal 1 where a setting is out of range
 unfoldable pub judgement : (a b k w r : ℕ) → Answer Judgement
 judgement a b k w r =
     choose (inRange a b k w r)
     (given (record { margins = cellMargins a b k w r; accepts = accepted a b k w r }))
     (refused 1 0)
 
--- the quiet judge: all five margins
+-- R41: the quiet judge: all five margins
 unfoldable pub quietJudgement : (a b k w r Q p1 : ℕ) → Answer QuietJudgement
 quietJudgement a b k w r Q p1 =
     choose (quietInRange a b k w r Q p1)
     (given (record { margins = allMargins a b k w r Q p1; accepts = quietAccepted a b k w r Q p1 }))
     (refused 1 0)
 
--- what each case of the judge's answer says
+-- A8: what each case of the judge's answer says
 abbrev pub judgedSays : Judged → Answer Judgement
 judgedSays (Yes m) = given (record { margins = m; accepts = true })
 judgedSays (No m) = given (record { margins = m; accepts = false })
 judgedSays (Refused refusal) = denied refusal
 
--- and of the quiet judge's
+-- A8: and of the quiet judge's
 abbrev pub quietJudgedSays : QuietJudged → Answer QuietJudgement
 quietJudgedSays (QuietYes m) = given (record { margins = m; accepts = true })
 quietJudgedSays (QuietNo m) = given (record { margins = m; accepts = false })

@@ -1,4 +1,4 @@
--- 01, "Numbers to try": P8, P9 and P10.
+-- Rules P: P8, P9 and P10.
 use mathlib.Core.Bool.{Bool, true, false}
 use mathlib.Core.List.{List, [], _∷_}
 use lib.IntN.{ℤ, pos, negsuc}
@@ -58,5 +58,6 @@ P10-20 = record { kind = ℤ; gives = m4 5 13 100 100 20; printed = negsuc 99 }
 abbrev P10-21-22 : Case
 P10-21-22 = record { kind = ℤ; gives = m5 100 100 21 22; printed = negsuc 99 }
 
+-- P8 to P10
 abbrev pub cases : List Case
 cases = P8-141 ∷ P8-142 ∷ P8-67 ∷ P8-66 ∷ P9-12-17 ∷ P9-3-2 ∷ P10-21-23 ∷ P10-20 ∷ P10-21-22 ∷ []

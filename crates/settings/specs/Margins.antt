@@ -1,9 +1,9 @@
--- 01, "Margins": the five margins, and when settings are accepted.
+-- Rules M: the five margins, and when settings are accepted.
 use Prim.Native.Nat.{ℕ, _+_}
 use mathlib.Core.Bool.{Bool, true, false, _&&_}
 use lib.IntN.{ℤ, pos, negsuc, _-ℤ_, _*ℤ_}
 
--- a length or a count as a signed whole number
+-- M10: a length or a count as a signed whole number
 abbrev pub signed : ℕ → ℤ
 signed n = pos n
 
@@ -27,15 +27,15 @@ m4 a b w r Q = (signed Q -ℤ signed 2) *ℤ signed r -ℤ signed (a + b + 1) *�
 unfoldable pub m5 : (w r Q p1 : ℕ) → ℤ
 m5 w r Q p1 = (signed p1 -ℤ signed 1) *ℤ signed w -ℤ signed (Q + 1) *ℤ signed r
 
--- zero or more
+-- M11: zero or more
 abbrev pub zeroOrMore : ℤ → Bool
 zeroOrMore (pos n) = true
 zeroOrMore (negsuc n) = false
 
--- the test that settings have to pass: none of the three margins of a cell is negative
+-- M11: the test that settings have to pass: none of the three margins of a cell is negative
 unfoldable pub accepted : (a b k w r : ℕ) → Bool
 accepted a b k w r = zeroOrMore (m1 a w r) && zeroOrMore (m2 a k w r) && zeroOrMore (m3 a b k w r)
 
--- the test that quiet settings have to pass: that one, and neither margin of the quiet is negative
+-- M12: the test that quiet settings have to pass: that one, and neither margin of the quiet is negative
 unfoldable pub quietAccepted : (a b k w r Q p1 : ℕ) → Bool
 quietAccepted a b k w r Q p1 = accepted a b k w r && zeroOrMore (m4 a b w r Q) && zeroOrMore (m5 w r Q p1)

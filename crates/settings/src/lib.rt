@@ -1,4 +1,4 @@
-// Judging settings: the margins of document 01 as signed numbers, and yes or no.
+// Judging settings: the margins of the rules as signed numbers, and yes or no.
 ghost use mathlib.Core.Path.{_≡_};
 ghost use mathlib.Core.Bool.{true, _&&_};
 ghost use Prim.Native.Nat.{_≤_};

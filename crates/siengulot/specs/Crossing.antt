@@ -8,46 +8,48 @@ use Rattle.measure.specs.Refusals.{Answer, given, refused, refusedAfter}
 use Rattle.settings.specs.Answers.{Judgement, QuietJudgement}
 use Rattle.capture.specs.declared.Summary.{Summary}
 
--- What crosses of an answer: the refusal's number (0: none), its place, and a count: of a result its length, with
+-- H3: What crosses of an answer: the refusal's number (0: none), its place, and a count: of a result its length, with
 -- refusal 5 the bits found, and with any other refusal 0.
 abbrev pub crossed : Answer ℕ → ℕ × ℕ × ℕ
 crossed (given count) = (0, 0, count)
 crossed (refused number place) = (number, place, 0)
 crossed (refusedAfter number place count) = (number, place, count)
 
--- what crosses of an answer, and beside it what the operation leaves in the lent output
+-- H3: what crosses of an answer, and beside it what the operation leaves in the lent output
 abbrev pub crossing : {A X : Type 0} → (Answer A → X) → Answer A × List ℕ → X × List ℕ
 crossing crosses (answer, output) = (crosses answer, output)
 
--- 1 for yes, 0 for no
+-- H6: 1 for yes, 0 for no
 abbrev pub flag : Bool → ℕ
 flag true = 1
 flag false = 0
 
--- the three margins one after another, and the five
+-- H5: the three margins one after another, and the five
 abbrev pub three : Judgement → List ℤ
 three j = j .margins .m1 ∷ j .margins .m2 ∷ j .margins .m3 ∷ []
 
+-- H5
 abbrev pub five : QuietJudgement → List ℤ
 five j = j .margins .m1 ∷ j .margins .m2 ∷ j .margins .m3 ∷ j .margins .m4 ∷ j .margins .m5 ∷ []
 
--- What crosses of a judgement: the refusal's number, whether the settings are accepted, and the margins. A refusal
--- leaves the lent margins and says no.
+-- H6, H5: What crosses of a judgement: the refusal's number, whether the settings are accepted, and the margins. A
+-- refusal leaves the lent margins and says no.
 abbrev pub judged : {A : Type 0} (margins : A → List ℤ) (accepts : A → Bool) → Answer A → (lent : List ℤ)
     → ℕ × ℕ × List ℤ
 judged margins accepts (given j) lent = (0, flag (accepts j), margins j)
 judged margins accepts (refused number place) lent = (number, 0, lent)
 judged margins accepts (refusedAfter number place count) lent = (number, 0, lent)
 
--- of the judge's answer, and of the quiet judge's
+-- H6: of the judge's answer, and of the quiet judge's
 abbrev pub judgedThree : Answer Judgement → (lent : List ℤ) → ℕ × ℕ × List ℤ
 judgedThree answer lent = judged three (λ (j : Judgement). j .accepts) answer lent
 
+-- H6
 abbrev pub judgedFive : Answer QuietJudgement → (lent : List ℤ) → ℕ × ℕ × List ℤ
 judgedFive answer lent = judged five (λ (j : QuietJudgement). j .accepts) answer lent
 
--- What crosses of a capture's summary: the refusal's number, its place, and k, n, Q and the numbers of reads and runs
--- one after another. A refusal leaves the lent numbers.
+-- H10: What crosses of a capture's summary: the refusal's number, its place, and k, n, Q and the numbers of reads and
+-- runs one after another. A refusal leaves the lent numbers.
 abbrev pub summed : (lent : List ℕ) → Answer Summary → ℕ × ℕ × List ℕ
 summed lent (given s) = (0, 0, s .k .0 ∷ s .n ∷ s .q .0 ∷ s .reads .0 ∷ s .runs ∷ [])
 summed lent (refused number place) = (number, place, lent)

@@ -14,14 +14,14 @@ use Rattle.board.specs.declared.Mode.the-variants.{Hunting, Ready, Counting, Wa
 use Rattle.board.specs.declared.Receiver.{Receiver}
 use Rattle.siengulot.specs.Crossing.{flag}
 
--- a mode's number
+-- H8: a mode's number
 abbrev pub modeNumber : Mode → ℕ
 modeNumber Hunting = 0
 modeNumber Ready = 1
 modeNumber Counting = 2
 modeNumber Waiting = 3
 
--- and the mode of a number up to 3
+-- H8: and the mode of a number up to 3
 abbrev pub modeOf : ℕ → Mode
 modeOf m = choose (eqb m 0) Hunting (choose (eqb m 1) Ready (choose (eqb m 2) Counting Waiting))
 
@@ -50,7 +50,7 @@ named numbers =
       found = getD numbers 7 0;
     }
 
--- the numbers that a receiver crosses as, in that order
+-- H7: the numbers that a receiver crosses as, in that order
 abbrev pub numbersOf : Receiver → List ℕ
 numbersOf x =
     x .k .0
@@ -63,12 +63,12 @@ numbersOf x =
     ∷ x .found
     ∷ []
 
--- Numbers make a receiver where the mode's is that of a mode and the level is a byte. Other numbers are a state that is
--- not well formed.
+-- H8: Numbers make a receiver where the mode's is that of a mode and the level is a byte. Other numbers are a state
+-- that is not well formed.
 abbrev pub numbersFit : Named → Bool
 numbersFit x = leb (x .mode) 3 && leb (x .level) 255
 
--- the receiver that numbers and bytes make
+-- H7: the receiver that numbers and bytes make
 unfoldable pub receiverLent : Named → (bytes : List ℕ) → Receiver
 receiverLent x bytes =
     record {
@@ -83,13 +83,13 @@ receiverLent x bytes =
       bits = bytes;
     }
 
--- a receiver as it is lent, and 128 bytes for a row
+-- H7, H9: a receiver as it is lent, and 128 bytes for a row
 pub record Lent : Type 0 where
   pub numbers : List ℕ
   pub bytes : List ℕ
   pub row : List ℕ
 
--- What crosses of reads: the refusal's number (0: none) and place; the event, 0 for nothing, 1 for a row, 2 for a
+-- H9: What crosses of reads: the refusal's number (0: none) and place; the event, 0 for nothing, 1 for a row, 2 for a
 -- broken one; and the number of bits of a broken row, otherwise 0.
 pub record Reply : Type 0 where
   pub number : ℕ
@@ -97,12 +97,12 @@ pub record Reply : Type 0 where
   pub event : ℕ
   pub found : ℕ
 
--- a next receiver put back in the lent numbers and bytes, beside a row
+-- H7: a next receiver put back in the lent numbers and bytes, beside a row
 abbrev pub putBack : Receiver → (bits : List ℕ) → Lent
 putBack next bits = record { numbers = numbersOf next; bytes = next .bits; row = bits }
 
--- What crosses of an answer, and what is lent afterwards. The row's bytes are written where a row is delivered, all 128
--- of them, and are otherwise left. A refusal leaves all that is lent.
+-- H9: What crosses of an answer, and what is lent afterwards. The row's bytes are written where a row is delivered, all
+-- 128 of them, and are otherwise left. A refusal leaves all that is lent.
 abbrev pub answered : Lent → Receiver → (bits : List ℕ) → Answer Event → Reply × Lent
 answered lent next bits (given nothing) =
     (record { number = 0; place = 0; event = 0; found = 0 }, putBack next (lent .row))
@@ -115,34 +115,36 @@ answered lent next bits (refused number place) =
 answered lent next bits (refusedAfter number place count) =
     (record { number = number; place = place; event = 0; found = 0 }, lent)
 
+-- H9
 abbrev pub brought : Lent → Outcome → Reply × Lent
 brought lent outcome = answered lent (outcome .receiver) (outcome .row) (outcome .answer)
 
--- refusal 1 of numbers that make no receiver
+-- H8: refusal 1 of numbers that make no receiver
 abbrev pub noReceiver : Reply
 noReceiver = record { number = 1; place = 0; event = 0; found = 0 }
 
--- one read
+-- H9: one read
 unfoldable pub steppedLent : Lent → (read : ℕ) → Reply × Lent
 steppedLent lent read =
     choose (numbersFit (named (lent .numbers)))
     (brought lent (stepped (receiverLent (named (lent .numbers)) (lent .bytes)) read)) (noReceiver, lent)
 
--- reads up to and with the first that brings an event, and how many were used: none with a refusal
+-- H9: reads up to and with the first that brings an event, and how many were used: none with a refusal
 abbrev pub broughtBy : Lent → Outcome × ℕ → (Reply × Lent) × ℕ
 broughtBy lent (outcome, used) = (brought lent outcome, used)
 
+-- H9
 unfoldable pub listenedLent : Lent → (reads : List ℕ) → (Reply × Lent) × ℕ
 listenedLent lent reads =
     choose (numbersFit (named (lent .numbers)))
     (broughtBy lent (listened (receiverLent (named (lent .numbers)) (lent .bytes)) reads)) ((noReceiver, lent), 0)
 
--- 1 for a state that is well formed, otherwise 0
+-- H2: 1 for a state that is well formed, otherwise 0
 unfoldable pub wellFormedLent : (numbers bytes : List ℕ) → ℕ
 wellFormedLent numbers bytes =
     flag (numbersFit (named numbers) && wellFormed (receiverLent (named numbers) bytes))
 
--- starting: the refusal's number, and the receiver with which to start, also after a refusal
+-- H7, R33: starting: the refusal's number, and the receiver with which to start, also after a refusal
 abbrev pub begunLent : Answer Event × Receiver → ℕ × List ℕ × List ℕ
 begunLent (given event, next) = (0, numbersOf next, next .bits)
 begunLent (refused number place, next) = (number, numbersOf next, next .bits)

@@ -31,7 +31,7 @@ const MODE_MOST: usize = 3;
 
 const BYTE_MOST: usize = 255;
 
-// The order of the numbers is that of the modes' names in document 01.
+// The order of the numbers is that of the modes' names in the rules.
 fn mode_number(mode: Mode) -> usize
     ensures { λ x. ⌜ modeNumber mode ≡ x ⌝ }
 {

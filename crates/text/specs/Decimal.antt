@@ -1,4 +1,4 @@
--- 01, "Rows program": numbers as the bytes of their decimal text.
+-- Rules E: numbers as the bytes of their decimal text.
 use Prim.Native.Nat.{ℕ, zero, suc, _+_, _/_, _%_}
 use mathlib.Core.Bool.{Bool, true, false}
 use mathlib.Core.List.{List, [], _∷_, _++_}
@@ -6,11 +6,11 @@ use lib.Dec.{ltb}
 use lib.IntN.{ℤ, pos, negsuc}
 use Rattle.measure.specs.Choose.{choose}
 
--- the byte of a digit, or of a bit
+-- E7: the byte of a digit, or of a bit
 abbrev pub digit : ℕ → ℕ
 digit d = 48 + d
 
--- a number in decimal, highest digit first with no zero before it, so many digits at most
+-- E7: a number in decimal, highest digit first with no zero before it, so many digits at most
 unfoldable pub decimalIn : ℕ → ℕ → List ℕ
 decimalIn zero n = []
 decimalIn (suc digits) n =
@@ -20,6 +20,7 @@ decimalIn (suc digits) n =
 abbrev pub digitsMost : ℕ
 digitsMost = 20
 
+-- E7
 abbrev pub decimal : ℕ → List ℕ
 decimal n = decimalIn digitsMost n
 

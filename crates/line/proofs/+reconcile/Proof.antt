@@ -1,6 +1,5 @@
 -- `reconcile` meets its contract: a read under way stays so over the block, and what is left of it is the call's. The
--- measure is the number of
--- cycles left.
+-- measure is the number of cycles left.
 use mathlib.Core.Path.{_≡_}
 use mathlib.Core.Logic.{⊎-elim}
 use Prim.Native.Nat.{ℕ, _+_, _*_, _-_, _<_, _≤_}
