@@ -1,7 +1,7 @@
 -- Each useless receiver reports fewer than two rows over P10's reads as they are, and demand 3 asks two.
 use mathlib.Core.Path.{refl, ap}
 use mathlib.Core.List.{List, []}
-use Prim.Native.Nat.{_<_}
+use Prim.Native.Nat.{ℕ, _<_}
 use native.Mathlib.Omega.{arith}
 use lib.ListN.{length}
 use Rattle.sender.specs.Sending.{cells, wave, planWave}
@@ -9,8 +9,8 @@ use Rattle.line.specs.Smooth.{smoothFrom}
 use Rattle.line.specs.Warp.{look, dropped, warpFrom, warp}
 use Rattle.line.specs.Settle.{settle}
 use Rattle.counted.specs.Counted.{fromMark}
-use Rattle.board.specs.Rows.{fresh, next}
-use Rattle.board.specs.Feeding.{Report, Step, reportsBy}
+use Rattle.board.specs.Rows.{next}
+use Rattle.board.specs.Feeding.{Report, reportsBy}
 use Rattle.promises.specs.Places.{readsOf, passing, numbered, withinLead, heard, markPlace, samplePlace}
 use Rattle.promises.specs.Places.{lastSample, deliveries}
 use Rattle.promises.specs.Replaced.{damaged, reportsAt, below}
@@ -18,10 +18,10 @@ use Rattle.promises.specs.Demand3.{Demand3}
 use Rattle.promises.specs.Tried.{p10}
 use Rattle.promises.specs.Useless.{ShutOut}
 
-too-few : (step : Step) → length (below 117 (reportsBy step fresh 0 (damaged p10 117 117 []))) < 2 → Demand3 p10 step
+too-few : (hear : List ℕ → List Report) → length (below 117 (hear (damaged p10 117 117 []))) < 2 → Demand3 p10 hear
     → ⊥
 unfolding readsOf settle warp warpFrom look dropped smoothFrom planWave wave cells fromMark passing numbered withinLead heard markPlace samplePlace lastSample deliveries reportsAt
-too-few step few demand =
+too-few hear few demand =
     let two = ap (λ (l : List Report). length l) (demand .before 117 117 [] (omega arith) (omega arith)) in
     omega arith
 

@@ -44,8 +44,8 @@ deliversOnce g s read =
 
 -- demand 3 is false of each; the last one does deliver the first row
 pub record ShutOut : Type 0 where
-  pub refusing : Demand3 p10 refusesAll → ⊥
-  pub leaving : Demand3 p10 (leavesState (settings p10)) → ⊥
-  pub once : Demand3 p10 (deliversOnce (settings p10)) → ⊥
+  pub refusing : Demand3 p10 (reportsBy refusesAll fresh 0) → ⊥
+  pub leaving : Demand3 p10 (reportsBy (leavesState (settings p10)) fresh 0) → ⊥
+  pub once : Demand3 p10 (reportsBy (deliversOnce (settings p10)) fresh 0) → ⊥
   pub once-is : reportsBy (deliversOnce (settings p10)) fresh 0 (readsOf p10)
       ≡ record { place = 51; event = row (1 ∷ 0 ∷ []) } ∷ []
