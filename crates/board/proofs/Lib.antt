@@ -8,3 +8,4 @@ pub mod KeepingLaws
 pub mod CellLaws
 pub mod ListenedLaws
 pub mod WellFormedStays
+pub mod CallLaws

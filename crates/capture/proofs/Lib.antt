@@ -3,6 +3,7 @@ pub mod Groups
 pub mod Places
 pub mod Headings
 pub mod Runs
+pub mod Judging
 pub mod Tally
 pub mod Captures
 pub mod Unrolling

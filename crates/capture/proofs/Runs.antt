@@ -26,7 +26,7 @@ pub runs-end : (s : List ℕ) (total at : ℕ) → length s ≤ at → runsFrom 
 unfolding runsFrom
 runs-end s total at h = rw (drop-of-length-le s h)
 
-runs-here : (s : List ℕ) (total at : ℕ) → at < length s
+pub runs-here : (s : List ℕ) (total at : ℕ) → at < length s
     → runsFrom 0 total at (drop at s)
     ≡ run at total (group further (drop at s)) (λ skip sum. runsFrom skip sum (suc at) (drop (suc at) s))
 unfolding runsFrom

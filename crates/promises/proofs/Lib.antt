@@ -10,6 +10,7 @@ pub mod Recovery
 pub mod Deliveries
 pub mod Demand3
 pub mod OneByOne
+pub mod Hearing
 pub mod Tried
 pub mod Useless
 pub mod Worked

@@ -2,6 +2,7 @@ pub mod Places
 pub mod Replaced
 pub mod Demand3
 pub mod OneByOne
+pub mod Hearing
 pub mod Tried
 pub mod Useless
 pub mod Worked
