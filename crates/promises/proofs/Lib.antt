@@ -11,6 +11,8 @@ pub mod Deliveries
 pub mod Demand3
 pub mod OneByOne
 pub mod Hearing
+pub mod HearingFromC
+pub mod AnyHearing
 pub mod Tried
 pub mod Useless
 pub mod Worked

@@ -3,6 +3,8 @@ pub mod Replaced
 pub mod Demand3
 pub mod OneByOne
 pub mod Hearing
+pub mod Promised
+pub mod GoodInput
 pub mod Tried
 pub mod Useless
 pub mod Worked
