@@ -24,7 +24,7 @@ module _ (s : List ℕ) where
   pub heading-short : length s ≤ captureMost → judgedHeading s ≡ heading s
   heading-short h = rw (le-ltb captureMost (length s) h)
 
-  capture-judged : capture s
+  pub capture-judged : capture s
       ≡ then (judgedHeading s) (λ h. then (runsFrom 0 0 (h .after) (drop (h .after) s)) (withRuns h))
   unfolding capture
   capture-judged = go (ltb captureMost (length s))

@@ -2,15 +2,19 @@
 -- within them.
 use Prim.Native.Nat.{ℕ, zero, suc, _+_, _-_, _≤_, _<_}
 use mathlib.Core.Path.{_≡_, refl, ap, _∙_}
+use mathlib.Core.Bool.{Bool}
 use mathlib.Core.List.{List, [], _∷_}
 use native.Mathlib.Omega.{arith}
 use lib.Dec.{eqb, leb, ltb}
 use lib.ListN.{length, drop, length-drop}
 use lib.Seq.{drop-drop}
 use borrow.Author.Tests.{le-leb}
+use Rattle.measure.specs.Choose.{between}
+use Rattle.measure.specs.Ranges.{sampling, rowBits, quiet}
+use Rattle.measure.specs.Refusals.{given}
 use Rattle.capture.specs.Numbers.{Group, value, cut, long, before, following, group, further, lastMost, placed}
 use Rattle.capture.specs.Numbers.{numberAt}
-use Rattle.capture.specs.Capture.{joined, runsFrom, totalMost}
+use Rattle.capture.specs.Capture.{then, passing, fittingAt, heading, joined, runsFrom, totalMost}
 use Rattle.capture.proofs.Groups.{either}
 use Rattle.capture.proofs.Runs.{runs-skip, runs-here}
 
@@ -61,3 +65,25 @@ runs-on s total at v size h e some low =
     runs-skip (size - 1) (total + v) (suc at) (drop (suc at) s)
     (omega (arith, length-drop (suc at) s, length-drop at s)) ∙ rw (drop-drop, along) in
     runs-here s total at h ∙ rw (e, le-leb 1 v some, le-leb (total + v) totalMost low) (ap (joined v) on)
+
+-- what the definitions put one after another
+pub fitting-then : (fits : ℕ → Bool) (s : List ℕ) (at : ℕ) → fittingAt fits s at ≡ passing fits at (numberAt s at)
+unfolding fittingAt
+fitting-then fits s at = refl
+
+pub heading-then : (s : List ℕ) → heading s
+    ≡ then (fittingAt sampling s 0) (λ k.
+    then (fittingAt rowBits s (k .after)) (λ n.
+    then (fittingAt quiet s (n .after)) (λ Q.
+    then (fittingAt (between 0 1) s (Q .after)) (λ level.
+    given
+    (record {
+      k = k .value;
+      n = n .value;
+      Q = Q .value;
+      level = level .value;
+      level-at = Q .after;
+      after = level .after;
+    })))))
+unfolding heading
+heading-then s = refl

@@ -3,9 +3,9 @@ pub mod Groups
 pub mod Places
 pub mod Headings
 pub mod Runs
-pub mod Judging
 pub mod Tally
 pub mod Captures
+pub mod Judging
 pub mod Unrolling
 pub mod Reading
 pub mod Spelling
