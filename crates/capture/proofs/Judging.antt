@@ -2,18 +2,18 @@
 -- within them.
 use Prim.Native.Nat.{ℕ, zero, suc, _+_, _-_, _≤_, _<_}
 use mathlib.Core.Path.{_≡_, refl, ap, _∙_}
-use mathlib.Core.Bool.{Bool}
+use mathlib.Core.Bool.{Bool, true, false, _&&_}
 use mathlib.Core.List.{List, [], _∷_}
 use native.Mathlib.Omega.{arith}
 use lib.Dec.{eqb, leb, ltb}
 use lib.ListN.{length, drop, length-drop}
 use lib.Seq.{drop-drop}
-use borrow.Author.Tests.{le-leb}
+use borrow.Author.Tests.{le-leb, leb-true}
 use Rattle.measure.specs.Choose.{between}
 use Rattle.measure.specs.Ranges.{sampling, rowBits, quiet}
-use Rattle.measure.specs.Refusals.{given}
+use Rattle.measure.specs.Refusals.{Answer, given}
 use Rattle.capture.specs.Numbers.{Group, value, cut, long, before, following, group, further, lastMost, placed}
-use Rattle.capture.specs.Numbers.{numberAt}
+use Rattle.capture.specs.Numbers.{Numeral, numberAt}
 use Rattle.capture.specs.Capture.{then, passing, fittingAt, heading, joined, runsFrom, totalMost}
 use Rattle.capture.proofs.Groups.{either}
 use Rattle.capture.proofs.Runs.{runs-skip, runs-here}
@@ -54,7 +54,7 @@ group-ends (suc more) (byte ∷ l) =
     (λ f. ends-before (length l) byte (following more l) (following-ends more l))
 
 -- a run that passes its tests stands before those that follow it
-pub runs-on : (s : List ℕ) (total at v size : ℕ) → at < length s → group further (drop at s) ≡ value v size → 1 ≤ v
+runs-on : (s : List ℕ) (total at v size : ℕ) → at < length s → group further (drop at s) ≡ value v size → 1 ≤ v
     → total + v ≤ totalMost
     → runsFrom 0 total at (drop at s) ≡ joined v (runsFrom 0 (total + v) (at + size) (drop (at + size) s))
 runs-on s total at v size h e some low =
@@ -87,3 +87,34 @@ pub heading-then : (s : List ℕ) → heading s
     })))))
 unfolding heading
 heading-then s = refl
+
+-- a run is a number that passes its test, before the runs that follow it
+pub runs-then : (s : List ℕ) (total at : ℕ) → at < length s
+    → runsFrom 0 total at (drop at s)
+    ≡ then (fittingAt (λ v. leb 1 v && leb (total + v) totalMost) s at)
+    (λ n. joined (n .value) (runsFrom 0 (total + n .value) (n .after) (drop (n .after) s)))
+runs-then s total at h = number (group further (drop at s)) refl
+  where
+    fits : ℕ → Bool
+    fits v = leb 1 v && leb (total + v) totalMost
+
+    on : Numeral → Answer (List ℕ)
+    on n = joined (n .value) (runsFrom 0 (total + n .value) (n .after) (drop (n .after) s))
+
+    asked : (g : Group) → group further (drop at s) ≡ g → fittingAt fits s at ≡ passing fits at (placed at g)
+    asked g e = fitting-then fits s at ∙ ap (passing fits at) (number-is s at ∙ ap (placed at) e)
+
+    tested : (v size : ℕ) → group further (drop at s) ≡ value v size → (low high : Bool) → leb 1 v ≡ low
+        → leb (total + v) totalMost ≡ high
+        → runsFrom 0 total at (drop at s) ≡ then (passing fits at (placed at (value v size))) on
+    tested v size e true true some low =
+        runs-on s total at v size h e (leb-true 1 v some) (leb-true (total + v) totalMost low) ∙ rw (some, low)
+    tested v size e true false some high = runs-here s total at h ∙ rw (e, some, high)
+    tested v size e false high none high′ = runs-here s total at h ∙ rw (e, none)
+
+    number : (g : Group) → group further (drop at s) ≡ g
+        → runsFrom 0 total at (drop at s) ≡ then (fittingAt fits s at) on
+    number (value v size) e =
+        tested v size e (leb 1 v) (leb (total + v) totalMost) refl refl ∙ rw (asked (value v size) e)
+    number cut e = runs-here s total at h ∙ rw (e, asked cut e)
+    number long e = runs-here s total at h ∙ rw (e, asked long e)

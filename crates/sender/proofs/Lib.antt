@@ -3,3 +3,4 @@ pub mod Ranged
 pub mod Placed
 pub mod Cells
 pub mod Plans
+pub mod PlanRows
