@@ -29,8 +29,8 @@ use Rattle.board.proofs.FeedingLaws.{reports-append, later, reports-later}
 use Rattle.board.proofs.CallLaws.{Whole, whole-next, Ends, Stops, Brings, Heard, hears, noted-some}
 use Rattle.board.proofs.CallLaws.{stepped-level, stepped-other, listened-valid, begun-fresh}
 use Rattle.page.proofs.Turns.{listened-levels}
-use Rattle.promises.specs.Hearing.{Stepping, Listening, oneByOne, goingOn, byLists, steps, listens}
-use Rattle.promises.specs.Hearing.{byStep, byListen, heeding, Hears}
+use Rattle.promises.specs.Hearing.{Stepping, Listening, oneByOne, goingOn, byLists, step, listen}
+use Rattle.promises.specs.Hearing.{Caller, steps, listens, hearing, heeding, Hears}
 
 module _ (g : Settings) where
   -- levels are heeded as the rules have it
@@ -224,7 +224,7 @@ module _ (g : Settings) where
   abbrev Is : State → Receiver → Type 0
   Is s x = x ≡ receiverOf g s
 
-  rust-steps : Steps g Is steps
+  rust-steps : Steps g Is step
   rust-steps = record {
     level = λ s x read v is level. rw is (
       ap (λ (o : Outcome). o .answer) (stepped-level g s v read level),
@@ -236,7 +236,7 @@ module _ (g : Settings) where
     );
   }
 
-  rust-listens : Listens g Is listens
+  rust-listens : Listens g Is listen
   rust-listens = record {
     brings = λ s t x reads v is event many whole e. rw (is, e) (refl, (refl, refl));
     stops = λ s x reads v is place e. rw (is, e);
@@ -246,12 +246,12 @@ module _ (g : Settings) (range : settingsFit (g .k) (g .n) (g .Q) ≡ true) wher
   valid : Valid g fresh
   valid = valid-fresh g (ranged-of g range)
 
-  pub step-hears : Hears g (byStep g)
+  pub step-hears : Hears g (hearing steps g)
   step-hears reads =
-      one-by-one g (Is g) steps (rust-steps g) fresh (begun (g .k) (g .n) (g .Q) .1) 0 reads valid
+      one-by-one g (Is g) step (rust-steps g) fresh (begun (g .k) (g .n) (g .Q) .1) 0 reads valid
       (begun-fresh (g .k) (g .n) (g .Q) range)
 
-  pub listen-hears : (part : ℕ) → 1 ≤ part → part ≤ entriesMost → Hears g (byListen part g)
+  pub listen-hears : (part : ℕ) (some : 1 ≤ part) (few : part ≤ entriesMost) → Hears g (hearing (listens part some few) g)
   listen-hears part some few reads =
-      by-lists g (Is g) listens (rust-listens g) part some few (length reads) fresh (begun (g .k) (g .n) (g .Q) .1) 0
+      by-lists g (Is g) listen (rust-listens g) part some few (length reads) fresh (begun (g .k) (g .n) (g .Q) .1) 0
       reads valid (begun-fresh (g .k) (g .n) (g .Q) range) (omega arith)

@@ -21,9 +21,9 @@ use Rattle.board.proofs.CallLaws.{Whole, whole-next, stepped-level, stepped-oth
 use Rattle.siengulot.specs.Receivers.{Lent, Told, keeping, brought, begunLent, steppedLent, listenedLent}
 use Rattle.siengulot.proofs.Standing.{stands, stands-back}
 use Rattle.siengulot.proofs.Brought.{step-brought, listen-brought}
-use Rattle.promises.specs.Hearing.{crossedEvent, stepsFromC, listensFromC, startedFromC, byStepFromC, byListenFromC}
-use Rattle.promises.specs.Hearing.{Hears}
-use Rattle.promises.proofs.Hearing.{Steps, Listens, one-by-one, by-lists}
+use Rattle.promises.specs.Hearing.{crossedEvent, stepFromC, listenFromC, startedFromC, Caller, steps, listens}
+use Rattle.promises.specs.Hearing.{stepsFromC, listensFromC, hearing, Hears}
+use Rattle.promises.proofs.Hearing.{Steps, Listens, one-by-one, by-lists, step-hears, listen-hears}
 
 level-low : (m : Mode) (g : Settings) (run left found level : ℕ) → Fitting m g run left found level → level ≤ 255
 level-low Hunting g run left found level f = omega (arith, f .3)
@@ -61,11 +61,11 @@ module _ (g : Settings) where
         → listenedLent (keeping x room) reads ≡ (brought (keeping x room) outcome, used)
     listen-crosses reads outcome used e = listen-brought (keeping x room) (stands x byte) (stands-back x) reads e refl
 
-  c-steps : Steps g Holds stepsFromC
+  c-steps : Steps g Holds stepFromC
   c-steps = record { level = level; other = other }
     where
       level : (s : State) (lent : Lent) (read : ℕ) → Valid g s → Holds s lent → read ≤ 1
-          → (stepsFromC lent read .0 ≡ given (next g s read .event)) × Holds (next g s read .state) (stepsFromC lent read .1)
+          → (stepFromC lent read .0 ≡ given (next g s read .event)) × Holds (next g s read .state) (stepFromC lent read .1)
       level s lent read v (room, is) low =
           rw is
           (crosses (next g s read .state) room (receiverOf g s) (next g s read .event) (v .range) (whole-next g s read v)
@@ -73,17 +73,17 @@ module _ (g : Settings) where
           (sym (step-crosses s v room read _ (stepped-level g s v read low))))
 
       other : (s : State) (lent : Lent) (read : ℕ) → Valid g s → Holds s lent → 1 < read
-          → (stepsFromC lent read .0 ≡ refused 2 0) × Holds s (stepsFromC lent read .1)
+          → (stepFromC lent read .0 ≡ refused 2 0) × Holds s (stepFromC lent read .1)
       other s lent read v (room, is) high =
           rw (is, step-crosses s v room read _ (stepped-other g s v read high)) (refl, (room, refl))
 
-  c-listens : Listens g Holds listensFromC
+  c-listens : Listens g Holds listenFromC
   c-listens = record { brings = brings; stops = stops }
     where
       brings : (s t : State) (lent : Lent) (reads : List ℕ) → Valid g s → Holds s lent → (event : Event) (many : ℕ)
           → Whole g event → listened (receiverOf g s) reads ≡ (reached g t event, many)
-          → (listensFromC lent reads .0 .0 ≡ given event)
-          × ((listensFromC lent reads .1 ≡ many) × Holds t (listensFromC lent reads .0 .1))
+          → (listenFromC lent reads .0 .0 ≡ given event)
+          × ((listenFromC lent reads .1 ≡ many) × Holds t (listenFromC lent reads .0 .1))
       brings s t lent reads v (room, is) event many whole e =
           let crossed = listen-crosses s v room reads (reached g t event) many e in
           let done = crosses t room (receiverOf g s) event (v .range) whole
@@ -93,7 +93,7 @@ module _ (g : Settings) where
 
       stops : (s : State) (lent : Lent) (reads : List ℕ) → Valid g s → Holds s lent → (place : ℕ)
           → listened (receiverOf g s) reads ≡ (refusing (receiverOf g s) 2 place, 0)
-          → listensFromC lent reads .0 .0 ≡ refused 2 place
+          → listenFromC lent reads .0 .0 ≡ refused 2 place
       stops s lent reads v (room, is) place e =
           rw (is, listen-crosses s v room reads (refusing (receiverOf g s) 2 place) 0 e)
 
@@ -106,11 +106,18 @@ module _ (g : Settings) (range : settingsFit (g .k) (g .n) (g .Q) ≡ true) (roo
   unfolding begun
   started = rw range
 
-  pub c-step-hears : Hears g (byStepFromC room g)
+  pub c-step-hears : Hears g (hearing (stepsFromC room) g)
   c-step-hears reads =
-      one-by-one g (Holds g) stepsFromC (c-steps g) fresh (startedFromC g room) 0 reads valid (room, started)
+      one-by-one g (Holds g) stepFromC (c-steps g) fresh (startedFromC g room) 0 reads valid (room, started)
 
-  pub c-listen-hears : (part : ℕ) → 1 ≤ part → part ≤ entriesMost → Hears g (byListenFromC part room g)
+  pub c-listen-hears : (part : ℕ) (some : 1 ≤ part) (few : part ≤ entriesMost)
+      → Hears g (hearing (listensFromC room part some few) g)
   c-listen-hears part some few reads =
-      by-lists g (Holds g) listensFromC (c-listens g) part some few (length reads) fresh (startedFromC g room) 0 reads
+      by-lists g (Holds g) listenFromC (c-listens g) part some few (length reads) fresh (startedFromC g room) 0 reads
       valid (room, started) (omega arith)
+
+pub every-caller : (g : Settings) → settingsFit (g .k) (g .n) (g .Q) ≡ true → (caller : Caller) → Hears g (hearing caller g)
+every-caller g range steps = step-hears g range
+every-caller g range (listens part some few) = listen-hears g range part some few
+every-caller g range (stepsFromC room) = c-step-hears g range room
+every-caller g range (listensFromC room part some few) = c-listen-hears g range room part some few

@@ -9,10 +9,13 @@ pub mod Parts
 pub mod Recovery
 pub mod Deliveries
 pub mod Demand3
-pub mod OneByOne
 pub mod Hearing
 pub mod HearingFromC
 pub mod AnyHearing
+pub mod Promised
+pub mod GoodCaptures
+pub mod SingleCalls
+pub mod WholeWay
 pub mod Tried
 pub mod Useless
 pub mod Worked
@@ -36,5 +39,4 @@ pub mod Exact
 pub mod WhatNoMeans
 pub mod Limits
 pub mod OneMeaning
-pub mod Operations
 pub mod Demands

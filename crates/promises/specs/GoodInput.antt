@@ -21,7 +21,7 @@ use Rattle.board.specs.WellFormed.{wellFormed}
 use Rattle.board.specs.Answers.{levelsOf, silent}
 use Rattle.board.specs.declared.Receiver.{Receiver}
 use Rattle.capture.specs.Numbers.{Group, value, cut, long, group, further}
-use Rattle.capture.specs.Capture.{totalMost}
+use Rattle.capture.specs.Capture.{Heading, Capture, totalMost, readsOf}
 use Rattle.capture.specs.Writing.{captureOf}
 use Rattle.siengulot.specs.Receivers.{Lent, standing, receiverOf}
 use Rattle.promises.specs.Promised.{Test, setting, limit, entries, entry, room}
@@ -143,7 +143,7 @@ number bytes place =
 -- and it is in range for its place: 8
 abbrev pub inRange : (ℕ → Bool) → (bytes : List ℕ) (place : ℕ) → List Test
 inRange fits bytes place =
-    number bytes place ++ record { number = 8; place = place; failed = not (fits (valueOf (at bytes place))) } ∷ []
+    number bytes place ++ (record { number = 8; place = place; failed = not (fits (valueOf (at bytes place))) } ∷ [])
 
 -- the place after a number, and those of the second, third and fourth number and of the first run
 abbrev pub next : (bytes : List ℕ) (place : ℕ) → ℕ
@@ -165,10 +165,10 @@ firstRun bytes = next bytes (fourth bytes)
 abbrev pub header : (bytes : List ℕ) → List Test
 header bytes =
     limit captureMost bytes
-    ∷ inRange sampling bytes 0
-    ++ inRange rowBits bytes (second bytes)
-    ++ inRange quiet bytes (third bytes)
-    ++ inRange (between 0 1) bytes (fourth bytes)
+    ∷ (inRange sampling bytes 0
+    ++ (inRange rowBits bytes (second bytes)
+    ++ (inRange quiet bytes (third bytes)
+    ++ inRange (between 0 1) bytes (fourth bytes))))
 
 -- its runs from a place on, so many at most, after runs with this total: each at least 1, and together not too many
 unfoldable pub runs : (most total place : ℕ) (bytes : List ℕ) → List Test
@@ -187,9 +187,9 @@ someRun bytes =
       failed = eqb (valueOf (at bytes (fourth bytes))) 0 && leb (length bytes) (firstRun bytes);
     }
 
--- a capture; where its reads go to a lent output, there has to be room for them, last
+-- a capture
 abbrev pub capture : (bytes : List ℕ) → List Test
-capture bytes = header bytes ++ runs (length bytes) 0 (firstRun bytes) bytes ++ someRun bytes ∷ []
+capture bytes = header bytes ++ (runs (length bytes) 0 (firstRun bytes) bytes ++ (someRun bytes ∷ []))
 
 -- the runs that are there
 unfoldable pub runsIn : (most place : ℕ) (bytes : List ℕ) → List ℕ
@@ -197,7 +197,36 @@ runsIn zero place bytes = []
 runsIn (suc most) place bytes =
     choose (leb (length bytes) place) [] (valueOf (at bytes place) ∷ runsIn most (next bytes place) bytes)
 
--- writing a capture
+-- what a header and a capture say: the numbers, one after another
+abbrev pub heading : (bytes : List ℕ) → Heading
+heading bytes =
+    record {
+      k = valueOf (at bytes 0);
+      n = valueOf (at bytes (second bytes));
+      Q = valueOf (at bytes (third bytes));
+      level = valueOf (at bytes (fourth bytes));
+      level-at = fourth bytes;
+      after = firstRun bytes;
+    }
+
+abbrev pub captured : (bytes : List ℕ) → Capture
+captured bytes =
+    record {
+      k = valueOf (at bytes 0);
+      n = valueOf (at bytes (second bytes));
+      Q = valueOf (at bytes (third bytes));
+      level = valueOf (at bytes (fourth bytes));
+      runs = runsIn (length bytes) (firstRun bytes) bytes;
+    }
+
+abbrev pub readsIn : (bytes : List ℕ) → List ℕ
+readsIn bytes = readsOf (captured bytes .level) (captured bytes .runs)
+
+-- reading a capture asks room for its reads, last
+abbrev pub readCapture : (bytes output : List ℕ) → List Test
+readCapture bytes output = capture bytes ++ (room (length (readsIn bytes)) output ∷ [])
+
+-- writing one
 abbrev pub writeCapture : (k n Q : ℕ) (reads output : List ℕ) → List Test
 writeCapture k n Q reads output =
     setting (settingsFit k n Q)

@@ -1,11 +1,12 @@
 -- How a caller hears a stream of reads: one read a call or a list a call, in Rust and from C. Each way turns reads into
 -- reports, and each is to hear what 01's rules hear.
-use Prim.Native.Nat.{ℕ, zero, suc, _+_, _-_}
+use Prim.Native.Nat.{ℕ, zero, suc, _+_, _-_, _≤_}
 use mathlib.Core.Path.{_≡_}
 use mathlib.Core.List.{List, [], _∷_}
 use lib.Dec.{eqb, leb}
 use lib.ListN.{length, getD, take, drop}
 use Rattle.measure.specs.Choose.{choose}
+use Rattle.measure.specs.Ranges.{entriesMost}
 use Rattle.measure.specs.Refusals.{Answer, given, refused, refusedAfter}
 use Rattle.board.specs.Rows.{Settings, Event, nothing, row, broken, fresh, next}
 use Rattle.board.specs.Feeding.{Report, noted, Step, reportsBy}
@@ -52,11 +53,11 @@ byLists listen part (suc calls) x place reads =
     goingOn listen (byLists listen part calls) x place reads (listen x (take part reads))
 
 -- Rust's two operations
-abbrev pub steps : Stepping Receiver
-steps x read = (stepped x read .answer, stepped x read .receiver)
+abbrev pub step : Stepping Receiver
+step x read = (stepped x read .answer, stepped x read .receiver)
 
-abbrev pub listens : Listening Receiver
-listens x reads = ((listened x reads .0 .answer, listened x reads .0 .receiver), listened x reads .1)
+abbrev pub listen : Listening Receiver
+listen x reads = ((listened x reads .0 .answer, listened x reads .0 .receiver), listened x reads .1)
 
 -- What a C caller makes of the numbers it is told: number 0 is no refusal; event 1 is a row, whose n bits stand in the
 -- lent bytes, and event 2 a broken one.
@@ -68,12 +69,12 @@ crossedEvent told lent =
     (refused (told .number) (told .place))
 
 -- and C's two entry points
-abbrev pub stepsFromC : Stepping Lent
-stepsFromC lent read =
+abbrev pub stepFromC : Stepping Lent
+stepFromC lent read =
     (crossedEvent (steppedLent lent read .0) (steppedLent lent read .1), steppedLent lent read .1)
 
-abbrev pub listensFromC : Listening Lent
-listensFromC lent reads = (
+abbrev pub listenFromC : Listening Lent
+listenFromC lent reads = (
   (
     crossedEvent (listenedLent lent reads .0 .0) (listenedLent lent reads .0 .1),
     listenedLent lent reads .0 .1,
@@ -86,18 +87,21 @@ abbrev pub startedFromC : Settings → List ℕ → Lent
 startedFromC g room =
     let crossed = begunLent (begun (g .k) (g .n) (g .Q)) in record { numbers = crossed .1; bytes = crossed .2; row = room }
 
--- the four ways to hear a stream, from a fresh receiver on; for lists a call for each read is enough
-abbrev pub byStep : Settings → List ℕ → List Report
-byStep g reads = oneByOne steps (begun (g .k) (g .n) (g .Q) .1) 0 reads
+-- the four ways to hear a stream: by `step`, by `listen` with lists of at most so many reads, and the same from C,
+-- which lends bytes for a row
+pub data Caller : Type 0 where
+  steps : Caller
+  listens : (part : ℕ) → 1 ≤ part → part ≤ entriesMost → Caller
+  stepsFromC : (room : List ℕ) → Caller
+  listensFromC : (room : List ℕ) (part : ℕ) → 1 ≤ part → part ≤ entriesMost → Caller
 
-abbrev pub byListen : (part : ℕ) → Settings → List ℕ → List Report
-byListen part g reads = byLists listens part (length reads) (begun (g .k) (g .n) (g .Q) .1) 0 reads
-
-abbrev pub byStepFromC : (room : List ℕ) → Settings → List ℕ → List Report
-byStepFromC room g reads = oneByOne stepsFromC (startedFromC g room) 0 reads
-
-abbrev pub byListenFromC : (part : ℕ) (room : List ℕ) → Settings → List ℕ → List Report
-byListenFromC part room g reads = byLists listensFromC part (length reads) (startedFromC g room) 0 reads
+-- what is reported so, from a fresh receiver on; of lists, a call for each read is enough
+abbrev pub hearing : Caller → Settings → List ℕ → List Report
+hearing steps g reads = oneByOne step (begun (g .k) (g .n) (g .Q) .1) 0 reads
+hearing (listens part some few) g reads = byLists listen part (length reads) (begun (g .k) (g .n) (g .Q) .1) 0 reads
+hearing (stepsFromC room) g reads = oneByOne stepFromC (startedFromC g room) 0 reads
+hearing (listensFromC room part some few) g reads =
+    byLists listenFromC part (length reads) (startedFromC g room) 0 reads
 
 -- one read by 01's rules; an entry that is no level is passed over
 abbrev pub heeding : Settings → Step

@@ -1,10 +1,11 @@
 pub mod Places
 pub mod Replaced
 pub mod Demand3
-pub mod OneByOne
 pub mod Hearing
 pub mod Promised
 pub mod GoodInput
+pub mod FromC
+pub mod WholeWay
 pub mod Tried
 pub mod Useless
 pub mod Worked
@@ -12,5 +13,4 @@ pub mod Levels
 pub mod CountedReturns
 pub mod WhatNoMeans
 pub mod OneMeaning
-pub mod Operations
 pub mod Demands

@@ -5,10 +5,14 @@ use mathlib.Core.Path.{_≡_}
 use mathlib.Core.Bool.{Bool, true, false, _&&_, not}
 use mathlib.Core.List.{List, [], _∷_}
 use lib.Dec.{leb, ltb}
-use lib.ListN.{length}
+use lib.ListN.{length, replicate}
 use Rattle.measure.specs.Choose.{choose}
 use Rattle.measure.specs.Lists.{firstAbove, someAbove, onto}
 use Rattle.measure.specs.Refusals.{Answer, given, refused}
+use Rattle.settings.specs.Margins.{m1, m2, m3, m4, m5, accepted, quietAccepted}
+use Rattle.settings.specs.Answers.{Judgement, QuietJudgement}
+use Rattle.board.specs.declared.Mode.the-variants.{Hunting}
+use Rattle.board.specs.declared.Receiver.{Receiver}
 use Rattle.siengulot.specs.Crossing.{Crossed}
 
 -- a test of the table: the number and the place of its refusal, and whether the input fails it
@@ -66,3 +70,33 @@ abbrev pub FillsFromC : List Test → (result output : List ℕ) → Crossed × 
 FillsFromC tests result output outcome =
     Answered tests outcome (record { number = 0; place = 0; count = length result }, onto result output)
     (λ number place. (record { number = number; place = place; count = 0 }, output))
+
+-- what the judges tell: the margins, and whether they are all zero or more
+abbrev pub judged : (a b k w r : ℕ) → Judgement
+judged a b k w r =
+    record {
+      margins = record { m1 = m1 a w r; m2 = m2 a k w r; m3 = m3 a b k w r };
+      accepts = accepted a b k w r;
+    }
+
+abbrev pub quietJudged : (a b k w r Q p1 : ℕ) → QuietJudgement
+quietJudged a b k w r Q p1 =
+    record {
+      margins = record { m1 = m1 a w r; m2 = m2 a k w r; m3 = m3 a b k w r; m4 = m4 a b Q w r; m5 = m5 p1 Q w r };
+      accepts = quietAccepted a b k w r Q p1;
+    }
+
+-- what a refused start hands back: hunting, and all numbers 0
+abbrev pub unstarted : Receiver
+unstarted =
+    record {
+      k = record { 0 = 0 };
+      n = 0;
+      q = record { 0 = 0 };
+      mode = Hunting;
+      run = record { 0 = 0 };
+      left = record { 0 = 0 };
+      level = 0;
+      found = 0;
+      bits = replicate 128 0;
+    }
