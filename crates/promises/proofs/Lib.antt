@@ -38,5 +38,6 @@ pub mod Witness
 pub mod Exact
 pub mod WhatNoMeans
 pub mod Limits
+pub mod ByContract
 pub mod OneMeaning
 pub mod Demands

@@ -4,6 +4,7 @@ use mathlib.Core.Path.{_≡_, refl, sym, ap, _∙_}
 use mathlib.Core.Bool.{Bool, true, false}
 use mathlib.Core.List.{List, []}
 use lib.Dec.{eqb}
+use lib.IntN.{ℤ}
 use lib.ListN.{take}
 use Rattle.measure.specs.Choose.{choose}
 use Rattle.measure.specs.Refusals.{Answer, given, refused, refusedAfter, numberOf, placeOf, lent}
@@ -29,6 +30,8 @@ use Rattle.board.specs.Rows.{Event, nothing, row, broken}
 use Rattle.board.specs.declared.Event.{Event as CodeEvent}
 use Rattle.board.specs.declared.Event.the-variants as E
 use Rattle.board.specs.declared.Start.{Start}
+use Rattle.board.specs.declared.Started.{Started}
+use Rattle.board.specs.declared.Receiver.{Receiver}
 use Rattle.board.specs.declared.Start.the-variants as F
 use Rattle.board.specs.declared.Stepped.{Stepped}
 use Rattle.board.specs.declared.Listened.{Listened}
@@ -50,21 +53,28 @@ use Rattle.page.specs.declared.Put.{Put}
 use Rattle.page.specs.declared.Put.the-variants as P
 use Rattle.page.specs.Lines.{headingLine, eventLine, endLine, refusedLine}
 use Rattle.page.specs.Answers.{putSays}
-use Rattle.promises.specs.OneMeaning.{One, Only, OneLeft, OneMeaning}
+use Rattle.siengulot.specs.Crossing.{Crossed}
+use Rattle.siengulot.specs.Receivers.{Told, Lent}
+use Rattle.promises.specs.OneMeaning.{OneMeaning}
 
--- the one lemma: where the answer can be had back from what it tells, two answers that tell the same are equal
-one : {X Y : Type 0} (told : X → Y) (back : Y → X) → ((x : X) → back (told x) ≡ x) → (defined : Y) → One told defined
-one told back turns defined x y this other = sym (turns x) ∙ ap back (sym this ∙ other) ∙ turns y
+-- two answers that say the same are equal, where an answer can be recovered from what it says
+same : {X Y : Type 0} (says : X → Y) (back : Y → X) → ((x : X) → back (says x) ≡ x) → {defined : Y} {x y : X}
+    → defined ≡ says x → defined ≡ says y → x ≡ y
+same says back turns {x = x} {y = y} h h′ = sym (turns x) ∙ ap back (sym h ∙ h′) ∙ turns y
 
-one-left : {X Y Z : Type 0} (told : X → Y) (back : Y → X) → ((x : X) → back (told x) ≡ x) → (defined : Y × Z)
-    → OneLeft told defined
-one-left {X} {Y} {Z} told back turns defined x y left right this other = (
-  one told back turns (defined .0) x y (ap (λ (p : Y × Z). p .0) this) (ap (λ (p : Y × Z). p .0) other),
-  ap (λ (p : Y × Z). p .1) (sym this ∙ other),
+-- and with them what stands beside the answers: what is left in a lent output
+leaves : {X Y Z W : Type 0} (says : X → Y) (back : Y → X) → ((x : X) → back (says x) ≡ x) → (place : Z → W)
+    → {defined : Y × Z} {x y : X} {left right : Z} → defined ≡ (says x, left) → defined ≡ (says y, right)
+    → (x ≡ y) × (place left ≡ place right)
+leaves {Y = Y} {Z = Z} says back turns place h h′ = (
+  same says back turns (ap (λ (p : Y × Z). p .0) h) (ap (λ (p : Y × Z). p .0) h′),
+  ap (λ (p : Y × Z). place (p .1)) (sym h ∙ h′),
 )
 
-only : {X : Type 0} {defined : X} → Only defined
-only x y this other = this ∙ sym other
+-- what crosses to C is the result and all that is left
+crosses : {P X W : Type 0} (result : P → X) (places : P → W) {defined one other : P} → defined ≡ one → defined ≡ other
+    → (result one ≡ result other) × (places one ≡ places other)
+crosses result places h h′ = (ap result (sym h ∙ h′), ap places (sym h ∙ h′))
 
 -- a refusal from its number and place
 refusal : ℕ → ℕ → Refusal
@@ -134,43 +144,51 @@ listen-of (o, used) =
 pub one-meaning : OneMeaning
 unfolding plain answer judged quiet-judged step-of listen-of
 one-meaning = record {
-  judge = λ a b k w r. one judgedSays (plain judged J.Refused) judge-back (judgement a b k w r);
-  judge-quiet =
-      λ a b k w r q p1. one quietJudgedSays (plain quiet-judged Q.Refused) quiet-back (quietJudgement a b k w r q p1);
-  send = λ a b p1 p2 bits output. sent (sentMessage a b p1 p2 bits output);
-  send-plan = λ a b n leads trails bits output. sent (sentPlan a b n leads trails bits output);
-  smooth =
-      λ wave output. one-left smoothedSays (plain (λ n. M.Wave (record { 0 = n })) M.Refused) smooth-back
-      (smoothed wave output);
-  warp = λ w r p wave output. read (warped w r p wave output);
-  settle = λ reads choices output. read (settled reads choices output);
-  count-bits =
-      λ k n level reads output. one-left countedSays (answer C.Bits C.Refused C.RanOut) count-back
-      (countedBits k n level reads output);
-  fresh = λ k n Q. one-left startSays (plain (λ e. F.Fresh) F.Refused) start-back (begun k n Q);
-  step = λ receiver read. one steppedSays step-of step-back (stepped receiver read);
-  listen = λ receiver reads. one listenedSays listen-of listen-back (listened receiver reads);
-  next = λ bytes at. one numberSays (plain (λ n. N.Is (n .value) (n .after)) N.Refused) number-back (numberAt bytes at);
-  read-header = λ bytes. one headSays (plain head H.Refused) head-back (header bytes);
-  check = λ bytes. one checkedSays (plain K.Capture K.Refused) capture-back (checked bytes);
-  read-capture = λ bytes output. one-left checkedSays (plain K.Capture K.Refused) capture-back (readBack bytes output);
-  write-capture =
-      λ k n Q reads output. one-left writtenSays (plain W.Bytes W.Refused) written-back (written k n Q reads output);
-  put-heading = λ output. line (lent headingLine output);
-  put-row = λ place n bits output. line (lent (eventLine place (row (take n (unpacked 8 bits)))) output);
-  put-broken = λ place found output. line (lent (eventLine place (broken found)) output);
-  put-end = λ reads rows output. line (lent (endLine reads rows) output);
-  put-refused = λ refusal output. line (lent (refusedLine (numberOf refusal) (placeOf refusal)) output);
-  number = λ refusal. only;
-  place = λ refusal. only;
-  between = λ least most x. only;
-  settings-fit = λ k n Q. only;
-  first-above = λ most entries. only;
-  well-formed = λ receiver. only;
-  held-new = λ bytes. only;
-  held-advance = λ reader. only;
-  held-place = λ reader. only;
-  entry-points = λ defined. only;
+  number = λ κs a x y left right h h′. (h ∙ sym h′, refl);
+  place = λ κs a x y left right h h′. (h ∙ sym h′, refl);
+  between = λ κs a x y left right h h′. (h ∙ sym h′, refl);
+  settings-fit = λ κs a x y left right h h′. (h ∙ sym h′, refl);
+  first-above = λ κs a x y left right h h′. (h ∙ sym h′, refl);
+  judge = λ κs a x y left right h h′. (same judgedSays (plain judged J.Refused) judge-back h h′, refl);
+  judge-quiet = λ κs a x y left right h h′. (same quietJudgedSays (plain quiet-judged Q.Refused) quiet-back h h′, refl);
+  send = λ κs a x y left right h h′. leaves sentSays (plain (λ n. S.Wave (record { 0 = n })) S.Refused) send-back (λ l. (tt, (tt, (tt, (tt, (tt, (l, tt))))))) h h′;
+  send-plan = λ κs a x y left right h h′. leaves sentSays (plain (λ n. S.Wave (record { 0 = n })) S.Refused) send-back (λ l. (tt, (tt, (tt, (tt, (tt, (tt, (l, tt)))))))) h h′;
+  smooth = λ κs a x y left right h h′. leaves smoothedSays (plain (λ n. M.Wave (record { 0 = n })) M.Refused) smooth-back (λ l. (tt, (l, tt))) h h′;
+  warp = λ κs a x y left right h h′. leaves readSays (plain (λ n. R.Reads (record { 0 = n })) R.Refused) read-back (λ l. (tt, (tt, (tt, (tt, (l, tt)))))) h h′;
+  settle = λ κs a x y left right h h′. leaves readSays (plain (λ n. R.Reads (record { 0 = n })) R.Refused) read-back (λ l. (tt, (tt, (l, tt)))) h h′;
+  count-bits = λ κs a x y left right h h′. leaves countedSays (answer C.Bits C.Refused C.RanOut) count-back (λ l. (tt, (tt, (tt, (tt, (l, tt)))))) h h′;
+  fresh = λ κs a x y left right h h′. (started h h′, refl);
+  well-formed = λ κs a x y left right h h′. (h ∙ sym h′, refl);
+  step = λ κs a x y left right h h′. (same steppedSays step-of step-back h h′, refl);
+  listen = λ κs a x y left right h h′. (same listenedSays listen-of listen-back h h′, refl);
+  read-header = λ κs a x y left right h h′. (same headSays (plain head H.Refused) head-back h h′, refl);
+  check = λ κs a x y left right h h′. (same checkedSays (plain K.Capture K.Refused) capture-back h h′, refl);
+  read-capture = λ κs a x y left right h h′. leaves checkedSays (plain K.Capture K.Refused) capture-back (λ l. (tt, (l, tt))) h h′;
+  write-capture = λ κs a x y left right h h′. leaves writtenSays (plain W.Bytes W.Refused) written-back (λ l. (tt, (tt, (tt, (tt, (l, tt)))))) h h′;
+  put-heading = λ κs a x y left right h h′. leaves putSays (plain P.Line P.Refused) put-back (λ l. (l, tt)) h h′;
+  put-row = λ κs a x y left right h h′. leaves putSays (plain P.Line P.Refused) put-back (λ l. (tt, (tt, (tt, (l, tt))))) h h′;
+  put-broken = λ κs a x y left right h h′. leaves putSays (plain P.Line P.Refused) put-back (λ l. (tt, (tt, (l, tt)))) h h′;
+  put-end = λ κs a x y left right h h′. leaves putSays (plain P.Line P.Refused) put-back (λ l. (tt, (tt, (l, tt)))) h h′;
+  put-refused = λ κs a x y left right h h′. leaves putSays (plain P.Line P.Refused) put-back (λ l. (tt, (l, tt))) h h′;
+  siengulot-judge = λ κs a x y left right h h′. crosses (λ (p : ℕ × ℕ × List ℤ). p .0) (λ p. (tt, (tt, (tt, (tt, (tt, (p .2, (p .1, tt)))))))) h h′;
+  siengulot-judge-quiet = λ κs a x y left right h h′. crosses (λ (p : ℕ × ℕ × List ℤ). p .0) (λ p. (tt, (tt, (tt, (tt, (tt, (tt, (tt, (p .2, (p .1, tt)))))))))) h h′;
+  siengulot-send = λ κs a x y left right h h′. crosses (λ (p : Crossed × List ℕ). p .0 .number) (λ p. (tt, (tt, (tt, (tt, (tt, (p .1, (p .0 .place, (p .0 .count, tt))))))))) h h′;
+  siengulot-plan = λ κs a x y left right h h′. crosses (λ (p : Crossed × List ℕ). p .0 .number) (λ p. (tt, (tt, (tt, (tt, (tt, (tt, (p .1, (p .0 .place, (p .0 .count, tt)))))))))) h h′;
+  siengulot-smooth = λ κs a x y left right h h′. crosses (λ (p : Crossed × List ℕ). p .0 .number) (λ p. (tt, (p .1, (p .0 .place, (p .0 .count, tt))))) h h′;
+  siengulot-warp = λ κs a x y left right h h′. crosses (λ (p : Crossed × List ℕ). p .0 .number) (λ p. (tt, (tt, (tt, (tt, (p .1, (p .0 .place, (p .0 .count, tt)))))))) h h′;
+  siengulot-settle = λ κs a x y left right h h′. crosses (λ (p : Crossed × List ℕ). p .0 .number) (λ p. (tt, (tt, (p .1, (p .0 .place, (p .0 .count, tt)))))) h h′;
+  siengulot-counted = λ κs a x y left right h h′. crosses (λ (p : Crossed × List ℕ). p .0 .number) (λ p. (tt, (tt, (tt, (tt, (p .1, (p .0 .place, (p .0 .count, tt)))))))) h h′;
+  siengulot-fresh = λ κs a x y left right h h′. crosses (λ (p : ℕ × List ℕ × List ℕ). p .0) (λ p. (tt, (tt, (tt, (p .1, (p .2, tt)))))) h h′;
+  siengulot-well-formed = λ κs a x y left right h h′. (sym h ∙ h′, refl);
+  siengulot-step = λ κs a x y left right h h′. crosses (λ (p : Told × Lent). p .0 .number) (λ p. (p .1 .numbers, (p .1 .bytes, (tt, (p .1 .row, (p .0 .event, (p .0 .found, (p .0 .place, tt)))))))) h h′;
+  siengulot-listen = λ κs a x y left right h h′. crosses (λ (p : (Told × Lent) × ℕ). p .0 .0 .number) (λ p. (p .0 .1 .numbers, (p .0 .1 .bytes, (tt, (p .0 .1 .row, (p .0 .0 .event, (p .0 .0 .found, (p .1, (p .0 .0 .place, tt))))))))) h h′;
+  siengulot-capture-check = λ κs a x y left right h h′. crosses (λ (p : ℕ × ℕ × List ℕ). p .0) (λ p. (tt, (p .2, (p .1, tt)))) h h′;
+  siengulot-capture-read = λ κs a x y left right h h′. crosses (λ (p : (ℕ × ℕ × List ℕ) × List ℕ). p .0 .0) (λ p. (tt, (p .1, (p .0 .2, (p .0 .1, tt))))) h h′;
+  siengulot-capture-write = λ κs a x y left right h h′. crosses (λ (p : Crossed × List ℕ). p .0 .number) (λ p. (tt, (tt, (tt, (tt, (p .1, (p .0 .place, (p .0 .count, tt)))))))) h h′;
+  held-new = λ bytes x y h h′. h ∙ sym h′;
+  held-place = λ reader x y h h′. h ∙ sym h′;
+  held-next = λ bytes at x y h h′. same numberSays (plain (λ n. N.Is (n .value) (n .after)) N.Refused) number-back h h′;
+  held-advance = λ reader x y h h′. h ∙ sym h′;
 }
   where
     judge-back : (x : Judged) → plain judged J.Refused (judgedSays x) ≡ x
@@ -187,9 +205,6 @@ one-meaning = record {
     send-back (S.Wave cycles) = refl
     send-back (S.Refused f) = ap S.Refused (refusal-back f)
 
-    sent : (defined : Answer ℕ × List ℕ) → OneLeft sentSays defined
-    sent = one-left sentSays (plain (λ n. S.Wave (record { 0 = n })) S.Refused) send-back
-
     smooth-back : (x : Smoothed) → plain (λ n. M.Wave (record { 0 = n })) M.Refused (smoothedSays x) ≡ x
     smooth-back (M.Wave cycles) = refl
     smooth-back (M.Refused f) = ap M.Refused (refusal-back f)
@@ -197,9 +212,6 @@ one-meaning = record {
     read-back : (x : Read) → plain (λ n. R.Reads (record { 0 = n })) R.Refused (readSays x) ≡ x
     read-back (R.Reads reads) = refl
     read-back (R.Refused f) = ap R.Refused (refusal-back f)
-
-    read : (defined : Answer ℕ × List ℕ) → OneLeft readSays defined
-    read = one-left readSays (plain (λ n. R.Reads (record { 0 = n })) R.Refused) read-back
 
     count-back : (x : Counted) → answer C.Bits C.Refused C.RanOut (countedSays x) ≡ x
     count-back (C.Bits n) = refl
@@ -252,5 +264,10 @@ one-meaning = record {
     put-back (P.Line n) = refl
     put-back (P.Refused f) = ap P.Refused (refusal-back f)
 
-    line : (defined : Answer ℕ × List ℕ) → OneLeft putSays defined
-    line = one-left putSays (plain P.Line P.Refused) put-back
+    started : {defined : Answer Event × Receiver} {x y : Started} → defined ≡ (startSays (x .start), x .receiver)
+        → defined ≡ (startSays (y .start), y .receiver) → x ≡ y
+    started {x = x} {y = y} h h′ =
+        let e : startSays (x .start) ≡ startSays (y .start) = ap (λ (p : Answer Event × Receiver). p .0) (sym h ∙ h′) in
+        let start : x .start ≡ y .start = same startSays (plain (λ e. F.Fresh) F.Refused) start-back refl e in
+        let receiver : x .receiver ≡ y .receiver = ap (λ (p : Answer Event × Receiver). p .1) (sym h ∙ h′) in
+        λ i. record { receiver = receiver i; start = start i }

@@ -14,3 +14,4 @@ pub mod CountedReturns
 pub mod WhatNoMeans
 pub mod OneMeaning
 pub mod Demands
+pub mod ByContract
