@@ -1,19 +1,85 @@
--- 01, "Holding the promises to one meaning": useless receivers that demand 3 shuts out.
-use Prim.Native.Nat.{ℕ}
+-- 01, "Holding the promises to one meaning": useless operations that the demands shut out, senders by demand 1 and
+-- receivers by demand 3.
+use Prim.Native.Nat.{ℕ, _+_}
 use mathlib.Core.Bool.{Bool, false}
 use mathlib.Core.Path.{_≡_}
-use mathlib.Core.List.{[], _∷_}
+use mathlib.Core.List.{List, [], _∷_}
 use lib.Dec.{eqb}
+use lib.ListN.{length, set}
 use Rattle.measure.specs.Choose.{choose}
+use Rattle.measure.specs.Lists.{onto}
+use Rattle.measure.specs.Refusals.{Answer, given, refused, refusedAfter}
+use Rattle.sender.specs.Sending.{wave}
+use Rattle.sender.specs.Answers.{sentMessage}
 use Rattle.board.specs.Rows.{Settings, State, Event, nothing, row, broken, Moved, fresh, next}
 use Rattle.board.specs.Feeding.{Step, reportsBy}
 use Rattle.board.specs.declared.Mode.{Mode}
 use Rattle.board.specs.declared.Mode.the-variants.{Hunting, Ready, Counting, Waiting}
+use Rattle.promises.specs.Promised.{Test, Answered, Fills}
+use Rattle.promises.specs.GoodInput as Good
 use Rattle.promises.specs.Places.{readsOf}
 use Rattle.promises.specs.Demand3.{Demand3, settings}
 use Rattle.promises.specs.Tried.{p10}
 
--- one that refuses everything: nothing is reported, and the state comes back unchanged
+-- What could be put in the place of `send`, and demand 1's line for it.
+abbrev pub Sender : Type 0
+Sender = (a b p1 p2 : ℕ) (bits output : List ℕ) → Answer ℕ × List ℕ
+
+abbrev pub Line : Sender → Type 0
+Line sender = (a b p1 p2 : ℕ) (bits output : List ℕ)
+    → Fills (Good.send a b p1 p2 bits output) (wave a b p1 p2 bits) output (sender a b p1 p2 bits output)
+
+-- one that refuses everything, and one that refuses nothing
+abbrev pub refusesEverything : Sender
+refusesEverything a b p1 p2 bits output = (refused 1 0, output)
+
+abbrev pub refusesNothing : Sender
+refusesNothing a b p1 p2 bits output = (given (length (wave a b p1 p2 bits)), onto (wave a b p1 p2 bits) output)
+
+-- one that sends by the rules and answers a count that is one too high
+abbrev pub oneMore : Answer ℕ → Answer ℕ
+oneMore (given count) = given (count + 1)
+oneMore (refused number place) = refused number place
+oneMore (refusedAfter number place count) = refusedAfter number place count
+
+abbrev pub inventsCount : Sender
+inventsCount a b p1 p2 bits output =
+    (oneMore (sentMessage a b p1 p2 bits output .0), sentMessage a b p1 p2 bits output .1)
+
+-- one that always sends the same message
+abbrev pub fixedMessage : Sender
+fixedMessage a b p1 p2 bits output = sentMessage a b p1 p2 (1 ∷ []) output
+
+-- one that sends by the rules and spoils the first entry past the result
+abbrev pub spoilsEntry : Sender
+spoilsEntry a b p1 p2 bits output = (
+  sentMessage a b p1 p2 bits output .0,
+  set (sentMessage a b p1 p2 bits output .1) (length (wave a b p1 p2 bits)) 2,
+)
+
+-- one that refuses with the right number and always with place 0
+abbrev pub placeless : Answer ℕ → Answer ℕ
+placeless (given count) = given count
+placeless (refused number place) = refused number 0
+placeless (refusedAfter number place count) = refusedAfter number place count
+
+abbrev pub losesPlace : Sender
+losesPlace a b p1 p2 bits output =
+    (placeless (sentMessage a b p1 p2 bits output .0), sentMessage a b p1 p2 bits output .1)
+
+-- The line is false of each. And no line of demand 1 leaves a choice: two outcomes of which it holds are equal, so what
+-- differs from an operation anywhere is shut out there.
+pub record ShutOut1 : Type 1 where
+  pub refusing : Line refusesEverything → ⊥
+  pub accepting : Line refusesNothing → ⊥
+  pub counting : Line inventsCount → ⊥
+  pub repeating : Line fixedMessage → ⊥
+  pub spoiling : Line spoilsEntry → ⊥
+  pub misplacing : Line losesPlace → ⊥
+  pub no-choice : {O : Type 0} (tests : List Test) (one other result : O) (refusal : ℕ → ℕ → O)
+      → Answered tests one result refusal → Answered tests other result refusal → one ≡ other
+
+-- A receiver that refuses everything: nothing is reported, and the state comes back unchanged.
 abbrev pub refusesAll : Step
 refusesAll s read = record { state = s; event = nothing }
 
