@@ -1,7 +1,7 @@
 -- Whatever hears as the rules do, with entries that are no level passed over, meets demand 3: a link's own reads are
 -- levels, and what stands in the stretch leaves no trace once a lead quiet has been heard.
 use Prim.Native.Nat.{ℕ, suc, _+_, _-_, _≤_, _<_}
-use mathlib.Core.Path.{_≡_, ap, _∙_}
+use mathlib.Core.Path.{ap, _∙_}
 use mathlib.Core.List.{List}
 use native.Mathlib.Omega.{arith}
 use native.Mathlib.Decide.{decLt}

@@ -1,22 +1,21 @@
 -- A capture is judged one number after another, so its tests follow one another as its numbers do.
-use Prim.Native.Nat.{ℕ, zero, suc, _+_, _≤_, _<_}
-use mathlib.Core.Path.{_≡_, refl, sym, ap, _∙_}
+use Prim.Native.Nat.{ℕ, zero, suc, _+_, _≤_}
+use mathlib.Core.Path.{_≡_, refl, sym}
 use mathlib.Core.Bool.{Bool, true, false, _&&_, not, false≢true}
 use mathlib.Core.List.{List, [], _∷_, _++_}
 use native.Mathlib.Omega.{arith}
 use native.Mathlib.Decide.{decLe}
 use borrow.Author.Tests.{le-leb, lt-leb, ne-eqb}
-use lib.Dec.{eqb, leb, ltb}
-use lib.ListN.{length, drop, length-drop}
+use lib.Dec.{eqb, leb}
+use lib.ListN.{length, drop}
 use Rattle.measure.specs.Choose.{choose, between}
 use Rattle.measure.specs.Ranges.{sampling, rowBits, quiet, captureMost}
 use Rattle.measure.specs.Lists.{onto}
-use Rattle.measure.specs.Refusals.{Answer, given, refused, refusedAfter}
-use Rattle.capture.specs.Numbers.{Group, value, cut, long, group, further, Numeral, placed, numberAt}
-use Rattle.capture.specs.Capture.{then, passing, fittingAt, heading, header, joined, runsFrom, Capture, withRuns, capture}
-use Rattle.capture.specs.Capture.{totalMost, readsOf}
+use Rattle.measure.specs.Refusals.{Answer, given, refused}
+use Rattle.capture.specs.Numbers.{Group, value, cut, long, further, Numeral, placed, numberAt}
+use Rattle.capture.specs.Capture.{then, passing, fittingAt, heading, header, runsFrom, capture}
+use Rattle.capture.specs.Capture.{totalMost}
 use Rattle.capture.specs.Answers.{summary, unrolled}
-use Rattle.capture.specs.declared.Summary.{Summary}
 use Rattle.capture.proofs.Runs.{runs-end}
 use Rattle.capture.proofs.Captures.{capture-judged}
 use Rattle.capture.proofs.Judging.{number-is, Ends, group-ends, fitting-then, heading-then, runs-then}

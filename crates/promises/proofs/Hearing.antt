@@ -2,7 +2,7 @@
 -- so what the calls report one after another is what the rules report.
 use Prim.Native.Nat.{ℕ, zero, suc, _+_, _-_, _≤_, _<_}
 use mathlib.Core.Path.{_≡_, refl, sym, ap, _∙_}
-use mathlib.Core.Logic.{_⊎_, inl, inr}
+use mathlib.Core.Logic.{inl, inr}
 use mathlib.Core.Bool.{true}
 use mathlib.Core.List.{List, [], _∷_, _++_, map}
 use native.Mathlib.Nat.{zero-add}
@@ -10,27 +10,24 @@ use native.Mathlib.Numerals.{add-one}
 use native.Mathlib.Omega.{arith}
 use native.Mathlib.Decide.{decLe}
 use borrow.Author.Tests.{le-leb, lt-leb}
-use lib.Dec.{leb}
 use lib.ListN.{length, getD, take, drop, length-take, length-drop, take-append-drop}
 use lib.Seq.{take-append-le, take-length, getD-take, drop-cons}
-use Rattle.measure.specs.Choose.{choose}
 use Rattle.measure.specs.Ranges.{entriesMost, settingsFit}
-use Rattle.measure.specs.Refusals.{Answer, given, refused, refusedAfter}
-use Rattle.board.specs.Rows.{Settings, State, Event, nothing, row, broken, fresh, next}
-use Rattle.board.specs.Feeding.{Report, noted, Step, afterBy, reportsBy, after, reports}
+use Rattle.measure.specs.Refusals.{given, refused}
+use Rattle.board.specs.Rows.{Settings, State, Event, nothing, fresh, next}
+use Rattle.board.specs.Feeding.{Report, noted, afterBy, reportsBy, after, reports}
 use Rattle.board.specs.Packed.{receiverOf}
-use Rattle.board.specs.Answers.{Outcome, reached, refusing, begun, stepped, listened}
-use Rattle.board.specs.Listening.{heardFrom}
+use Rattle.board.specs.Answers.{Outcome, reached, refusing, begun, listened}
 use Rattle.board.specs.declared.Receiver.{Receiver}
 use Rattle.board.proofs.PackedBits.{Binary}
 use Rattle.board.proofs.RowRules.{Valid, valid-fresh, valid-next}
 use Rattle.board.proofs.Standing.{ranged-of}
 use Rattle.board.proofs.FeedingLaws.{reports-append, later, reports-later}
-use Rattle.board.proofs.CallLaws.{Whole, whole-next, Ends, Stops, Brings, Heard, hears, noted-some}
+use Rattle.board.proofs.CallLaws.{Whole, Ends, Stops, Brings, Heard, hears, noted-some}
 use Rattle.board.proofs.CallLaws.{stepped-level, stepped-other, listened-valid, begun-fresh}
 use Rattle.page.proofs.Turns.{listened-levels}
 use Rattle.promises.specs.Hearing.{Stepping, Listening, oneByOne, goingOn, byLists, step, listen}
-use Rattle.promises.specs.Hearing.{Caller, steps, listens, hearing, heeding, Hears}
+use Rattle.promises.specs.Hearing.{steps, listens, hearing, heeding, Hears}
 
 module _ (g : Settings) where
   -- levels are heeded as the rules have it

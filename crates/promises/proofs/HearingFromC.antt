@@ -13,12 +13,12 @@ use Rattle.board.specs.declared.Mode.the-variants.{Hunting, Ready, Counting, Wa
 use Rattle.board.specs.declared.Receiver.{Receiver}
 use Rattle.board.specs.Rows.{Settings, State, Event, nothing, row, broken, fresh, next}
 use Rattle.board.specs.Packed.{kept, receiverOf}
-use Rattle.board.specs.Answers.{Outcome, rowOf, reached, refusing, begun, stepped, listened}
+use Rattle.board.specs.Answers.{Outcome, reached, refusing, begun, stepped, listened}
 use Rattle.board.proofs.RowRules.{Ranged, Fitting, Valid, valid-fresh}
 use Rattle.board.proofs.Standing.{ranged-of}
 use Rattle.board.proofs.CellLaws.{row-read}
-use Rattle.board.proofs.CallLaws.{Whole, whole-next, stepped-level, stepped-other, begun-fresh}
-use Rattle.siengulot.specs.Receivers.{Lent, Told, keeping, brought, begunLent, steppedLent, listenedLent}
+use Rattle.board.proofs.CallLaws.{Whole, whole-next, stepped-level, stepped-other}
+use Rattle.siengulot.specs.Receivers.{Lent, Told, keeping, brought, steppedLent, listenedLent}
 use Rattle.siengulot.proofs.Standing.{stands, stands-back}
 use Rattle.siengulot.proofs.Brought.{step-brought, listen-brought}
 use Rattle.promises.specs.Hearing.{crossedEvent, stepFromC, listenFromC, startedFromC, Caller, steps, listens}

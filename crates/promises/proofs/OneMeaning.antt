@@ -1,31 +1,29 @@
 -- What an answer says can be turned back into the answer, so what was promised leaves room for one answer alone.
 use Prim.Native.Nat.{ℕ}
 use mathlib.Core.Path.{_≡_, refl, sym, ap, _∙_}
-use mathlib.Core.Bool.{Bool, true, false}
-use mathlib.Core.List.{List, []}
+use mathlib.Core.List.{List}
 use lib.Dec.{eqb}
 use lib.IntN.{ℤ}
-use lib.ListN.{take}
 use Rattle.measure.specs.Choose.{choose}
-use Rattle.measure.specs.Refusals.{Answer, given, refused, refusedAfter, numberOf, placeOf, lent}
+use Rattle.measure.specs.Refusals.{Answer, given, refused, refusedAfter, numberOf, placeOf}
 use Rattle.measure.specs.declared.Refusal.{Refusal}
 use Rattle.measure.specs.declared.Refusal.the-variants.{Setting, Entry, Limit, Room, Cut, Form, Range}
 use Rattle.settings.specs.declared.Judged.{Judged}
 use Rattle.settings.specs.declared.Judged.the-variants as J
 use Rattle.settings.specs.declared.QuietJudged.{QuietJudged}
 use Rattle.settings.specs.declared.QuietJudged.the-variants as Q
-use Rattle.settings.specs.Answers.{Judgement, QuietJudgement, judgement, quietJudgement, judgedSays, quietJudgedSays}
+use Rattle.settings.specs.Answers.{Judgement, QuietJudgement, judgedSays, quietJudgedSays}
 use Rattle.sender.specs.declared.Sent.{Sent}
 use Rattle.sender.specs.declared.Sent.the-variants as S
-use Rattle.sender.specs.Answers.{sentMessage, sentPlan, sentSays}
+use Rattle.sender.specs.Answers.{sentSays}
 use Rattle.line.specs.declared.Smoothed.{Smoothed}
 use Rattle.line.specs.declared.Smoothed.the-variants as M
 use Rattle.line.specs.declared.Read.{Read}
 use Rattle.line.specs.declared.Read.the-variants as R
-use Rattle.line.specs.Answers.{smoothed, warped, settled, smoothedSays, readSays}
+use Rattle.line.specs.Answers.{smoothedSays, readSays}
 use Rattle.counted.specs.declared.Counted.{Counted}
 use Rattle.counted.specs.declared.Counted.the-variants as C
-use Rattle.counted.specs.Answers.{countedBits, countedSays}
+use Rattle.counted.specs.Answers.{countedSays}
 use Rattle.board.specs.Rows.{Event, nothing, row, broken}
 use Rattle.board.specs.declared.Event.{Event as CodeEvent}
 use Rattle.board.specs.declared.Event.the-variants as E
@@ -35,39 +33,42 @@ use Rattle.board.specs.declared.Receiver.{Receiver}
 use Rattle.board.specs.declared.Start.the-variants as F
 use Rattle.board.specs.declared.Stepped.{Stepped}
 use Rattle.board.specs.declared.Listened.{Listened}
-use Rattle.board.specs.Packed.{unpacked}
-use Rattle.board.specs.Answers.{Outcome, eventSays, begun, startSays, stepped, steppedSays, listened, listenedSays}
-use Rattle.capture.specs.Numbers.{Numeral, numberAt}
-use Rattle.capture.specs.Capture.{Heading, header}
+use Rattle.board.specs.Answers.{Outcome, eventSays, startSays, steppedSays, listenedSays}
+use Rattle.capture.specs.Capture.{Heading}
+use Rattle.capture.specs.Numbers.{Numeral}
+use Rattle.capture.specs.declared.Summary.{Summary}
 use Rattle.capture.specs.declared.Number.{Number}
 use Rattle.capture.specs.declared.Number.the-variants as N
 use Rattle.capture.specs.declared.Head.{Head}
 use Rattle.capture.specs.declared.Head.the-variants as H
-use Rattle.capture.specs.declared.Summary.{Summary}
 use Rattle.capture.specs.declared.Checked.{Checked}
 use Rattle.capture.specs.declared.Checked.the-variants as K
 use Rattle.capture.specs.declared.Written.{Written}
 use Rattle.capture.specs.declared.Written.the-variants as W
-use Rattle.capture.specs.Answers.{numberSays, headSays, checked, readBack, checkedSays, written, writtenSays}
+use Rattle.capture.specs.Answers.{numberSays, headSays, checkedSays, writtenSays}
 use Rattle.page.specs.declared.Put.{Put}
 use Rattle.page.specs.declared.Put.the-variants as P
-use Rattle.page.specs.Lines.{headingLine, eventLine, endLine, refusedLine}
 use Rattle.page.specs.Answers.{putSays}
 use Rattle.siengulot.specs.Crossing.{Crossed}
 use Rattle.siengulot.specs.Receivers.{Told, Lent}
 use Rattle.promises.specs.OneMeaning.{OneMeaning}
 
--- two answers that say the same are equal, where an answer can be recovered from what it says
-same : {X Y : Type 0} (says : X → Y) (back : Y → X) → ((x : X) → back (says x) ≡ x) → {defined : Y} {x y : X}
-    → defined ≡ says x → defined ≡ says y → x ≡ y
-same says back turns {x = x} {y = y} h h′ = sym (turns x) ∙ ap back (sym h ∙ h′) ∙ turns y
+-- an answer can be recovered from what it says
+record Said (X Y : Type 0) : Type 0 where
+  says : X → Y
+  back : Y → X
+  turns : (x : X) → back (says x) ≡ x
+
+-- so two answers that say the same are equal
+same : {X Y : Type 0} (said : Said X Y) {defined : Y} {x y : X} → defined ≡ said .says x → defined ≡ said .says y
+    → x ≡ y
+same said {x = x} {y = y} h h′ = sym (said .turns x) ∙ ap (said .back) (sym h ∙ h′) ∙ said .turns y
 
 -- and with them what stands beside the answers: what is left in a lent output
-leaves : {X Y Z W : Type 0} (says : X → Y) (back : Y → X) → ((x : X) → back (says x) ≡ x) → (place : Z → W)
-    → {defined : Y × Z} {x y : X} {left right : Z} → defined ≡ (says x, left) → defined ≡ (says y, right)
-    → (x ≡ y) × (place left ≡ place right)
-leaves {Y = Y} {Z = Z} says back turns place h h′ = (
-  same says back turns (ap (λ (p : Y × Z). p .0) h) (ap (λ (p : Y × Z). p .0) h′),
+leaves : {X Y Z W : Type 0} (said : Said X Y) (place : Z → W) {defined : Y × Z} {x y : X} {left right : Z}
+    → defined ≡ (said .says x, left) → defined ≡ (said .says y, right) → (x ≡ y) × (place left ≡ place right)
+leaves {Y = Y} {Z = Z} said place h h′ = (
+  same said (ap (λ (p : Y × Z). p .0) h) (ap (λ (p : Y × Z). p .0) h′),
   ap (λ (p : Y × Z). place (p .1)) (sym h ∙ h′),
 )
 
@@ -149,45 +150,73 @@ one-meaning = record {
   between = λ κs a x y left right h h′. (h ∙ sym h′, refl);
   settings-fit = λ κs a x y left right h h′. (h ∙ sym h′, refl);
   first-above = λ κs a x y left right h h′. (h ∙ sym h′, refl);
-  judge = λ κs a x y left right h h′. (same judgedSays (plain judged J.Refused) judge-back h h′, refl);
-  judge-quiet = λ κs a x y left right h h′. (same quietJudgedSays (plain quiet-judged Q.Refused) quiet-back h h′, refl);
-  send = λ κs a x y left right h h′. leaves sentSays (plain (λ n. S.Wave (record { 0 = n })) S.Refused) send-back (λ l. (tt, (tt, (tt, (tt, (tt, (l, tt))))))) h h′;
-  send-plan = λ κs a x y left right h h′. leaves sentSays (plain (λ n. S.Wave (record { 0 = n })) S.Refused) send-back (λ l. (tt, (tt, (tt, (tt, (tt, (tt, (l, tt)))))))) h h′;
-  smooth = λ κs a x y left right h h′. leaves smoothedSays (plain (λ n. M.Wave (record { 0 = n })) M.Refused) smooth-back (λ l. (tt, (l, tt))) h h′;
-  warp = λ κs a x y left right h h′. leaves readSays (plain (λ n. R.Reads (record { 0 = n })) R.Refused) read-back (λ l. (tt, (tt, (tt, (tt, (l, tt)))))) h h′;
-  settle = λ κs a x y left right h h′. leaves readSays (plain (λ n. R.Reads (record { 0 = n })) R.Refused) read-back (λ l. (tt, (tt, (l, tt)))) h h′;
-  count-bits = λ κs a x y left right h h′. leaves countedSays (answer C.Bits C.Refused C.RanOut) count-back (λ l. (tt, (tt, (tt, (tt, (l, tt)))))) h h′;
+  judge = λ κs a x y left right h h′. (same judge-said h h′, refl);
+  judge-quiet = λ κs a x y left right h h′. (same quiet-said h h′, refl);
+  send = λ κs a x y left right h h′. leaves sent (λ l. (tt, (tt, (tt, (tt, (tt, (l, tt))))))) h h′;
+  send-plan = λ κs a x y left right h h′. leaves sent (λ l. (tt, (tt, (tt, (tt, (tt, (tt, (l, tt)))))))) h h′;
+  smooth = λ κs a x y left right h h′. leaves smooth-said (λ l. (tt, (l, tt))) h h′;
+  warp = λ κs a x y left right h h′. leaves read (λ l. (tt, (tt, (tt, (tt, (l, tt)))))) h h′;
+  settle = λ κs a x y left right h h′. leaves read (λ l. (tt, (tt, (l, tt)))) h h′;
+  count-bits = λ κs a x y left right h h′. leaves counted-said (λ l. (tt, (tt, (tt, (tt, (l, tt)))))) h h′;
   fresh = λ κs a x y left right h h′. (started h h′, refl);
   well-formed = λ κs a x y left right h h′. (h ∙ sym h′, refl);
-  step = λ κs a x y left right h h′. (same steppedSays step-of step-back h h′, refl);
-  listen = λ κs a x y left right h h′. (same listenedSays listen-of listen-back h h′, refl);
-  read-header = λ κs a x y left right h h′. (same headSays (plain head H.Refused) head-back h h′, refl);
-  check = λ κs a x y left right h h′. (same checkedSays (plain K.Capture K.Refused) capture-back h h′, refl);
-  read-capture = λ κs a x y left right h h′. leaves checkedSays (plain K.Capture K.Refused) capture-back (λ l. (tt, (l, tt))) h h′;
-  write-capture = λ κs a x y left right h h′. leaves writtenSays (plain W.Bytes W.Refused) written-back (λ l. (tt, (tt, (tt, (tt, (l, tt)))))) h h′;
-  put-heading = λ κs a x y left right h h′. leaves putSays (plain P.Line P.Refused) put-back (λ l. (l, tt)) h h′;
-  put-row = λ κs a x y left right h h′. leaves putSays (plain P.Line P.Refused) put-back (λ l. (tt, (tt, (tt, (l, tt))))) h h′;
-  put-broken = λ κs a x y left right h h′. leaves putSays (plain P.Line P.Refused) put-back (λ l. (tt, (tt, (l, tt)))) h h′;
-  put-end = λ κs a x y left right h h′. leaves putSays (plain P.Line P.Refused) put-back (λ l. (tt, (tt, (l, tt)))) h h′;
-  put-refused = λ κs a x y left right h h′. leaves putSays (plain P.Line P.Refused) put-back (λ l. (tt, (l, tt))) h h′;
-  siengulot-judge = λ κs a x y left right h h′. crosses (λ (p : ℕ × ℕ × List ℤ). p .0) (λ p. (tt, (tt, (tt, (tt, (tt, (p .2, (p .1, tt)))))))) h h′;
-  siengulot-judge-quiet = λ κs a x y left right h h′. crosses (λ (p : ℕ × ℕ × List ℤ). p .0) (λ p. (tt, (tt, (tt, (tt, (tt, (tt, (tt, (p .2, (p .1, tt)))))))))) h h′;
-  siengulot-send = λ κs a x y left right h h′. crosses (λ (p : Crossed × List ℕ). p .0 .number) (λ p. (tt, (tt, (tt, (tt, (tt, (p .1, (p .0 .place, (p .0 .count, tt))))))))) h h′;
-  siengulot-plan = λ κs a x y left right h h′. crosses (λ (p : Crossed × List ℕ). p .0 .number) (λ p. (tt, (tt, (tt, (tt, (tt, (tt, (p .1, (p .0 .place, (p .0 .count, tt)))))))))) h h′;
-  siengulot-smooth = λ κs a x y left right h h′. crosses (λ (p : Crossed × List ℕ). p .0 .number) (λ p. (tt, (p .1, (p .0 .place, (p .0 .count, tt))))) h h′;
-  siengulot-warp = λ κs a x y left right h h′. crosses (λ (p : Crossed × List ℕ). p .0 .number) (λ p. (tt, (tt, (tt, (tt, (p .1, (p .0 .place, (p .0 .count, tt)))))))) h h′;
-  siengulot-settle = λ κs a x y left right h h′. crosses (λ (p : Crossed × List ℕ). p .0 .number) (λ p. (tt, (tt, (p .1, (p .0 .place, (p .0 .count, tt)))))) h h′;
-  siengulot-counted = λ κs a x y left right h h′. crosses (λ (p : Crossed × List ℕ). p .0 .number) (λ p. (tt, (tt, (tt, (tt, (p .1, (p .0 .place, (p .0 .count, tt)))))))) h h′;
-  siengulot-fresh = λ κs a x y left right h h′. crosses (λ (p : ℕ × List ℕ × List ℕ). p .0) (λ p. (tt, (tt, (tt, (p .1, (p .2, tt)))))) h h′;
+  step = λ κs a x y left right h h′. (same stepped-said h h′, refl);
+  listen = λ κs a x y left right h h′. (same listened-said h h′, refl);
+  read-header = λ κs a x y left right h h′. (same head-said h h′, refl);
+  check = λ κs a x y left right h h′. (same checked-said h h′, refl);
+  read-capture = λ κs a x y left right h h′. leaves checked-said (λ l. (tt, (l, tt))) h h′;
+  write-capture = λ κs a x y left right h h′. leaves written-said (λ l. (tt, (tt, (tt, (tt, (l, tt)))))) h h′;
+  put-heading = λ κs a x y left right h h′. leaves line (λ l. (l, tt)) h h′;
+  put-row = λ κs a x y left right h h′. leaves line (λ l. (tt, (tt, (tt, (l, tt))))) h h′;
+  put-broken = λ κs a x y left right h h′. leaves line (λ l. (tt, (tt, (l, tt)))) h h′;
+  put-end = λ κs a x y left right h h′. leaves line (λ l. (tt, (tt, (l, tt)))) h h′;
+  put-refused = λ κs a x y left right h h′. leaves line (λ l. (tt, (l, tt))) h h′;
+  siengulot-judge = λ κs a x y left right h h′.
+      crosses (λ (p : ℕ × ℕ × List ℤ). p .0)
+      (λ p. (tt, (tt, (tt, (tt, (tt, (p .2, (p .1, tt)))))))) h h′;
+  siengulot-judge-quiet = λ κs a x y left right h h′.
+      crosses (λ (p : ℕ × ℕ × List ℤ). p .0)
+      (λ p. (tt, (tt, (tt, (tt, (tt, (tt, (tt, (p .2, (p .1, tt)))))))))) h h′;
+  siengulot-send = λ κs a x y left right h h′.
+      crosses (λ (p : Crossed × List ℕ). p .0 .number)
+      (λ p. (tt, (tt, (tt, (tt, (tt, (p .1, (p .0 .place, (p .0 .count, tt))))))))) h h′;
+  siengulot-plan = λ κs a x y left right h h′.
+      crosses (λ (p : Crossed × List ℕ). p .0 .number)
+      (λ p. (tt, (tt, (tt, (tt, (tt, (tt, (p .1, (p .0 .place, (p .0 .count, tt)))))))))) h h′;
+  siengulot-smooth = λ κs a x y left right h h′.
+      crosses (λ (p : Crossed × List ℕ). p .0 .number)
+      (λ p. (tt, (p .1, (p .0 .place, (p .0 .count, tt))))) h h′;
+  siengulot-warp = λ κs a x y left right h h′.
+      crosses (λ (p : Crossed × List ℕ). p .0 .number)
+      (λ p. (tt, (tt, (tt, (tt, (p .1, (p .0 .place, (p .0 .count, tt)))))))) h h′;
+  siengulot-settle = λ κs a x y left right h h′.
+      crosses (λ (p : Crossed × List ℕ). p .0 .number)
+      (λ p. (tt, (tt, (p .1, (p .0 .place, (p .0 .count, tt)))))) h h′;
+  siengulot-counted = λ κs a x y left right h h′.
+      crosses (λ (p : Crossed × List ℕ). p .0 .number)
+      (λ p. (tt, (tt, (tt, (tt, (p .1, (p .0 .place, (p .0 .count, tt)))))))) h h′;
+  siengulot-fresh = λ κs a x y left right h h′.
+      crosses (λ (p : ℕ × List ℕ × List ℕ). p .0)
+      (λ p. (tt, (tt, (tt, (p .1, (p .2, tt)))))) h h′;
   siengulot-well-formed = λ κs a x y left right h h′. (sym h ∙ h′, refl);
-  siengulot-step = λ κs a x y left right h h′. crosses (λ (p : Told × Lent). p .0 .number) (λ p. (p .1 .numbers, (p .1 .bytes, (tt, (p .1 .row, (p .0 .event, (p .0 .found, (p .0 .place, tt)))))))) h h′;
-  siengulot-listen = λ κs a x y left right h h′. crosses (λ (p : (Told × Lent) × ℕ). p .0 .0 .number) (λ p. (p .0 .1 .numbers, (p .0 .1 .bytes, (tt, (p .0 .1 .row, (p .0 .0 .event, (p .0 .0 .found, (p .1, (p .0 .0 .place, tt))))))))) h h′;
-  siengulot-capture-check = λ κs a x y left right h h′. crosses (λ (p : ℕ × ℕ × List ℕ). p .0) (λ p. (tt, (p .2, (p .1, tt)))) h h′;
-  siengulot-capture-read = λ κs a x y left right h h′. crosses (λ (p : (ℕ × ℕ × List ℕ) × List ℕ). p .0 .0) (λ p. (tt, (p .1, (p .0 .2, (p .0 .1, tt))))) h h′;
-  siengulot-capture-write = λ κs a x y left right h h′. crosses (λ (p : Crossed × List ℕ). p .0 .number) (λ p. (tt, (tt, (tt, (tt, (p .1, (p .0 .place, (p .0 .count, tt)))))))) h h′;
+  siengulot-step = λ κs a x y left right h h′.
+      crosses (λ (p : Told × Lent). p .0 .number)
+      (λ p. (p .1 .numbers, (p .1 .bytes, (tt, (p .1 .row, (p .0 .event, (p .0 .found, (p .0 .place, tt)))))))) h h′;
+  siengulot-listen = λ κs a x y left right h h′.
+      crosses (λ (p : (Told × Lent) × ℕ). p .0 .0 .number)
+      (λ p. (p .0 .1 .numbers, (p .0 .1 .bytes, (tt, (p .0 .1 .row, (p .0 .0 .event, (p .0 .0 .found, (p .1, (p .0 .0 .place, tt))))))))) h h′;
+  siengulot-capture-check = λ κs a x y left right h h′.
+      crosses (λ (p : ℕ × ℕ × List ℕ). p .0)
+      (λ p. (tt, (p .2, (p .1, tt)))) h h′;
+  siengulot-capture-read = λ κs a x y left right h h′.
+      crosses (λ (p : (ℕ × ℕ × List ℕ) × List ℕ). p .0 .0)
+      (λ p. (tt, (p .1, (p .0 .2, (p .0 .1, tt))))) h h′;
+  siengulot-capture-write = λ κs a x y left right h h′.
+      crosses (λ (p : Crossed × List ℕ). p .0 .number)
+      (λ p. (tt, (tt, (tt, (tt, (p .1, (p .0 .place, (p .0 .count, tt)))))))) h h′;
   held-new = λ bytes x y h h′. h ∙ sym h′;
   held-place = λ reader x y h h′. h ∙ sym h′;
-  held-next = λ bytes at x y h h′. same numberSays (plain (λ n. N.Is (n .value) (n .after)) N.Refused) number-back h h′;
+  held-next = λ bytes at x y h h′. same number-said h h′;
   held-advance = λ reader x y h h′. h ∙ sym h′;
 }
   where
@@ -264,10 +293,52 @@ one-meaning = record {
     put-back (P.Line n) = refl
     put-back (P.Refused f) = ap P.Refused (refusal-back f)
 
+    judge-said : Said Judged (Answer Judgement)
+    judge-said = record { says = judgedSays; back = plain judged J.Refused; turns = judge-back }
+
+    quiet-said : Said QuietJudged (Answer QuietJudgement)
+    quiet-said = record { says = quietJudgedSays; back = plain quiet-judged Q.Refused; turns = quiet-back }
+
+    sent : Said Sent (Answer ℕ)
+    sent = record { says = sentSays; back = plain (λ n. S.Wave (record { 0 = n })) S.Refused; turns = send-back }
+
+    smooth-said : Said Smoothed (Answer ℕ)
+    smooth-said = record { says = smoothedSays; back = plain (λ n. M.Wave (record { 0 = n })) M.Refused; turns = smooth-back }
+
+    read : Said Read (Answer ℕ)
+    read = record { says = readSays; back = plain (λ n. R.Reads (record { 0 = n })) R.Refused; turns = read-back }
+
+    counted-said : Said Counted (Answer ℕ)
+    counted-said = record { says = countedSays; back = answer C.Bits C.Refused C.RanOut; turns = count-back }
+
+    start-said : Said Start (Answer Event)
+    start-said = record { says = startSays; back = plain (λ e. F.Fresh) F.Refused; turns = start-back }
+
+    stepped-said : Said Stepped Outcome
+    stepped-said = record { says = steppedSays; back = step-of; turns = step-back }
+
+    listened-said : Said Listened (Outcome × ℕ)
+    listened-said = record { says = listenedSays; back = listen-of; turns = listen-back }
+
+    number-said : Said Number (Answer Numeral)
+    number-said = record { says = numberSays; back = plain (λ n. N.Is (n .value) (n .after)) N.Refused; turns = number-back }
+
+    head-said : Said Head (Answer Heading)
+    head-said = record { says = headSays; back = plain head H.Refused; turns = head-back }
+
+    checked-said : Said Checked (Answer Summary)
+    checked-said = record { says = checkedSays; back = plain K.Capture K.Refused; turns = capture-back }
+
+    written-said : Said Written (Answer ℕ)
+    written-said = record { says = writtenSays; back = plain W.Bytes W.Refused; turns = written-back }
+
+    line : Said Put (Answer ℕ)
+    line = record { says = putSays; back = plain P.Line P.Refused; turns = put-back }
+
     started : {defined : Answer Event × Receiver} {x y : Started} → defined ≡ (startSays (x .start), x .receiver)
         → defined ≡ (startSays (y .start), y .receiver) → x ≡ y
     started {x = x} {y = y} h h′ =
         let e : startSays (x .start) ≡ startSays (y .start) = ap (λ (p : Answer Event × Receiver). p .0) (sym h ∙ h′) in
-        let start : x .start ≡ y .start = same startSays (plain (λ e. F.Fresh) F.Refused) start-back refl e in
+        let start : x .start ≡ y .start = same start-said refl e in
         let receiver : x .receiver ≡ y .receiver = ap (λ (p : Answer Event × Receiver). p .1) (sym h ∙ h′) in
         λ i. record { receiver = receiver i; start = start i }

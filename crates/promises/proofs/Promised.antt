@@ -3,12 +3,10 @@ use Prim.Native.Nat.{ℕ}
 use mathlib.Core.Path.{_≡_, refl, sym, ap, _∙_}
 use mathlib.Core.Bool.{Bool, true, false, _&&_, not, false≢true}
 use mathlib.Core.List.{List, [], _∷_, _++_}
-use lib.Dec.{ltb}
 use lib.ListN.{length}
 use Rattle.measure.specs.Choose.{choose}
-use Rattle.measure.specs.Lists.{onto}
-use Rattle.measure.specs.Refusals.{Answer, given, refused, refusedAfter, lent}
-use Rattle.promises.specs.Promised.{Test, good, first, Answered, setting, room, Fills}
+use Rattle.measure.specs.Refusals.{lent}
+use Rattle.promises.specs.Promised.{Test, good, first, Answered, room, Fills}
 
 module _ {O : Type 0} {result : O} {refusal : ℕ → ℕ → O} where
   -- no test is left

@@ -1,14 +1,11 @@
 -- Each operation makes its tests in the order of the table, so each line of demand 1 is read off its definition.
-use Prim.Native.Nat.{ℕ}
-use mathlib.Core.Path.{_≡_, refl, sym}
+use mathlib.Core.Path.{refl, sym}
 use mathlib.Core.Bool.{Bool, true, false, _&&_, false≢true}
-use mathlib.Core.List.{List, [], _∷_}
+use mathlib.Core.List.{[], _∷_}
 use denote.Ref.{now}
 use lib.Dec.{leb}
-use lib.IntN.{ℤ}
 use Rattle.measure.specs.Ranges.{padMost, bitsMost, rowBits, rowsMost, entriesMost, sampling, subcell, quiet, settingsFit}
-use Rattle.measure.specs.Lists.{onto}
-use Rattle.measure.specs.Refusals.{given, refused, lent}
+use Rattle.measure.specs.Refusals.{given, lent}
 use Rattle.settings.specs.Answers.{inRange, judgement, quietJudgement}
 use Rattle.sender.specs.Sending.{wave, planWave, rowsOf}
 use Rattle.sender.specs.Answers.{sentMessage, sentPlan, fitting, padded}
@@ -20,20 +17,18 @@ use Rattle.counted.specs.Answers.{countedBits}
 use Rattle.board.specs.Packed.{number, packed}
 use Rattle.board.specs.WellFormed.{wellFormed}
 use Rattle.board.specs.Answers.{begun, stepped, listened}
-use Rattle.board.specs.declared.Receiver.{Receiver}
 use Rattle.capture.specs.Writing.{captureOf}
 use Rattle.capture.specs.Capture.{then}
 use Rattle.capture.specs.Held.{placeAfter}
 use Rattle.capture.specs.Answers.{summary, checked, readBack, written}
-use Rattle.capture.specs.declared.held.CaptureReader.{CaptureReader}
 use Rattle.siengulot.specs.Crossing.{crossed, crossing, flag, judgedThree, judgedFive, summed}
-use Rattle.siengulot.specs.Receivers.{Lent, standing, receiverOf, brought, broughtBy, begunLent, steppedLent, listenedLent}
+use Rattle.siengulot.specs.Receivers.{standing, receiverOf, brought, broughtBy, begunLent, steppedLent, listenedLent}
 use Rattle.siengulot.specs.Receivers.{wellFormedLent}
 use Rattle.promises.specs.Promised.{good, first, Answered, setting, limit, entries, room}
 use Rattle.promises.specs.GoodInput as Good
 use Rattle.promises.specs.FromC.{Demand1FromC}
 use Rattle.promises.specs.Demands.{Demand1}
-use Rattle.promises.proofs.Promised.{done, past, within, same, across, laid}
+use Rattle.promises.proofs.Promised.{done, past, within, across, laid}
 use Rattle.promises.proofs.GoodCaptures.{number-answered, header-answered, capture-answered, read-answered}
 
 pub answered : Demand1

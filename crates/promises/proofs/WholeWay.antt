@@ -1,25 +1,24 @@
 -- Each call's input is good because of what the call before left, so each gives its very result, and these results are
 -- the lists that demand 3 speaks of; the judge's yes is its margins.
-use Prim.Native.Nat.{ℕ, zero, suc, _+_, _*_, _≤_, _<_}
-use mathlib.Core.Path.{_≡_, refl, sym, ap, _∙_}
-use mathlib.Core.Bool.{Bool, true, false, _&&_, not, false≢true}
+use Prim.Native.Nat.{ℕ, zero, suc, _*_, _≤_}
+use mathlib.Core.Path.{_≡_, refl, ap, _∙_}
+use mathlib.Core.Bool.{Bool, true, false, _&&_, not}
 use mathlib.Core.List.{List, [], _∷_}
 use native.Mathlib.Omega.{arith}
 use borrow.Author.Tests.{le-leb, le-ltb, lt-ltb, leb-true, eqb-true, ltb-false, not-false}
-use lib.Dec.{eqb, leb, ltb}
+use lib.Dec.{eqb, leb}
 use lib.ListN.{length, take, drop, length-take, length-drop}
 use lib.Seq.{take-append-seam}
-use Rattle.measure.specs.Choose.{between}
 use Rattle.measure.specs.Ranges.{subcell, sampling, cycleLength, quiet, padMost, bitsMost, rowBits, entriesMost}
 use Rattle.measure.specs.Ranges.{settingsFit}
-use Rattle.measure.specs.Lists.{firstAbove, someAbove, onto}
-use Rattle.measure.specs.Refusals.{Answer, given, refused, refusedAfter}
+use Rattle.measure.specs.Lists.{someAbove, onto}
+use Rattle.measure.specs.Refusals.{given}
 use Rattle.measure.proofs.Both.{both, both-3}
 use Rattle.measure.proofs.Above.{above-none}
 use Rattle.settings.specs.Margins.{quietAccepted}
-use Rattle.settings.specs.Answers.{QuietJudgement, inRange, quietJudgement}
+use Rattle.settings.specs.Answers.{inRange, quietJudgement}
 use Rattle.settings.proofs.Inequalities.{Accepted, QuietAccepted, quiet-keeps, m1-met, m2-met, m3-met, m4-met, m5-met}
-use Rattle.sender.specs.Sending.{Row, planWave, rowsOf}
+use Rattle.sender.specs.Sending.{Row, rowsOf}
 use Rattle.sender.specs.Answers.{fitting, padded}
 use Rattle.sender.proofs.PlanRows.{rows-none, rows-more}
 use Rattle.line.specs.Smooth.{smooth}
@@ -34,13 +33,13 @@ use Rattle.line.proofs.ReadsThere.{reads-most}
 use Rattle.line.proofs.WarpLaws.{warp-by}
 use Rattle.board.specs.Rows.{fresh}
 use Rattle.promises.specs.Levels.{Levels}
-use Rattle.promises.specs.Places.{Link, readsOf, deliveries}
+use Rattle.promises.specs.Places.{Link, readsOf}
 use Rattle.promises.specs.Demand3.{RowsFit, Fitting, settings}
 use Rattle.promises.specs.Promised.{good, quietJudged, Tells}
 use Rattle.promises.specs.GoodInput as Good
-use Rattle.promises.specs.Hearing.{Caller, hearing}
-use Rattle.promises.specs.WholeWay.{SaysYes, YesForEach, BitsFit, leadsOf, AcceptedFits, Way, linkOf, waveOf, warpedOf}
-use Rattle.promises.specs.WholeWay.{front, sending, smoothing, warping, settling, Within, WholeWay, WholeWayHolds}
+use Rattle.promises.specs.Hearing.{hearing}
+use Rattle.promises.specs.WholeWay.{SaysYes, YesForEach, BitsFit, leadsOf, AcceptedFits, linkOf, waveOf, warpedOf}
+use Rattle.promises.specs.WholeWay.{front, sending, smoothing, warping, settling, WholeWayHolds}
 use Rattle.promises.proofs.LevelLists.{most-levels, levels-most, none-above}
 use Rattle.promises.proofs.Sent.{plan-most}
 use Rattle.promises.proofs.Demand3.{timed as timed-reads, whole}

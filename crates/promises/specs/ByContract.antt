@@ -1,8 +1,6 @@
 -- What the contracts say: each is the equation between the definition that the demands speak of and what the call
 -- answers and leaves. A call's arguments stand in their order; primed, what is left behind a `&mut`.
-use Prim.Native.Nat.{ℕ}
 use mathlib.Core.Path.{_≡_}
-use mathlib.Core.List.{List}
 use contract.Lifetimes.{Lfts}
 use denote.Ref.{now}
 use denote.Triple.Entry.{Args, Res}

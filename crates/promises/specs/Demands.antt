@@ -1,5 +1,5 @@
--- The user's demands 1, 2 and 3, in order. Each line speaks of the definition that the operation's own contract cites
--- (OneMeaning). That every call ends is not stated here: the prover shows it of each function by itself.
+-- The user's demands 1, 2 and 3, in order. Each line speaks of the definition that the operation's own contract cites,
+-- as ByContract says of each. That every call ends is not stated: the prover shows it of each function by itself.
 use Prim.Native.Nat.{ℕ}
 use mathlib.Core.Path.{_≡_}
 use mathlib.Core.Bool.{true}
@@ -33,7 +33,9 @@ use Rattle.capture.specs.Answers.{summary, checked, readBack, written}
 use Rattle.capture.specs.RoundTrips.{WrittenReadsBack, ReadWritesBack}
 use Rattle.capture.specs.declared.held.CaptureReader.{CaptureReader}
 use Rattle.promises.specs.GoodInput as Good
-use Rattle.promises.specs.Promised.{Answered, Tells, Fills, judged as judgedSettings, quietJudged, unstarted, room}
+use Rattle.promises.specs.Promised.{Answered, Tells, Fills, judged as judgedSettings, quietJudged, unstarted}
+use Rattle.promises.specs.Promised.{room}
+use Rattle.promises.specs.ByContract.{ByContract}
 use Rattle.promises.specs.FromC.{Demand1FromC}
 use Rattle.promises.specs.CountedReturns.{OperationReturns}
 use Rattle.promises.specs.Places.{Link}
@@ -120,8 +122,9 @@ pub record Demand3Met : Type 0 where
   pub judged : AcceptedFits
   pub whole-way : WholeWayHolds
 
--- the three, the first also of the fifteen entry points for C
+-- what the contracts say, and the three demands, the first also of the fifteen entry points for C
 pub record Demands : Type 0 where
+  pub contracts : ByContract
   pub demand-1 : Demand1
   pub demand-1-from-c : Demand1FromC
   pub demand-2 : Demand2

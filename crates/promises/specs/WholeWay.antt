@@ -13,7 +13,6 @@ use Rattle.sender.specs.Sending.{Row, planWave, rowsOf}
 use Rattle.sender.specs.Answers.{sentPlan}
 use Rattle.line.specs.Smooth.{smooth}
 use Rattle.line.specs.Warp.{warp}
-use Rattle.line.specs.Settle.{settle}
 use Rattle.line.specs.Answers.{smoothed, warped, settled}
 use Rattle.promises.specs.Levels.{Levels}
 use Rattle.promises.specs.Places.{Link, readsOf, deliveries}
