@@ -88,7 +88,8 @@ sized fits bytes place = go (Good.at bytes place) (group-ends further (drop plac
 
 -- the runs from a place on
 runs-answered : (most total place : ℕ) (bytes : List ℕ) → length bytes ≤ most + place
-    → Tells (Good.runs most total place bytes) (Good.runsIn most place bytes) (runsFrom 0 total place (drop place bytes))
+    → Tells (Good.runs most total place bytes) (Good.runsIn most place bytes)
+    (runsFrom 0 total place (drop place bytes))
 unfolding Good.runs Good.runsIn
 runs-answered zero total place bytes h = done (runs-end bytes total place (omega arith))
 runs-answered (suc most) total place bytes h =

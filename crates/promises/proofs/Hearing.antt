@@ -86,7 +86,8 @@ module _ (g : Settings) where
           → listened (receiverOf g s) reads ≡ (refusing (receiverOf g s) 2 place, 0)
           → listen x reads .0 .0 ≡ refused 2 place
 
-    module _ (listen : Listening X) (does : Listens listen) (part : ℕ) (some : 1 ≤ part) (few : part ≤ entriesMost) where
+    module _ (listen : Listening X) (does : Listens listen)
+        (part : ℕ) (some : 1 ≤ part) (few : part ≤ entriesMost) where
       -- calls from any state on hear what the rules do
       abbrev Hear : ℕ → Type 0
       Hear calls = (s : State) (x : X) (place : ℕ) (reads : List ℕ) → Valid g s → Keeps s x → length reads ≤ calls
@@ -188,7 +189,8 @@ module _ (g : Settings) where
             let rest : byLists listen part calls (listen x (take p reads) .0 .1) (place + p + 1) (drop (p + 1) reads)
             ≡ reportsBy (heeding g) t (place + p + 1) (drop (p + 1) reads) =
             more t (listen x (take p reads) .0 .1) (place + p + 1) (drop (p + 1) reads) (stops .valid)
-            (does .brings s t x (take p reads) v kept nothing (length (take p reads)) tt again .1 .1) (omega (arith, length-drop (p + 1) reads)) in
+            (does .brings s t x (take p reads) v kept nothing (length (take p reads)) tt again .1 .1)
+            (omega (arith, length-drop (p + 1) reads)) in
             let left : going ≡ reportsBy (heeding g) t (place + p + 1) (drop (p + 1) reads) = rw answer rest in
             let right : reportsBy (heeding g) s place reads
             ≡ reportsBy (heeding g) t (place + p + 1) (drop (p + 1) reads) =
@@ -248,7 +250,8 @@ module _ (g : Settings) (range : settingsFit (g .k) (g .n) (g .Q) ≡ true) wher
       one-by-one g (Is g) step (rust-steps g) fresh (begun (g .k) (g .n) (g .Q) .1) 0 reads valid
       (begun-fresh (g .k) (g .n) (g .Q) range)
 
-  pub listen-hears : (part : ℕ) (some : 1 ≤ part) (few : part ≤ entriesMost) → Hears g (hearing (listens part some few) g)
+  pub listen-hears : (part : ℕ) (some : 1 ≤ part) (few : part ≤ entriesMost)
+      → Hears g (hearing (listens part some few) g)
   listen-hears part some few reads =
       by-lists g (Is g) listen (rust-listens g) part some few (length reads) fresh (begun (g .k) (g .n) (g .Q) .1) 0
       reads valid (begun-fresh (g .k) (g .n) (g .Q) range) (omega arith)

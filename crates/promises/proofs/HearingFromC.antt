@@ -1,5 +1,5 @@
--- What C holds between calls is a receiver as it crosses, which stands for that receiver again; and a row's bits are read
--- back from its bytes. So a run of calls from C is a run of the operations.
+-- What C holds between calls is a receiver as it crosses, which stands for that receiver again, and a row's bits can be
+-- recovered from its bytes. So a run of calls from C is a run of the operations.
 use Prim.Native.Nat.{ℕ, _≤_, _<_}
 use mathlib.Core.Path.{_≡_, refl, sym, ap}
 use mathlib.Core.Bool.{true}
@@ -42,8 +42,10 @@ module _ (g : Settings) where
       → (crossedEvent (crossed .0) (crossed .1) ≡ given event) × Holds s (crossed .1)
   crosses s room x nothing range whole crossed e = rw (← e) (refl, (room, refl))
   crosses s room x (row bits) range whole crossed e =
-      rw (← e)
-      (ap (λ (l : List ℕ). given (row l)) (row-read bits (g .n) (whole .1) (whole .0) (range .n-most)), (kept bits, refl))
+      rw (← e) (
+        ap (λ (l : List ℕ). given (row l)) (row-read bits (g .n) (whole .1) (whole .0) (range .n-most)),
+        (kept bits, refl),
+      )
   crosses s room x (broken found) range whole crossed e = rw (← e) (refl, (room, refl))
 
   module _ (s : State) (v : Valid g s) (room : List ℕ) where
@@ -65,10 +67,12 @@ module _ (g : Settings) where
   c-steps = record { level = level; other = other }
     where
       level : (s : State) (lent : Lent) (read : ℕ) → Valid g s → Holds s lent → read ≤ 1
-          → (stepFromC lent read .0 ≡ given (next g s read .event)) × Holds (next g s read .state) (stepFromC lent read .1)
+          → (stepFromC lent read .0 ≡ given (next g s read .event))
+          × Holds (next g s read .state) (stepFromC lent read .1)
       level s lent read v (room, is) low =
           rw is
-          (crosses (next g s read .state) room (receiverOf g s) (next g s read .event) (v .range) (whole-next g s read v)
+          (crosses (next g s read .state) room (receiverOf g s) (next g s read .event) (v .range)
+          (whole-next g s read v)
           (steppedLent (keeping (receiverOf g s) room) read)
           (sym (step-crosses s v room read _ (stepped-level g s v read low))))
 
@@ -116,7 +120,8 @@ module _ (g : Settings) (range : settingsFit (g .k) (g .n) (g .Q) ≡ true) (roo
       by-lists g (Holds g) listenFromC (c-listens g) part some few (length reads) fresh (startedFromC g room) 0 reads
       valid (room, started) (omega arith)
 
-pub every-caller : (g : Settings) → settingsFit (g .k) (g .n) (g .Q) ≡ true → (caller : Caller) → Hears g (hearing caller g)
+pub every-caller : (g : Settings) → settingsFit (g .k) (g .n) (g .Q) ≡ true → (caller : Caller)
+    → Hears g (hearing caller g)
 every-caller g range steps = step-hears g range
 every-caller g range (listens part some few) = listen-hears g range part some few
 every-caller g range (stepsFromC room) = c-step-hears g range room

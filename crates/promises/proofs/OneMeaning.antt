@@ -204,7 +204,19 @@ one-meaning = record {
       (λ p. (p .1 .numbers, (p .1 .bytes, (tt, (p .1 .row, (p .0 .event, (p .0 .found, (p .0 .place, tt)))))))) h h′;
   siengulot-listen = λ κs a x y left right h h′.
       crosses (λ (p : (Told × Lent) × ℕ). p .0 .0 .number)
-      (λ p. (p .0 .1 .numbers, (p .0 .1 .bytes, (tt, (p .0 .1 .row, (p .0 .0 .event, (p .0 .0 .found, (p .1, (p .0 .0 .place, tt))))))))) h h′;
+      (λ p. (
+        p .0 .1 .numbers,
+        (
+          p .0 .1 .bytes,
+          (
+            tt,
+            (
+              p .0 .1 .row,
+              (p .0 .0 .event, (p .0 .0 .found, (p .1, (p .0 .0 .place, tt)))),
+            ),
+          ),
+        ),
+      )) h h′;
   siengulot-capture-check = λ κs a x y left right h h′.
       crosses (λ (p : ℕ × ℕ × List ℕ). p .0)
       (λ p. (tt, (p .2, (p .1, tt)))) h h′;
@@ -303,7 +315,8 @@ one-meaning = record {
     sent = record { says = sentSays; back = plain (λ n. S.Wave (record { 0 = n })) S.Refused; turns = send-back }
 
     smooth-said : Said Smoothed (Answer ℕ)
-    smooth-said = record { says = smoothedSays; back = plain (λ n. M.Wave (record { 0 = n })) M.Refused; turns = smooth-back }
+    smooth-said =
+        record { says = smoothedSays; back = plain (λ n. M.Wave (record { 0 = n })) M.Refused; turns = smooth-back }
 
     read : Said Read (Answer ℕ)
     read = record { says = readSays; back = plain (λ n. R.Reads (record { 0 = n })) R.Refused; turns = read-back }
@@ -321,7 +334,8 @@ one-meaning = record {
     listened-said = record { says = listenedSays; back = listen-of; turns = listen-back }
 
     number-said : Said Number (Answer Numeral)
-    number-said = record { says = numberSays; back = plain (λ n. N.Is (n .value) (n .after)) N.Refused; turns = number-back }
+    number-said =
+        record { says = numberSays; back = plain (λ n. N.Is (n .value) (n .after)) N.Refused; turns = number-back }
 
     head-said : Said Head (Answer Heading)
     head-said = record { says = headSays; back = plain head H.Refused; turns = head-back }

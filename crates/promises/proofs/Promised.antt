@@ -73,7 +73,8 @@ unfolding good first
 first-bad [] more e = absurd (false≢true (sym e))
 first-bad (test ∷ tests) more e = go (test .failed) e (first-bad tests more)
   where
-    go : (failed : Bool) → (not failed && good tests) ≡ false → (good tests ≡ false → first (tests ++ more) ≡ first tests)
+    go : (failed : Bool) → (not failed && good tests) ≡ false
+        → (good tests ≡ false → first (tests ++ more) ≡ first tests)
         → choose failed (test .number, test .place) (first (tests ++ more))
         ≡ choose failed (test .number, test .place) (first tests)
     go true e so = refl
@@ -100,7 +101,8 @@ followed {tests = tests} {more = more} {outcome = outcome} {end = end} {denied =
     }
 
 -- good input passes each test, and input that passes each is good
-pub passes : (test : Test) (tests : List Test) → good (test ∷ tests) ≡ true → (test .failed ≡ false) × (good tests ≡ true)
+pub passes : (test : Test) (tests : List Test) → good (test ∷ tests) ≡ true
+    → (test .failed ≡ false) × (good tests ≡ true)
 unfolding good
 passes test tests = go (test .failed)
   where

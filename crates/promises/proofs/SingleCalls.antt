@@ -4,7 +4,8 @@ use mathlib.Core.Bool.{Bool, true, false, _&&_, false≢true}
 use mathlib.Core.List.{[], _∷_}
 use denote.Ref.{now}
 use lib.Dec.{leb}
-use Rattle.measure.specs.Ranges.{padMost, bitsMost, rowBits, rowsMost, entriesMost, sampling, subcell, quiet, settingsFit}
+use Rattle.measure.specs.Ranges.{subcell, sampling, quiet, padMost, bitsMost, rowBits, rowsMost, entriesMost}
+use Rattle.measure.specs.Ranges.{settingsFit}
 use Rattle.measure.specs.Refusals.{given, lent}
 use Rattle.settings.specs.Answers.{inRange, judgement, quietJudgement}
 use Rattle.sender.specs.Sending.{wave, planWave, rowsOf}

@@ -176,7 +176,8 @@ whole-way y within = record {
         (above-none 1 (y .bits)
         (ltb-false _ _ (passes _ _ (passes _ _ (passes _ _ (passes _ _ (within .plan) .1) .1) .1) .0)))
 
-    outer : (subcell (y .a) && subcell (y .b) && rowBits (y .n) && fitting (y .n) (y .leads) (y .trails) (y .bits)) ≡ true
+    outer : (subcell (y .a) && subcell (y .b) && rowBits (y .n) && fitting (y .n) (y .leads) (y .trails) (y .bits))
+        ≡ true
     outer =
         both-3 (subcell (y .a) && subcell (y .b) && rowBits (y .n) && fitting (y .n) (y .leads) (y .trails) (y .bits))
         (padded (y .leads)) (padded (y .trails)) in-range .0
@@ -184,7 +185,8 @@ whole-way y within = record {
     row-bits : rowBits (y .n) ≡ true
     row-bits =
         both-3 (subcell (y .a)) (subcell (y .b)) (rowBits (y .n))
-        (both (subcell (y .a) && subcell (y .b) && rowBits (y .n)) (fitting (y .n) (y .leads) (y .trails) (y .bits)) outer
+        (both (subcell (y .a) && subcell (y .b) && rowBits (y .n)) (fitting (y .n) (y .leads) (y .trails) (y .bits))
+        outer
         .0) .2
 
     lists : (leb 1 (length (y .leads)) ≡ true) × (eqb (length (y .trails)) (length (y .leads)) ≡ true)
@@ -192,7 +194,8 @@ whole-way y within = record {
     lists =
         both-3 (leb 1 (length (y .leads))) (eqb (length (y .trails)) (length (y .leads)))
         (eqb (length (y .bits)) (length (y .leads) * y .n))
-        (both (subcell (y .a) && subcell (y .b) && rowBits (y .n)) (fitting (y .n) (y .leads) (y .trails) (y .bits)) outer
+        (both (subcell (y .a) && subcell (y .b) && rowBits (y .n)) (fitting (y .n) (y .leads) (y .trails) (y .bits))
+        outer
         .1)
 
     plan : Plan x (y .leads) (x .rows)
@@ -222,7 +225,8 @@ whole-way y within = record {
 
     ranges : (sampling (y .k) ≡ true) × (cycleLength (y .w) ≡ true) × (cycleLength (y .r) ≡ true)
     ranges =
-        let three = both-3 (subcell (y .a) && subcell (y .b) && sampling (y .k)) (cycleLength (y .w)) (cycleLength (y .r))
+        let three = both-3 (subcell (y .a) && subcell (y .b) && sampling (y .k)) (cycleLength (y .w))
+        (cycleLength (y .r))
         (judged .0) in
         (both-3 (subcell (y .a)) (subcell (y .b)) (sampling (y .k)) (three .0) .2, three .1, three .2)
 
@@ -248,7 +252,9 @@ whole-way y within = record {
         ∙ answered .smooth wave (y .forSmooth) .gives
         (passing _ _ (le-ltb _ _ few)
         (passing _ _ (none-bad 1 wave levels)
-        (passing _ _ (le-ltb (length (y .forSmooth)) (length (smooth wave)) (omega (arith, smooth-size, within .smooth-room))) none-left)))
+        (passing _ _
+        (le-ltb (length (y .forSmooth)) (length (smooth wave)) (omega (arith, smooth-size, within .smooth-room)))
+        none-left)))
 
     smooth-levels : AtMost 2 (smooth wave)
     smooth-levels = smooth-most 1 wave levels
@@ -269,7 +275,8 @@ whole-way y within = record {
         rw (warp-by (y .w) (y .r) (y .p) (smooth wave))
         (reads-most (even-clocks (y .w) (y .r) (y .p) (timed-reads x fits) (within .phase)) (smooth wave) smooth-levels)
 
-    settles : settling y ≡ (given (length (settle reads (y .choices))), onto (settle reads (y .choices)) (y .forSettled))
+    settles : settling y
+        ≡ (given (length (settle reads (y .choices))), onto (settle reads (y .choices)) (y .forSettled))
     settles =
         ap (λ (l : List ℕ). settled l (y .choices) (y .forSettled)) (ap front warps ∙ front-is reads (y .forReads))
         ∙ answered .settle reads (y .choices) (y .forSettled) .gives

@@ -135,14 +135,17 @@ pub record ByContract : Type 0 where
       λ κs (a, (b, (k, (w, (r, (margins, (accepted, _))))))) x (_, (_, (_, (_, (_, (margins′, (accepted′, _))))))).
       judgedThree (judgement a b k w r) (now margins) ≡ (x, accepted′, margins′)
   pub siengulot-judge-quiet : Says Siengulot.siengulot_judge_quiet.ended Siengulot.siengulot_judge_quiet.Reads.Post
-      λ κs (a, (b, (k, (w, (r, (Q, (p1, (margins, (accepted, _))))))))) x (_, (_, (_, (_, (_, (_, (_, (margins′, (accepted′, _))))))))).
+      λ κs (a, (b, (k, (w, (r, (Q, (p1, (margins, (accepted, _))))))))) x
+      (_, (_, (_, (_, (_, (_, (_, (margins′, (accepted′, _))))))))).
       judgedFive (quietJudgement a b k w r Q p1) (now margins) ≡ (x, accepted′, margins′)
   pub siengulot-send : Says Siengulot.siengulot_send.ended Siengulot.siengulot_send.Reads.Post
-      λ κs (a, (b, (p1, (p2, (bits, (out, (place, (count, _)))))))) x (_, (_, (_, (_, (_, (out′, (place′, (count′, _)))))))).
+      λ κs (a, (b, (p1, (p2, (bits, (out, (place, (count, _)))))))) x
+      (_, (_, (_, (_, (_, (out′, (place′, (count′, _)))))))).
       crossing crossed (sentMessage a b p1 p2 (now bits) (now out))
       ≡ (record { number = x; place = place′; count = count′ }, out′)
   pub siengulot-plan : Says Siengulot.siengulot_plan.ended Siengulot.siengulot_plan.Reads.Post
-      λ κs (a, (b, (n, (leads, (trails, (bits, (out, (place, (count, _))))))))) x (_, (_, (_, (_, (_, (_, (out′, (place′, (count′, _))))))))).
+      λ κs (a, (b, (n, (leads, (trails, (bits, (out, (place, (count, _))))))))) x
+      (_, (_, (_, (_, (_, (_, (out′, (place′, (count′, _))))))))).
       crossing crossed (sentPlan a b n (now leads) (now trails) (now bits) (now out))
       ≡ (record { number = x; place = place′; count = count′ }, out′)
   pub siengulot-smooth : Says Siengulot.siengulot_smooth.ended Siengulot.siengulot_smooth.Reads.Post
@@ -167,14 +170,16 @@ pub record ByContract : Type 0 where
       λ κs (numbers, (bytes, _)) x _.
       wellFormedLent (now numbers) (now bytes) ≡ x
   pub siengulot-step : Says Siengulot.siengulot_step.ended Siengulot.siengulot_step.Reads.Post
-      λ κs (numbers, (bytes, (read, (room, (event, (found, (place, _))))))) x (numbers′, (bytes′, (_, (room′, (event′, (found′, (place′, _))))))).
+      λ κs (numbers, (bytes, (read, (room, (event, (found, (place, _))))))) x
+      (numbers′, (bytes′, (_, (room′, (event′, (found′, (place′, _))))))).
       steppedLent (record { numbers = now numbers; bytes = now bytes; row = now room }) read
       ≡ (
         record { number = x; place = place′; event = event′; found = found′ },
         record { numbers = numbers′; bytes = bytes′; row = room′ },
       )
   pub siengulot-listen : Says Siengulot.siengulot_listen.ended Siengulot.siengulot_listen.Reads.Post
-      λ κs (numbers, (bytes, (reads, (room, (event, (found, (used, (place, _)))))))) x (numbers′, (bytes′, (_, (room′, (event′, (found′, (used′, (place′, _)))))))).
+      λ κs (numbers, (bytes, (reads, (room, (event, (found, (used, (place, _)))))))) x
+      (numbers′, (bytes′, (_, (room′, (event′, (found′, (used′, (place′, _)))))))).
       listenedLent (record { numbers = now numbers; bytes = now bytes; row = now room }) (now reads)
       ≡ (
         (
@@ -183,13 +188,15 @@ pub record ByContract : Type 0 where
         ),
         used′,
       )
-  pub siengulot-capture-check : Says Siengulot.siengulot_capture_check.ended Siengulot.siengulot_capture_check.Reads.Post
+  pub siengulot-capture-check :
+      Says Siengulot.siengulot_capture_check.ended Siengulot.siengulot_capture_check.Reads.Post
       λ κs (bytes, (summary, (place, _))) x (_, (summary′, (place′, _))).
       summed (now summary) (checked (now bytes)) ≡ (x, place′, summary′)
   pub siengulot-capture-read : Says Siengulot.siengulot_capture_read.ended Siengulot.siengulot_capture_read.Reads.Post
       λ κs (bytes, (out, (summary, (place, _)))) x (_, (out′, (summary′, (place′, _)))).
       crossing (summed (now summary)) (readBack (now bytes) (now out)) ≡ ((x, place′, summary′), out′)
-  pub siengulot-capture-write : Says Siengulot.siengulot_capture_write.ended Siengulot.siengulot_capture_write.Reads.Post
+  pub siengulot-capture-write :
+      Says Siengulot.siengulot_capture_write.ended Siengulot.siengulot_capture_write.Reads.Post
       λ κs (k, (n, (Q, (reads, (out, (place, (count, _))))))) x (_, (_, (_, (_, (out′, (place′, (count′, _))))))).
       crossing crossed (written k n Q (now reads) (now out))
       ≡ (record { number = x; place = place′; count = count′ }, out′)

@@ -43,9 +43,9 @@ use Rattle.promises.specs.Demand3.{Fitting, settings, Demand3, Demand3Ho
 use Rattle.promises.specs.Hearing.{Caller, hearing, Hears}
 use Rattle.promises.specs.WholeWay.{AcceptedFits, WholeWayHolds}
 
--- Demand 1: whatever comes in is answered. Good input gets its very result, with every lent entry past it as it was.
--- Bad input is refused by the first test of 01's table that it fails, with its number and its place, and leaves all that
--- was lent. GoodInput lists the tests.
+-- Demand 1: whatever comes in is answered. Good input gets its very result, and every lent entry past it is as it was.
+-- Bad input is refused by the first test of 01's table that it fails, with its number and its place, and all that was
+-- lent is as it was. GoodInput lists the tests.
 pub record Demand1 : Type 0 where
   pub judge : (a b k w r : ℕ) → Tells (Good.judge a b k w r) (judgedSettings a b k w r) (judgement a b k w r)
   pub judge-quiet : (a b k w r Q p1 : ℕ)
@@ -75,12 +75,13 @@ pub record Demand1 : Type 0 where
       → let told = reportsOf (settingsOf x) (stateOf x) 0 (levelsOf reads) in
       Answered (Good.listen x reads) (listened x reads) (toEvent (settingsOf x) (stateOf x) (levelsOf reads) told)
       (λ number place. (refusing x number place, 0))
-  -- the held reader: at the first byte of what is lent, the number at its place, and past that number
+  -- the held reader: at the first byte of what is lent, the number at its place `at`, and past that number
   pub held-new : (bytes : RefT (List ℕ)) → begunReader bytes ≡ record { src = bytes; at = 0 }
   pub held-next : (x : CaptureReader)
       → let bytes = now (x .src) in
       Tells (Good.number bytes (x .at))
-      (record { value = Good.valueOf (Good.at bytes (x .at)); after = Good.next bytes (x .at) }) (numberAt bytes (x .at))
+      (record { value = Good.valueOf (Good.at bytes (x .at)); after = Good.next bytes (x .at) })
+      (numberAt bytes (x .at))
   pub held-advance : (x : CaptureReader)
       → let bytes = now (x .src) in
       Answered (Good.number bytes (x .at)) (advanced x) (record { src = x .src; at = Good.next bytes (x .at) })
@@ -109,7 +110,7 @@ pub record Demand2 : Type 0 where
   pub reads-back : WrittenReadsBack
   pub writes-back : ReadWritesBack
 
--- Demand 3: each row of a plan is delivered once and in order; and after any stretch of reads is replaced by any others,
+-- Demand 3: each row of a plan is delivered once and in order; and where a stretch of reads is replaced by any others,
 -- each row again from the next lead quiet that is heard. It holds of the rules, with its grounds, and of every caller:
 -- of `step` with one read a call, of `listen` with a list a call, and of both from C.
 pub record Demand3Met : Type 0 where

@@ -6,8 +6,8 @@ use mathlib.Core.List.{List, [], _∷_, _++_}
 use lib.Dec.{eqb, leb}
 use lib.ListN.{length, drop}
 use Rattle.measure.specs.Choose.{choose, between}
-use Rattle.measure.specs.Ranges.{subcell, sampling, cycleLength, quiet, padMost, bitsMost, rowBits, rowsMost, entriesMost}
-use Rattle.measure.specs.Ranges.{captureMost, settingsFit}
+use Rattle.measure.specs.Ranges.{subcell, sampling, cycleLength, quiet, padMost, bitsMost, rowBits, rowsMost}
+use Rattle.measure.specs.Ranges.{entriesMost, captureMost, settingsFit}
 use Rattle.measure.specs.Lists.{firstAbove, someAbove}
 use Rattle.sender.specs.Sending.{wave, planWave, rowsOf}
 use Rattle.sender.specs.Answers.{fitting, padded}

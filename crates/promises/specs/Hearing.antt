@@ -85,7 +85,8 @@ listenFromC lent reads = (
 -- a receiver that C starts, beside the bytes that it lends for a row
 abbrev pub startedFromC : Settings → List ℕ → Lent
 startedFromC g room =
-    let crossed = begunLent (begun (g .k) (g .n) (g .Q)) in record { numbers = crossed .1; bytes = crossed .2; row = room }
+    let started = begunLent (begun (g .k) (g .n) (g .Q)) in
+    record { numbers = started .1; bytes = started .2; row = room }
 
 -- the four ways to hear a stream: by `step`, by `listen` with lists of at most so many reads, and the same from C,
 -- which lends bytes for a row

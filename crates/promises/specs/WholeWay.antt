@@ -43,8 +43,8 @@ abbrev pub leadsOf : List Row → List ℕ
 leadsOf [] = []
 leadsOf (row ∷ rows) = row .lead ∷ leadsOf rows
 
--- The judge joined to demand 3: a yes for the lead of each row, at least one, is what demand 3 asks of the settings. The
--- rest is asked of the phase, the bits and the choices.
+-- The judge joined to demand 3: a yes for the lead of each row, at least one, is what demand 3 asks of the settings.
+-- The rest is asked of the phase, the bits and the choices.
 abbrev pub AcceptedFits : Type 0
 AcceptedFits = (x : Link) → 1 ≤ length (x .rows) → YesForEach x (leadsOf (x .rows)) → x .p < x .w → 1 ≤ x .n
     → BitsFit x (x .rows) → Levels (x .choices) → Fitting x
