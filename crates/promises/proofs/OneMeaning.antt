@@ -145,87 +145,165 @@ listen-of (o, used) =
 pub one-meaning : OneMeaning
 unfolding plain answer judged quiet-judged step-of listen-of
 one-meaning = record {
-  number = λ κs a x y left right h h′. (h ∙ sym h′, refl);
-  place = λ κs a x y left right h h′. (h ∙ sym h′, refl);
-  between = λ κs a x y left right h h′. (h ∙ sym h′, refl);
-  settings-fit = λ κs a x y left right h h′. (h ∙ sym h′, refl);
-  first-above = λ κs a x y left right h h′. (h ∙ sym h′, refl);
-  judge = λ κs a x y left right h h′. (same judge-said h h′, refl);
-  judge-quiet = λ κs a x y left right h h′. (same quiet-said h h′, refl);
-  send = λ κs a x y left right h h′. leaves sent (λ l. (tt, (tt, (tt, (tt, (tt, (l, tt))))))) h h′;
-  send-plan = λ κs a x y left right h h′. leaves sent (λ l. (tt, (tt, (tt, (tt, (tt, (tt, (l, tt)))))))) h h′;
-  smooth = λ κs a x y left right h h′. leaves smooth-said (λ l. (tt, (l, tt))) h h′;
-  warp = λ κs a x y left right h h′. leaves read (λ l. (tt, (tt, (tt, (tt, (l, tt)))))) h h′;
-  settle = λ κs a x y left right h h′. leaves read (λ l. (tt, (tt, (l, tt)))) h h′;
-  count-bits = λ κs a x y left right h h′. leaves counted-said (λ l. (tt, (tt, (tt, (tt, (l, tt)))))) h h′;
-  fresh = λ κs a x y left right h h′. (started h h′, refl);
-  well-formed = λ κs a x y left right h h′. (h ∙ sym h′, refl);
-  step = λ κs a x y left right h h′. (same stepped-said h h′, refl);
-  listen = λ κs a x y left right h h′. (same listened-said h h′, refl);
-  read-header = λ κs a x y left right h h′. (same head-said h h′, refl);
-  check = λ κs a x y left right h h′. (same checked-said h h′, refl);
-  read-capture = λ κs a x y left right h h′. leaves checked-said (λ l. (tt, (l, tt))) h h′;
-  write-capture = λ κs a x y left right h h′. leaves written-said (λ l. (tt, (tt, (tt, (tt, (l, tt)))))) h h′;
-  put-heading = λ κs a x y left right h h′. leaves line (λ l. (l, tt)) h h′;
-  put-row = λ κs a x y left right h h′. leaves line (λ l. (tt, (tt, (tt, (l, tt))))) h h′;
-  put-broken = λ κs a x y left right h h′. leaves line (λ l. (tt, (tt, (l, tt)))) h h′;
-  put-end = λ κs a x y left right h h′. leaves line (λ l. (tt, (tt, (l, tt)))) h h′;
-  put-refused = λ κs a x y left right h h′. leaves line (λ l. (tt, (l, tt))) h h′;
-  siengulot-judge = λ κs a x y left right h h′.
-      crosses (λ (p : ℕ × ℕ × List ℤ). p .0)
-      (λ p. (tt, (tt, (tt, (tt, (tt, (p .2, (p .1, tt)))))))) h h′;
-  siengulot-judge-quiet = λ κs a x y left right h h′.
-      crosses (λ (p : ℕ × ℕ × List ℤ). p .0)
-      (λ p. (tt, (tt, (tt, (tt, (tt, (tt, (tt, (p .2, (p .1, tt)))))))))) h h′;
-  siengulot-send = λ κs a x y left right h h′.
-      crosses (λ (p : Crossed × List ℕ). p .0 .number)
-      (λ p. (tt, (tt, (tt, (tt, (tt, (p .1, (p .0 .place, (p .0 .count, tt))))))))) h h′;
-  siengulot-plan = λ κs a x y left right h h′.
-      crosses (λ (p : Crossed × List ℕ). p .0 .number)
-      (λ p. (tt, (tt, (tt, (tt, (tt, (tt, (p .1, (p .0 .place, (p .0 .count, tt)))))))))) h h′;
-  siengulot-smooth = λ κs a x y left right h h′.
-      crosses (λ (p : Crossed × List ℕ). p .0 .number)
-      (λ p. (tt, (p .1, (p .0 .place, (p .0 .count, tt))))) h h′;
-  siengulot-warp = λ κs a x y left right h h′.
-      crosses (λ (p : Crossed × List ℕ). p .0 .number)
-      (λ p. (tt, (tt, (tt, (tt, (p .1, (p .0 .place, (p .0 .count, tt)))))))) h h′;
-  siengulot-settle = λ κs a x y left right h h′.
-      crosses (λ (p : Crossed × List ℕ). p .0 .number)
-      (λ p. (tt, (tt, (p .1, (p .0 .place, (p .0 .count, tt)))))) h h′;
-  siengulot-counted = λ κs a x y left right h h′.
-      crosses (λ (p : Crossed × List ℕ). p .0 .number)
-      (λ p. (tt, (tt, (tt, (tt, (p .1, (p .0 .place, (p .0 .count, tt)))))))) h h′;
-  siengulot-fresh = λ κs a x y left right h h′.
-      crosses (λ (p : ℕ × List ℕ × List ℕ). p .0)
-      (λ p. (tt, (tt, (tt, (p .1, (p .2, tt)))))) h h′;
-  siengulot-well-formed = λ κs a x y left right h h′. (sym h ∙ h′, refl);
-  siengulot-step = λ κs a x y left right h h′.
-      crosses (λ (p : Told × Lent). p .0 .number)
-      (λ p. (p .1 .numbers, (p .1 .bytes, (tt, (p .1 .row, (p .0 .event, (p .0 .found, (p .0 .place, tt)))))))) h h′;
-  siengulot-listen = λ κs a x y left right h h′.
-      crosses (λ (p : (Told × Lent) × ℕ). p .0 .0 .number)
-      (λ p. (
-        p .0 .1 .numbers,
-        (
-          p .0 .1 .bytes,
+  number = record { always = λ κs a. tt; once = λ κs a x y left right h h′. (h ∙ sym h′, refl) };
+  place = record { always = λ κs a. tt; once = λ κs a x y left right h h′. (h ∙ sym h′, refl) };
+  between = record { always = λ κs a. tt; once = λ κs a x y left right h h′. (h ∙ sym h′, refl) };
+  settings-fit = record { always = λ κs a. tt; once = λ κs a x y left right h h′. (h ∙ sym h′, refl) };
+  first-above = record { always = λ κs a. tt; once = λ κs a x y left right h h′. (h ∙ sym h′, refl) };
+  judge = record { always = λ κs a. tt; once = λ κs a x y left right h h′. (same judge-said h h′, refl) };
+  judge-quiet = record { always = λ κs a. tt; once = λ κs a x y left right h h′. (same quiet-said h h′, refl) };
+  send = record {
+    always = λ κs a. tt;
+    once = λ κs a x y left right h h′. leaves sent (λ l. (tt, (tt, (tt, (tt, (tt, (l, tt))))))) h h′;
+  };
+  send-plan = record {
+    always = λ κs a. tt;
+    once = λ κs a x y left right h h′. leaves sent (λ l. (tt, (tt, (tt, (tt, (tt, (tt, (l, tt)))))))) h h′;
+  };
+  smooth = record {
+    always = λ κs a. tt;
+    once = λ κs a x y left right h h′. leaves smooth-said (λ l. (tt, (l, tt))) h h′;
+  };
+  warp = record {
+    always = λ κs a. tt;
+    once = λ κs a x y left right h h′. leaves read (λ l. (tt, (tt, (tt, (tt, (l, tt)))))) h h′;
+  };
+  settle = record {
+    always = λ κs a. tt;
+    once = λ κs a x y left right h h′. leaves read (λ l. (tt, (tt, (l, tt)))) h h′;
+  };
+  count-bits = record {
+    always = λ κs a. tt;
+    once = λ κs a x y left right h h′. leaves counted-said (λ l. (tt, (tt, (tt, (tt, (l, tt)))))) h h′;
+  };
+  fresh = record { always = λ κs a. tt; once = λ κs a x y left right h h′. (started h h′, refl) };
+  well-formed = record { always = λ κs a. tt; once = λ κs a x y left right h h′. (h ∙ sym h′, refl) };
+  step = record { always = λ κs a. tt; once = λ κs a x y left right h h′. (same stepped-said h h′, refl) };
+  listen = record { always = λ κs a. tt; once = λ κs a x y left right h h′. (same listened-said h h′, refl) };
+  read-header = record { always = λ κs a. tt; once = λ κs a x y left right h h′. (same head-said h h′, refl) };
+  check = record { always = λ κs a. tt; once = λ κs a x y left right h h′. (same checked-said h h′, refl) };
+  read-capture = record {
+    always = λ κs a. tt;
+    once = λ κs a x y left right h h′. leaves checked-said (λ l. (tt, (l, tt))) h h′;
+  };
+  write-capture = record {
+    always = λ κs a. tt;
+    once = λ κs a x y left right h h′. leaves written-said (λ l. (tt, (tt, (tt, (tt, (l, tt)))))) h h′;
+  };
+  put-heading = record { always = λ κs a. tt; once = λ κs a x y left right h h′. leaves line (λ l. (l, tt)) h h′ };
+  put-row = record {
+    always = λ κs a. tt;
+    once = λ κs a x y left right h h′. leaves line (λ l. (tt, (tt, (tt, (l, tt))))) h h′;
+  };
+  put-broken = record {
+    always = λ κs a. tt;
+    once = λ κs a x y left right h h′. leaves line (λ l. (tt, (tt, (l, tt)))) h h′;
+  };
+  put-end = record {
+    always = λ κs a. tt;
+    once = λ κs a x y left right h h′. leaves line (λ l. (tt, (tt, (l, tt)))) h h′;
+  };
+  put-refused = record {
+    always = λ κs a. tt;
+    once = λ κs a x y left right h h′. leaves line (λ l. (tt, (l, tt))) h h′;
+  };
+  siengulot-judge = record {
+    always = λ κs a. tt;
+    once = λ κs a x y left right h h′.
+        crosses (λ (p : ℕ × ℕ × List ℤ). p .0)
+        (λ p. (tt, (tt, (tt, (tt, (tt, (p .2, (p .1, tt)))))))) h h′;
+  };
+  siengulot-judge-quiet = record {
+    always = λ κs a. tt;
+    once = λ κs a x y left right h h′.
+        crosses (λ (p : ℕ × ℕ × List ℤ). p .0)
+        (λ p. (tt, (tt, (tt, (tt, (tt, (tt, (tt, (p .2, (p .1, tt)))))))))) h h′;
+  };
+  siengulot-send = record {
+    always = λ κs a. tt;
+    once = λ κs a x y left right h h′.
+        crosses (λ (p : Crossed × List ℕ). p .0 .number)
+        (λ p. (tt, (tt, (tt, (tt, (tt, (p .1, (p .0 .place, (p .0 .count, tt))))))))) h h′;
+  };
+  siengulot-plan = record {
+    always = λ κs a. tt;
+    once = λ κs a x y left right h h′.
+        crosses (λ (p : Crossed × List ℕ). p .0 .number)
+        (λ p. (tt, (tt, (tt, (tt, (tt, (tt, (p .1, (p .0 .place, (p .0 .count, tt)))))))))) h h′;
+  };
+  siengulot-smooth = record {
+    always = λ κs a. tt;
+    once = λ κs a x y left right h h′.
+        crosses (λ (p : Crossed × List ℕ). p .0 .number)
+        (λ p. (tt, (p .1, (p .0 .place, (p .0 .count, tt))))) h h′;
+  };
+  siengulot-warp = record {
+    always = λ κs a. tt;
+    once = λ κs a x y left right h h′.
+        crosses (λ (p : Crossed × List ℕ). p .0 .number)
+        (λ p. (tt, (tt, (tt, (tt, (p .1, (p .0 .place, (p .0 .count, tt)))))))) h h′;
+  };
+  siengulot-settle = record {
+    always = λ κs a. tt;
+    once = λ κs a x y left right h h′.
+        crosses (λ (p : Crossed × List ℕ). p .0 .number)
+        (λ p. (tt, (tt, (p .1, (p .0 .place, (p .0 .count, tt)))))) h h′;
+  };
+  siengulot-counted = record {
+    always = λ κs a. tt;
+    once = λ κs a x y left right h h′.
+        crosses (λ (p : Crossed × List ℕ). p .0 .number)
+        (λ p. (tt, (tt, (tt, (tt, (p .1, (p .0 .place, (p .0 .count, tt)))))))) h h′;
+  };
+  siengulot-fresh = record {
+    always = λ κs a. tt;
+    once = λ κs a x y left right h h′.
+        crosses (λ (p : ℕ × List ℕ × List ℕ). p .0)
+        (λ p. (tt, (tt, (tt, (p .1, (p .2, tt)))))) h h′;
+  };
+  siengulot-well-formed = record { always = λ κs a. tt; once = λ κs a x y left right h h′. (sym h ∙ h′, refl) };
+  siengulot-step = record {
+    always = λ κs a. tt;
+    once = λ κs a x y left right h h′.
+        crosses (λ (p : Told × Lent). p .0 .number)
+        (λ p. (p .1 .numbers, (p .1 .bytes, (tt, (p .1 .row, (p .0 .event, (p .0 .found, (p .0 .place, tt)))))))) h h′;
+  };
+  siengulot-listen = record {
+    always = λ κs a. tt;
+    once = λ κs a x y left right h h′.
+        crosses (λ (p : (Told × Lent) × ℕ). p .0 .0 .number)
+        (λ p. (
+          p .0 .1 .numbers,
           (
-            tt,
+            p .0 .1 .bytes,
             (
-              p .0 .1 .row,
-              (p .0 .0 .event, (p .0 .0 .found, (p .1, (p .0 .0 .place, tt)))),
+              tt,
+              (
+                p .0 .1 .row,
+                (p .0 .0 .event, (p .0 .0 .found, (p .1, (p .0 .0 .place, tt)))),
+              ),
             ),
           ),
-        ),
-      )) h h′;
-  siengulot-capture-check = λ κs a x y left right h h′.
-      crosses (λ (p : ℕ × ℕ × List ℕ). p .0)
-      (λ p. (tt, (p .2, (p .1, tt)))) h h′;
-  siengulot-capture-read = λ κs a x y left right h h′.
-      crosses (λ (p : (ℕ × ℕ × List ℕ) × List ℕ). p .0 .0)
-      (λ p. (tt, (p .1, (p .0 .2, (p .0 .1, tt))))) h h′;
-  siengulot-capture-write = λ κs a x y left right h h′.
-      crosses (λ (p : Crossed × List ℕ). p .0 .number)
-      (λ p. (tt, (tt, (tt, (tt, (p .1, (p .0 .place, (p .0 .count, tt)))))))) h h′;
+        )) h h′;
+  };
+  siengulot-capture-check = record {
+    always = λ κs a. tt;
+    once = λ κs a x y left right h h′.
+        crosses (λ (p : ℕ × ℕ × List ℕ). p .0)
+        (λ p. (tt, (p .2, (p .1, tt)))) h h′;
+  };
+  siengulot-capture-read = record {
+    always = λ κs a. tt;
+    once = λ κs a x y left right h h′.
+        crosses (λ (p : (ℕ × ℕ × List ℕ) × List ℕ). p .0 .0)
+        (λ p. (tt, (p .1, (p .0 .2, (p .0 .1, tt))))) h h′;
+  };
+  siengulot-capture-write = record {
+    always = λ κs a. tt;
+    once = λ κs a x y left right h h′.
+        crosses (λ (p : Crossed × List ℕ). p .0 .number)
+        (λ p. (tt, (tt, (tt, (tt, (p .1, (p .0 .place, (p .0 .count, tt)))))))) h h′;
+  };
   held-new = λ bytes x y h h′. h ∙ sym h′;
   held-place = λ reader x y h h′. h ∙ sym h′;
   held-next = λ bytes at x y h h′. same number-said h h′;

@@ -1,6 +1,6 @@
 -- 01, "Holding the promises to one meaning": no contract leaves room for two results. Each line is about the contract
--- itself: `Post` is a function's whole `ensures` as its crate's check reads it, and `ended` its parameters, which the
--- crate passes on. The gate fails for a public function that no line here names (.ci/one-meaning).
+-- itself, as the function's crate passes it on: `Post` is its whole `ensures`, `Asked` its `requires`, and `ended` its
+-- parameters. The gate fails for a public function that no line here names (.ci/one-meaning).
 use mathlib.Core.Path.{_≡_}
 use mathlib.Core.List.{List}
 use Prim.Native.Nat.{ℕ}
@@ -23,72 +23,92 @@ use Rattle.capture.proofs as Capture
 use Rattle.page.proofs as Page
 use Rattle.siengulot.proofs as Siengulot
 
+-- what a contract asks of a call's arguments
+abbrev pub Asking : Ended → Type 1
+Asking function = (κs : Lfts (function .signature .lifetimes)) → Args (function .signature) κs → Type 0
+
 -- what a contract says of a call: of its arguments, its result, and what is left when it returns
 abbrev pub Clause : Ended → Type 1
 Clause function =
     (κs : Lfts (function .signature .lifetimes)) → Args (function .signature) κs → Res (function .signature) κs
     → AtExit function κs → Type 0
 
--- Two ends of one call that both satisfy it are the same: the results are equal, and so is what is left behind each
--- `&mut` that was passed.
-abbrev pub One : (function : Ended) → Clause function → Type 0
-One function clause =
-    (κs : Lfts (function .signature .lifetimes)) (a : Args (function .signature) κs)
-    (x y : Res (function .signature) κs) (left right : Lasts function κs a)
-    → clause κs a x (atExit function κs a left) → clause κs a y (atExit function κs a right)
-    → (x ≡ y) × (left ≡ right)
+-- One meaning, for all input: nothing is asked of the caller; and two ends of one call that both satisfy the contract
+-- are the same, so the results are equal, and so is what is left behind each `&mut` that was passed.
+pub record One (function : Ended) (asked : Asking function) (clause : Clause function) : Type 0 where
+  pub always : (κs : Lfts (function .signature .lifetimes)) (a : Args (function .signature) κs) → asked κs a
+  pub once : (κs : Lfts (function .signature .lifetimes)) (a : Args (function .signature) κs)
+      (x y : Res (function .signature) κs) (left right : Lasts function κs a)
+      → clause κs a x (atExit function κs a left) → clause κs a y (atExit function κs a right)
+      → (x ≡ y) × (left ≡ right)
 
 pub record OneMeaning : Type 0 where
   -- measure
-  pub number : One Measure.number.ended Measure.number.Reads.Post
-  pub place : One Measure.place.ended Measure.place.Reads.Post
-  pub between : One Measure.between.ended Measure.between.Reads.Post
-  pub settings-fit : One Measure.settings_fit.ended Measure.settings_fit.Reads.Post
-  pub first-above : One Measure.first_above.ended Measure.first_above.Reads.Post
+  pub number : One Measure.number.ended Measure.number.Reads.Asked Measure.number.Reads.Post
+  pub place : One Measure.place.ended Measure.place.Reads.Asked Measure.place.Reads.Post
+  pub between : One Measure.between.ended Measure.between.Reads.Asked Measure.between.Reads.Post
+  pub settings-fit : One Measure.settings_fit.ended Measure.settings_fit.Reads.Asked Measure.settings_fit.Reads.Post
+  pub first-above : One Measure.first_above.ended Measure.first_above.Reads.Asked Measure.first_above.Reads.Post
   -- settings
-  pub judge : One Settings.judge.ended Settings.judge.Reads.Post
-  pub judge-quiet : One Settings.judge_quiet.ended Settings.judge_quiet.Reads.Post
+  pub judge : One Settings.judge.ended Settings.judge.Reads.Asked Settings.judge.Reads.Post
+  pub judge-quiet : One Settings.judge_quiet.ended Settings.judge_quiet.Reads.Asked Settings.judge_quiet.Reads.Post
   -- sender
-  pub send : One Sender.send.ended Sender.send.Reads.Post
-  pub send-plan : One Sender.send_plan.ended Sender.send_plan.Reads.Post
+  pub send : One Sender.send.ended Sender.send.Reads.Asked Sender.send.Reads.Post
+  pub send-plan : One Sender.send_plan.ended Sender.send_plan.Reads.Asked Sender.send_plan.Reads.Post
   -- line
-  pub smooth : One Line.smooth.ended Line.smooth.Reads.Post
-  pub warp : One Line.warp.ended Line.warp.Reads.Post
-  pub settle : One Line.settle.ended Line.settle.Reads.Post
+  pub smooth : One Line.smooth.ended Line.smooth.Reads.Asked Line.smooth.Reads.Post
+  pub warp : One Line.warp.ended Line.warp.Reads.Asked Line.warp.Reads.Post
+  pub settle : One Line.settle.ended Line.settle.Reads.Asked Line.settle.Reads.Post
   -- counted
-  pub count-bits : One Counted.count_bits.ended Counted.count_bits.Reads.Post
+  pub count-bits : One Counted.count_bits.ended Counted.count_bits.Reads.Asked Counted.count_bits.Reads.Post
   -- board
-  pub fresh : One Board.Receiver.fresh.ended Board.Receiver.fresh.Reads.Post
-  pub well-formed : One Board.Receiver.well_formed.ended Board.Receiver.well_formed.Reads.Post
-  pub step : One Board.Receiver.step.ended Board.Receiver.step.Reads.Post
-  pub listen : One Board.Receiver.listen.ended Board.Receiver.listen.Reads.Post
+  pub fresh : One Board.Receiver.fresh.ended Board.Receiver.fresh.Reads.Asked Board.Receiver.fresh.Reads.Post
+  pub well-formed :
+      One Board.Receiver.well_formed.ended Board.Receiver.well_formed.Reads.Asked Board.Receiver.well_formed.Reads.Post
+  pub step : One Board.Receiver.step.ended Board.Receiver.step.Reads.Asked Board.Receiver.step.Reads.Post
+  pub listen : One Board.Receiver.listen.ended Board.Receiver.listen.Reads.Asked Board.Receiver.listen.Reads.Post
   -- capture
-  pub read-header : One Capture.read_header.ended Capture.read_header.Reads.Post
-  pub check : One Capture.check.ended Capture.check.Reads.Post
-  pub read-capture : One Capture.read_capture.ended Capture.read_capture.Reads.Post
-  pub write-capture : One Capture.write_capture.ended Capture.write_capture.Reads.Post
+  pub read-header : One Capture.read_header.ended Capture.read_header.Reads.Asked Capture.read_header.Reads.Post
+  pub check : One Capture.check.ended Capture.check.Reads.Asked Capture.check.Reads.Post
+  pub read-capture : One Capture.read_capture.ended Capture.read_capture.Reads.Asked Capture.read_capture.Reads.Post
+  pub write-capture : One Capture.write_capture.ended Capture.write_capture.Reads.Asked Capture.write_capture.Reads.Post
   -- page
-  pub put-heading : One Page.put_heading.ended Page.put_heading.Reads.Post
-  pub put-row : One Page.put_row.ended Page.put_row.Reads.Post
-  pub put-broken : One Page.put_broken.ended Page.put_broken.Reads.Post
-  pub put-end : One Page.put_end.ended Page.put_end.Reads.Post
-  pub put-refused : One Page.put_refused.ended Page.put_refused.Reads.Post
+  pub put-heading : One Page.put_heading.ended Page.put_heading.Reads.Asked Page.put_heading.Reads.Post
+  pub put-row : One Page.put_row.ended Page.put_row.Reads.Asked Page.put_row.Reads.Post
+  pub put-broken : One Page.put_broken.ended Page.put_broken.Reads.Asked Page.put_broken.Reads.Post
+  pub put-end : One Page.put_end.ended Page.put_end.Reads.Asked Page.put_end.Reads.Post
+  pub put-refused : One Page.put_refused.ended Page.put_refused.Reads.Asked Page.put_refused.Reads.Post
   -- the entry points for C
-  pub siengulot-judge : One Siengulot.siengulot_judge.ended Siengulot.siengulot_judge.Reads.Post
-  pub siengulot-judge-quiet : One Siengulot.siengulot_judge_quiet.ended Siengulot.siengulot_judge_quiet.Reads.Post
-  pub siengulot-send : One Siengulot.siengulot_send.ended Siengulot.siengulot_send.Reads.Post
-  pub siengulot-plan : One Siengulot.siengulot_plan.ended Siengulot.siengulot_plan.Reads.Post
-  pub siengulot-smooth : One Siengulot.siengulot_smooth.ended Siengulot.siengulot_smooth.Reads.Post
-  pub siengulot-warp : One Siengulot.siengulot_warp.ended Siengulot.siengulot_warp.Reads.Post
-  pub siengulot-settle : One Siengulot.siengulot_settle.ended Siengulot.siengulot_settle.Reads.Post
-  pub siengulot-counted : One Siengulot.siengulot_counted.ended Siengulot.siengulot_counted.Reads.Post
-  pub siengulot-fresh : One Siengulot.siengulot_fresh.ended Siengulot.siengulot_fresh.Reads.Post
-  pub siengulot-well-formed : One Siengulot.siengulot_well_formed.ended Siengulot.siengulot_well_formed.Reads.Post
-  pub siengulot-step : One Siengulot.siengulot_step.ended Siengulot.siengulot_step.Reads.Post
-  pub siengulot-listen : One Siengulot.siengulot_listen.ended Siengulot.siengulot_listen.Reads.Post
-  pub siengulot-capture-check : One Siengulot.siengulot_capture_check.ended Siengulot.siengulot_capture_check.Reads.Post
-  pub siengulot-capture-read : One Siengulot.siengulot_capture_read.ended Siengulot.siengulot_capture_read.Reads.Post
-  pub siengulot-capture-write : One Siengulot.siengulot_capture_write.ended Siengulot.siengulot_capture_write.Reads.Post
+  pub siengulot-judge :
+      One Siengulot.siengulot_judge.ended Siengulot.siengulot_judge.Reads.Asked Siengulot.siengulot_judge.Reads.Post
+  pub siengulot-judge-quiet :
+      One Siengulot.siengulot_judge_quiet.ended Siengulot.siengulot_judge_quiet.Reads.Asked Siengulot.siengulot_judge_quiet.Reads.Post
+  pub siengulot-send :
+      One Siengulot.siengulot_send.ended Siengulot.siengulot_send.Reads.Asked Siengulot.siengulot_send.Reads.Post
+  pub siengulot-plan :
+      One Siengulot.siengulot_plan.ended Siengulot.siengulot_plan.Reads.Asked Siengulot.siengulot_plan.Reads.Post
+  pub siengulot-smooth :
+      One Siengulot.siengulot_smooth.ended Siengulot.siengulot_smooth.Reads.Asked Siengulot.siengulot_smooth.Reads.Post
+  pub siengulot-warp :
+      One Siengulot.siengulot_warp.ended Siengulot.siengulot_warp.Reads.Asked Siengulot.siengulot_warp.Reads.Post
+  pub siengulot-settle :
+      One Siengulot.siengulot_settle.ended Siengulot.siengulot_settle.Reads.Asked Siengulot.siengulot_settle.Reads.Post
+  pub siengulot-counted :
+      One Siengulot.siengulot_counted.ended Siengulot.siengulot_counted.Reads.Asked Siengulot.siengulot_counted.Reads.Post
+  pub siengulot-fresh :
+      One Siengulot.siengulot_fresh.ended Siengulot.siengulot_fresh.Reads.Asked Siengulot.siengulot_fresh.Reads.Post
+  pub siengulot-well-formed :
+      One Siengulot.siengulot_well_formed.ended Siengulot.siengulot_well_formed.Reads.Asked Siengulot.siengulot_well_formed.Reads.Post
+  pub siengulot-step :
+      One Siengulot.siengulot_step.ended Siengulot.siengulot_step.Reads.Asked Siengulot.siengulot_step.Reads.Post
+  pub siengulot-listen :
+      One Siengulot.siengulot_listen.ended Siengulot.siengulot_listen.Reads.Asked Siengulot.siengulot_listen.Reads.Post
+  pub siengulot-capture-check :
+      One Siengulot.siengulot_capture_check.ended Siengulot.siengulot_capture_check.Reads.Asked Siengulot.siengulot_capture_check.Reads.Post
+  pub siengulot-capture-read :
+      One Siengulot.siengulot_capture_read.ended Siengulot.siengulot_capture_read.Reads.Asked Siengulot.siengulot_capture_read.Reads.Post
+  pub siengulot-capture-write :
+      One Siengulot.siengulot_capture_write.ended Siengulot.siengulot_capture_write.Reads.Asked Siengulot.siengulot_capture_write.Reads.Post
   -- The exceptions: the held reader's `capture::held::new`, `capture::held::place`, `capture::held::next` and
   -- `capture::held::advance` take or hand on a struct that holds a reference. They are proved by hand, and for such a
   -- function the check makes no clause that others can name. These lines repeat their equations.
