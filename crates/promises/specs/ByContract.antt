@@ -32,7 +32,7 @@ use Rattle.counted.proofs as Counted
 use Rattle.board.proofs as Board
 use Rattle.capture.proofs as Capture
 use Rattle.page.proofs as Page
-use Rattle.siengulot.proofs as Siengulot
+use Rattle.siengulot.proofs as C
 use Rattle.promises.specs.OneMeaning.{Clause}
 
 -- a contract says this of each call
@@ -131,45 +131,45 @@ pub record ByContract : Type 0 where
       λ κs (refusal, (out, _)) x (_, (out′, _)).
       lent (refusedLine (numberOf refusal) (placeOf refusal)) (now out) ≡ (putSays x, out′)
   -- the entry points for C
-  pub siengulot-judge : Says Siengulot.siengulot_judge.ended Siengulot.siengulot_judge.Reads.Post
+  pub siengulot-judge : Says C.siengulot_judge.ended C.siengulot_judge.Reads.Post
       λ κs (a, (b, (k, (w, (r, (margins, (accepted, _))))))) x (_, (_, (_, (_, (_, (margins′, (accepted′, _))))))).
       judgedThree (judgement a b k w r) (now margins) ≡ (x, accepted′, margins′)
-  pub siengulot-judge-quiet : Says Siengulot.siengulot_judge_quiet.ended Siengulot.siengulot_judge_quiet.Reads.Post
+  pub siengulot-judge-quiet : Says C.siengulot_judge_quiet.ended C.siengulot_judge_quiet.Reads.Post
       λ κs (a, (b, (k, (w, (r, (Q, (p1, (margins, (accepted, _))))))))) x
       (_, (_, (_, (_, (_, (_, (_, (margins′, (accepted′, _))))))))).
       judgedFive (quietJudgement a b k w r Q p1) (now margins) ≡ (x, accepted′, margins′)
-  pub siengulot-send : Says Siengulot.siengulot_send.ended Siengulot.siengulot_send.Reads.Post
+  pub siengulot-send : Says C.siengulot_send.ended C.siengulot_send.Reads.Post
       λ κs (a, (b, (p1, (p2, (bits, (out, (place, (count, _)))))))) x
       (_, (_, (_, (_, (_, (out′, (place′, (count′, _)))))))).
       crossing crossed (sentMessage a b p1 p2 (now bits) (now out))
       ≡ (record { number = x; place = place′; count = count′ }, out′)
-  pub siengulot-plan : Says Siengulot.siengulot_plan.ended Siengulot.siengulot_plan.Reads.Post
+  pub siengulot-plan : Says C.siengulot_plan.ended C.siengulot_plan.Reads.Post
       λ κs (a, (b, (n, (leads, (trails, (bits, (out, (place, (count, _))))))))) x
       (_, (_, (_, (_, (_, (_, (out′, (place′, (count′, _))))))))).
       crossing crossed (sentPlan a b n (now leads) (now trails) (now bits) (now out))
       ≡ (record { number = x; place = place′; count = count′ }, out′)
-  pub siengulot-smooth : Says Siengulot.siengulot_smooth.ended Siengulot.siengulot_smooth.Reads.Post
+  pub siengulot-smooth : Says C.siengulot_smooth.ended C.siengulot_smooth.Reads.Post
       λ κs (wave, (out, (place, (count, _)))) x (_, (out′, (place′, (count′, _)))).
       crossing crossed (smoothed (now wave) (now out)) ≡ (record { number = x; place = place′; count = count′ }, out′)
-  pub siengulot-warp : Says Siengulot.siengulot_warp.ended Siengulot.siengulot_warp.Reads.Post
+  pub siengulot-warp : Says C.siengulot_warp.ended C.siengulot_warp.Reads.Post
       λ κs (w, (r, (p, (wave, (out, (place, (count, _))))))) x (_, (_, (_, (_, (out′, (place′, (count′, _))))))).
       crossing crossed (warped w r p (now wave) (now out))
       ≡ (record { number = x; place = place′; count = count′ }, out′)
-  pub siengulot-settle : Says Siengulot.siengulot_settle.ended Siengulot.siengulot_settle.Reads.Post
+  pub siengulot-settle : Says C.siengulot_settle.ended C.siengulot_settle.Reads.Post
       λ κs (reads, (choices, (out, (place, (count, _))))) x (_, (_, (out′, (place′, (count′, _))))).
       crossing crossed (settled (now reads) (now choices) (now out))
       ≡ (record { number = x; place = place′; count = count′ }, out′)
-  pub siengulot-counted : Says Siengulot.siengulot_counted.ended Siengulot.siengulot_counted.Reads.Post
+  pub siengulot-counted : Says C.siengulot_counted.ended C.siengulot_counted.Reads.Post
       λ κs (k, (n, (level, (reads, (out, (place, (count, _))))))) x (_, (_, (_, (_, (out′, (place′, (count′, _))))))).
       crossing crossed (countedBits k n level (now reads) (now out))
       ≡ (record { number = x; place = place′; count = count′ }, out′)
-  pub siengulot-fresh : Says Siengulot.siengulot_fresh.ended Siengulot.siengulot_fresh.Reads.Post
+  pub siengulot-fresh : Says C.siengulot_fresh.ended C.siengulot_fresh.Reads.Post
       λ κs (k, (n, (Q, (numbers, (bytes, _))))) x (_, (_, (_, (numbers′, (bytes′, _))))).
       begunLent (begun k n Q) ≡ (x, numbers′, bytes′)
-  pub siengulot-well-formed : Says Siengulot.siengulot_well_formed.ended Siengulot.siengulot_well_formed.Reads.Post
+  pub siengulot-well-formed : Says C.siengulot_well_formed.ended C.siengulot_well_formed.Reads.Post
       λ κs (numbers, (bytes, _)) x _.
       wellFormedLent (now numbers) (now bytes) ≡ x
-  pub siengulot-step : Says Siengulot.siengulot_step.ended Siengulot.siengulot_step.Reads.Post
+  pub siengulot-step : Says C.siengulot_step.ended C.siengulot_step.Reads.Post
       λ κs (numbers, (bytes, (read, (room, (event, (found, (place, _))))))) x
       (numbers′, (bytes′, (_, (room′, (event′, (found′, (place′, _))))))).
       steppedLent (record { numbers = now numbers; bytes = now bytes; row = now room }) read
@@ -177,7 +177,7 @@ pub record ByContract : Type 0 where
         record { number = x; place = place′; event = event′; found = found′ },
         record { numbers = numbers′; bytes = bytes′; row = room′ },
       )
-  pub siengulot-listen : Says Siengulot.siengulot_listen.ended Siengulot.siengulot_listen.Reads.Post
+  pub siengulot-listen : Says C.siengulot_listen.ended C.siengulot_listen.Reads.Post
       λ κs (numbers, (bytes, (reads, (room, (event, (found, (used, (place, _)))))))) x
       (numbers′, (bytes′, (_, (room′, (event′, (found′, (used′, (place′, _)))))))).
       listenedLent (record { numbers = now numbers; bytes = now bytes; row = now room }) (now reads)
@@ -189,14 +189,14 @@ pub record ByContract : Type 0 where
         used′,
       )
   pub siengulot-capture-check :
-      Says Siengulot.siengulot_capture_check.ended Siengulot.siengulot_capture_check.Reads.Post
+      Says C.siengulot_capture_check.ended C.siengulot_capture_check.Reads.Post
       λ κs (bytes, (summary, (place, _))) x (_, (summary′, (place′, _))).
       summed (now summary) (checked (now bytes)) ≡ (x, place′, summary′)
-  pub siengulot-capture-read : Says Siengulot.siengulot_capture_read.ended Siengulot.siengulot_capture_read.Reads.Post
+  pub siengulot-capture-read : Says C.siengulot_capture_read.ended C.siengulot_capture_read.Reads.Post
       λ κs (bytes, (out, (summary, (place, _)))) x (_, (out′, (summary′, (place′, _)))).
       crossing (summed (now summary)) (readBack (now bytes) (now out)) ≡ ((x, place′, summary′), out′)
   pub siengulot-capture-write :
-      Says Siengulot.siengulot_capture_write.ended Siengulot.siengulot_capture_write.Reads.Post
+      Says C.siengulot_capture_write.ended C.siengulot_capture_write.Reads.Post
       λ κs (k, (n, (Q, (reads, (out, (place, (count, _))))))) x (_, (_, (_, (_, (out′, (place′, (count′, _))))))).
       crossing crossed (written k n Q (now reads) (now out))
       ≡ (record { number = x; place = place′; count = count′ }, out′)

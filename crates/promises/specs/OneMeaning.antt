@@ -21,7 +21,7 @@ use Rattle.counted.proofs as Counted
 use Rattle.board.proofs as Board
 use Rattle.capture.proofs as Capture
 use Rattle.page.proofs as Page
-use Rattle.siengulot.proofs as Siengulot
+use Rattle.siengulot.proofs as C
 
 -- what a contract asks of a call's arguments
 abbrev pub Asking : Ended → Type 1
@@ -79,36 +79,26 @@ pub record OneMeaning : Type 0 where
   pub put-end : One Page.put_end.ended Page.put_end.Reads.Asked Page.put_end.Reads.Post
   pub put-refused : One Page.put_refused.ended Page.put_refused.Reads.Asked Page.put_refused.Reads.Post
   -- the entry points for C
-  pub siengulot-judge :
-      One Siengulot.siengulot_judge.ended Siengulot.siengulot_judge.Reads.Asked Siengulot.siengulot_judge.Reads.Post
+  pub siengulot-judge : One C.siengulot_judge.ended C.siengulot_judge.Reads.Asked C.siengulot_judge.Reads.Post
   pub siengulot-judge-quiet :
-      One Siengulot.siengulot_judge_quiet.ended Siengulot.siengulot_judge_quiet.Reads.Asked Siengulot.siengulot_judge_quiet.Reads.Post
-  pub siengulot-send :
-      One Siengulot.siengulot_send.ended Siengulot.siengulot_send.Reads.Asked Siengulot.siengulot_send.Reads.Post
-  pub siengulot-plan :
-      One Siengulot.siengulot_plan.ended Siengulot.siengulot_plan.Reads.Asked Siengulot.siengulot_plan.Reads.Post
-  pub siengulot-smooth :
-      One Siengulot.siengulot_smooth.ended Siengulot.siengulot_smooth.Reads.Asked Siengulot.siengulot_smooth.Reads.Post
-  pub siengulot-warp :
-      One Siengulot.siengulot_warp.ended Siengulot.siengulot_warp.Reads.Asked Siengulot.siengulot_warp.Reads.Post
-  pub siengulot-settle :
-      One Siengulot.siengulot_settle.ended Siengulot.siengulot_settle.Reads.Asked Siengulot.siengulot_settle.Reads.Post
-  pub siengulot-counted :
-      One Siengulot.siengulot_counted.ended Siengulot.siengulot_counted.Reads.Asked Siengulot.siengulot_counted.Reads.Post
-  pub siengulot-fresh :
-      One Siengulot.siengulot_fresh.ended Siengulot.siengulot_fresh.Reads.Asked Siengulot.siengulot_fresh.Reads.Post
+      One C.siengulot_judge_quiet.ended C.siengulot_judge_quiet.Reads.Asked C.siengulot_judge_quiet.Reads.Post
+  pub siengulot-send : One C.siengulot_send.ended C.siengulot_send.Reads.Asked C.siengulot_send.Reads.Post
+  pub siengulot-plan : One C.siengulot_plan.ended C.siengulot_plan.Reads.Asked C.siengulot_plan.Reads.Post
+  pub siengulot-smooth : One C.siengulot_smooth.ended C.siengulot_smooth.Reads.Asked C.siengulot_smooth.Reads.Post
+  pub siengulot-warp : One C.siengulot_warp.ended C.siengulot_warp.Reads.Asked C.siengulot_warp.Reads.Post
+  pub siengulot-settle : One C.siengulot_settle.ended C.siengulot_settle.Reads.Asked C.siengulot_settle.Reads.Post
+  pub siengulot-counted : One C.siengulot_counted.ended C.siengulot_counted.Reads.Asked C.siengulot_counted.Reads.Post
+  pub siengulot-fresh : One C.siengulot_fresh.ended C.siengulot_fresh.Reads.Asked C.siengulot_fresh.Reads.Post
   pub siengulot-well-formed :
-      One Siengulot.siengulot_well_formed.ended Siengulot.siengulot_well_formed.Reads.Asked Siengulot.siengulot_well_formed.Reads.Post
-  pub siengulot-step :
-      One Siengulot.siengulot_step.ended Siengulot.siengulot_step.Reads.Asked Siengulot.siengulot_step.Reads.Post
-  pub siengulot-listen :
-      One Siengulot.siengulot_listen.ended Siengulot.siengulot_listen.Reads.Asked Siengulot.siengulot_listen.Reads.Post
+      One C.siengulot_well_formed.ended C.siengulot_well_formed.Reads.Asked C.siengulot_well_formed.Reads.Post
+  pub siengulot-step : One C.siengulot_step.ended C.siengulot_step.Reads.Asked C.siengulot_step.Reads.Post
+  pub siengulot-listen : One C.siengulot_listen.ended C.siengulot_listen.Reads.Asked C.siengulot_listen.Reads.Post
   pub siengulot-capture-check :
-      One Siengulot.siengulot_capture_check.ended Siengulot.siengulot_capture_check.Reads.Asked Siengulot.siengulot_capture_check.Reads.Post
+      One C.siengulot_capture_check.ended C.siengulot_capture_check.Reads.Asked C.siengulot_capture_check.Reads.Post
   pub siengulot-capture-read :
-      One Siengulot.siengulot_capture_read.ended Siengulot.siengulot_capture_read.Reads.Asked Siengulot.siengulot_capture_read.Reads.Post
+      One C.siengulot_capture_read.ended C.siengulot_capture_read.Reads.Asked C.siengulot_capture_read.Reads.Post
   pub siengulot-capture-write :
-      One Siengulot.siengulot_capture_write.ended Siengulot.siengulot_capture_write.Reads.Asked Siengulot.siengulot_capture_write.Reads.Post
+      One C.siengulot_capture_write.ended C.siengulot_capture_write.Reads.Asked C.siengulot_capture_write.Reads.Post
   -- The exceptions: the held reader's `capture::held::new`, `capture::held::place`, `capture::held::next` and
   -- `capture::held::advance` take or hand on a struct that holds a reference. They are proved by hand, and for such a
   -- function the check makes no clause that others can name. These lines repeat their equations.
