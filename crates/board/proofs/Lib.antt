@@ -15,3 +15,4 @@ pub mod Goes
 pub mod Fed
 pub mod BitPlaces
 pub mod HeardLaws
+pub mod CallLaws

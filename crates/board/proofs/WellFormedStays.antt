@@ -16,6 +16,7 @@ use Rattle.board.specs.Rows.{Settings, State, Event, nothing, row, broke
 use Rattle.board.specs.Feeding.{after}
 use Rattle.board.specs.Packed.{settingsOf, stateOf, receiverOf}
 use Rattle.board.specs.WellFormed.{wellFormed}
+use Rattle.board.specs.EveryStep.{EveryStep}
 use Rattle.board.specs.Answers.{begun, stepped, listened, refusing}
 use Rattle.board.specs.Listening.{heardFrom, eventOrRest}
 use Rattle.board.proofs.FeedingLaws.{after-keeps}
@@ -90,3 +91,6 @@ listened-well-formed x reads h = rw (listened-is x reads, h) (go (ltb entriesMos
         ≡ true
     go true = h
     go false = heard-well-formed x (settingsOf x) (stateOf x) 0 reads h (valid-of x h)
+
+pub every-step : EveryStep
+every-step = record { fresh = begun-well-formed; step = stepped-well-formed; listen = listened-well-formed }

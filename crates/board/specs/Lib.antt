@@ -3,4 +3,5 @@ pub mod Feeding
 pub mod Packed
 pub mod WellFormed
 pub mod Answers
+pub mod EveryStep
 pub mod Listening

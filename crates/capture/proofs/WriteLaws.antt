@@ -1,4 +1,5 @@
--- A capture is its four numbers and its runs, one after another; what writing answers goes by the tests in their order.
+-- A capture is its four numbers and its runs, one after another; what writing answers goes by the tests in their
+-- order.
 use Prim.Native.Nat.{ℕ, _+_, _≤_, _<_}
 use mathlib.Core.Path.{_≡_, refl, ap, _∙_}
 use mathlib.Core.List.{List, _++_}

@@ -1,4 +1,4 @@
--- Rules What the link software covers: levels and bits are 0 or 1, and a read that is not known is 2.
+-- Rules G: levels and bits are 0 or 1, and a read that is not known is 2.
 use Prim.Native.Nat.{ℕ, _≤_}
 use mathlib.Core.List.{List, [], _∷_}
 

@@ -6,7 +6,13 @@ pub mod Seams
 pub mod Recovery
 pub mod Deliveries
 pub mod Demand3
-pub mod OneByOne
+pub mod Hearing
+pub mod HearingFromC
+pub mod AnyHearing
+pub mod Promised
+pub mod GoodCaptures
+pub mod SingleCalls
+pub mod WholeWay
 pub mod Tried
 pub mod Useless
 pub mod Worked
@@ -21,6 +27,6 @@ pub mod Witness
 pub mod Exact
 pub mod WhatNoMeans
 pub mod Limits
+pub mod ByContract
 pub mod OneMeaning
-pub mod Operations
 pub mod Demands

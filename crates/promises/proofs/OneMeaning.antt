@@ -1,70 +1,81 @@
 -- What an answer says can be turned back into the answer, so what was promised leaves room for one answer alone.
 use Prim.Native.Nat.{ℕ}
 use mathlib.Core.Path.{_≡_, refl, sym, ap, _∙_}
-use mathlib.Core.Bool.{Bool, true, false}
-use mathlib.Core.List.{List, []}
+use mathlib.Core.List.{List}
 use lib.Dec.{eqb}
-use lib.ListN.{take}
+use lib.IntN.{ℤ}
 use Rattle.measure.specs.Choose.{choose}
-use Rattle.measure.specs.Refusals.{Answer, given, refused, refusedAfter, numberOf, placeOf, lent}
+use Rattle.measure.specs.Refusals.{Answer, given, refused, refusedAfter, numberOf, placeOf}
 use Rattle.measure.specs.declared.Refusal.{Refusal}
 use Rattle.measure.specs.declared.Refusal.the-variants.{Setting, Entry, Limit, Room, Cut, Form, Range}
 use Rattle.settings.specs.declared.Judged.{Judged}
 use Rattle.settings.specs.declared.Judged.the-variants as J
 use Rattle.settings.specs.declared.QuietJudged.{QuietJudged}
 use Rattle.settings.specs.declared.QuietJudged.the-variants as Q
-use Rattle.settings.specs.Answers.{Judgement, QuietJudgement, judgement, quietJudgement, judgedSays, quietJudgedSays}
+use Rattle.settings.specs.Answers.{Judgement, QuietJudgement, judgedSays, quietJudgedSays}
 use Rattle.sender.specs.declared.Sent.{Sent}
 use Rattle.sender.specs.declared.Sent.the-variants as S
-use Rattle.sender.specs.Answers.{sentMessage, sentPlan, sentSays}
+use Rattle.sender.specs.Answers.{sentSays}
 use Rattle.line.specs.declared.Smoothed.{Smoothed}
 use Rattle.line.specs.declared.Smoothed.the-variants as M
 use Rattle.line.specs.declared.Read.{Read}
 use Rattle.line.specs.declared.Read.the-variants as R
-use Rattle.line.specs.Answers.{smoothed, warped, settled, smoothedSays, readSays}
-use Rattle.counted.specs.declared.Received.{Received}
-use Rattle.counted.specs.declared.Received.the-variants as C
-use Rattle.counted.specs.Answers.{countedBits, countedSays}
+use Rattle.line.specs.Answers.{smoothedSays, readSays}
+use Rattle.counted.specs.declared.Counted.{Counted}
+use Rattle.counted.specs.declared.Counted.the-variants as C
+use Rattle.counted.specs.Answers.{countedSays}
 use Rattle.board.specs.Rows.{Event, nothing, row, broken}
 use Rattle.board.specs.declared.Event.{Event as CodeEvent}
 use Rattle.board.specs.declared.Event.the-variants as E
 use Rattle.board.specs.declared.Start.{Start}
+use Rattle.board.specs.declared.Started.{Started}
+use Rattle.board.specs.declared.Receiver.{Receiver}
 use Rattle.board.specs.declared.Start.the-variants as F
 use Rattle.board.specs.declared.Stepped.{Stepped}
 use Rattle.board.specs.declared.Listened.{Listened}
-use Rattle.board.specs.Packed.{unpacked}
-use Rattle.board.specs.Answers.{Outcome, eventSays, begun, startSays, stepped, steppedSays, listened, listenedSays}
-use Rattle.capture.specs.Numbers.{Numeral, numberAt}
-use Rattle.capture.specs.Capture.{Heading, header}
+use Rattle.board.specs.Answers.{Outcome, eventSays, startSays, steppedSays, listenedSays}
+use Rattle.capture.specs.Capture.{Heading}
+use Rattle.capture.specs.Numbers.{Numeral}
+use Rattle.capture.specs.declared.Summary.{Summary}
 use Rattle.capture.specs.declared.Number.{Number}
 use Rattle.capture.specs.declared.Number.the-variants as N
 use Rattle.capture.specs.declared.Head.{Head}
 use Rattle.capture.specs.declared.Head.the-variants as H
-use Rattle.capture.specs.declared.Summary.{Summary}
 use Rattle.capture.specs.declared.Checked.{Checked}
 use Rattle.capture.specs.declared.Checked.the-variants as K
 use Rattle.capture.specs.declared.Written.{Written}
 use Rattle.capture.specs.declared.Written.the-variants as W
-use Rattle.capture.specs.Answers.{numberSays, headSays, checked, readBack, checkedSays, written, writtenSays}
+use Rattle.capture.specs.Answers.{numberSays, headSays, checkedSays, writtenSays}
 use Rattle.page.specs.declared.Put.{Put}
 use Rattle.page.specs.declared.Put.the-variants as P
-use Rattle.page.specs.Lines.{headingLine, eventLine, endLine, refusedLine}
 use Rattle.page.specs.Answers.{putSays}
-use Rattle.promises.specs.OneMeaning.{One, Only, OneLeft, OneMeaning}
+use Rattle.siengulot.specs.Crossing.{Crossed}
+use Rattle.siengulot.specs.Receivers.{Told, Lent}
+use Rattle.promises.specs.OneMeaning.{OneMeaning}
 
--- the one lemma: where the answer can be had back from what it tells, two answers that tell the same are equal
-one : {X Y : Type 0} (told : X → Y) (back : Y → X) → ((x : X) → back (told x) ≡ x) → (defined : Y) → One told defined
-one told back turns defined x y this other = sym (turns x) ∙ ap back (sym this ∙ other) ∙ turns y
+-- an answer can be recovered from what it says
+record Said (X Y : Type 0) : Type 0 where
+  says : X → Y
+  back : Y → X
+  turns : (x : X) → back (says x) ≡ x
 
-one-left : {X Y Z : Type 0} (told : X → Y) (back : Y → X) → ((x : X) → back (told x) ≡ x) → (defined : Y × Z)
-    → OneLeft told defined
-one-left {X} {Y} {Z} told back turns defined x y left right this other = (
-  one told back turns (defined .0) x y (ap (λ (p : Y × Z). p .0) this) (ap (λ (p : Y × Z). p .0) other),
-  ap (λ (p : Y × Z). p .1) (sym this ∙ other),
+-- so two answers that say the same are equal
+same : {X Y : Type 0} (said : Said X Y) {defined : Y} {x y : X} → defined ≡ said .says x → defined ≡ said .says y
+    → x ≡ y
+same said {x = x} {y = y} h h′ = sym (said .turns x) ∙ ap (said .back) (sym h ∙ h′) ∙ said .turns y
+
+-- and with them what stands beside the answers: what is left in a lent output
+leaves : {X Y Z W : Type 0} (said : Said X Y) (place : Z → W) {defined : Y × Z} {x y : X} {left right : Z}
+    → defined ≡ (said .says x, left) → defined ≡ (said .says y, right) → (x ≡ y) × (place left ≡ place right)
+leaves {Y = Y} {Z = Z} said place h h′ = (
+  same said (ap (λ (p : Y × Z). p .0) h) (ap (λ (p : Y × Z). p .0) h′),
+  ap (λ (p : Y × Z). place (p .1)) (sym h ∙ h′),
 )
 
-only : {X : Type 0} {defined : X} → Only defined
-only x y this other = this ∙ sym other
+-- what crosses to C is the result and all that is left
+crosses : {P X W : Type 0} (result : P → X) (places : P → W) {defined one other : P} → defined ≡ one → defined ≡ other
+    → (result one ≡ result other) × (places one ≡ places other)
+crosses result places h h′ = (ap result (sym h ∙ h′), ap places (sym h ∙ h′))
 
 -- a refusal from its number and place
 refusal : ℕ → ℕ → Refusal
@@ -134,43 +145,169 @@ listen-of (o, used) =
 pub one-meaning : OneMeaning
 unfolding plain answer judged quiet-judged step-of listen-of
 one-meaning = record {
-  judge = λ a b k w r. one judgedSays (plain judged J.Refused) judge-back (judgement a b k w r);
-  judge-quiet =
-      λ a b k w r q p1. one quietJudgedSays (plain quiet-judged Q.Refused) quiet-back (quietJudgement a b k w r q p1);
-  send = λ a b p1 p2 bits output. sent (sentMessage a b p1 p2 bits output);
-  send-plan = λ a b n leads trails bits output. sent (sentPlan a b n leads trails bits output);
-  smooth =
-      λ wave output. one-left smoothedSays (plain (λ n. M.Wave (record { 0 = n })) M.Refused) smooth-back
-      (smoothed wave output);
-  warp = λ w r p wave output. read (warped w r p wave output);
-  settle = λ reads choices output. read (settled reads choices output);
-  count-bits =
-      λ k n level reads output. one-left countedSays (answer C.Bits C.Refused C.RanOut) count-back
-      (countedBits k n level reads output);
-  fresh = λ k n Q. one-left startSays (plain (λ e. F.Fresh) F.Refused) start-back (begun k n Q);
-  step = λ receiver read. one steppedSays step-of step-back (stepped receiver read);
-  listen = λ receiver reads. one listenedSays listen-of listen-back (listened receiver reads);
-  next = λ bytes at. one numberSays (plain (λ n. N.Is (n .value) (n .after)) N.Refused) number-back (numberAt bytes at);
-  read-header = λ bytes. one headSays (plain head H.Refused) head-back (header bytes);
-  check = λ bytes. one checkedSays (plain K.Capture K.Refused) capture-back (checked bytes);
-  read-capture = λ bytes output. one-left checkedSays (plain K.Capture K.Refused) capture-back (readBack bytes output);
-  write-capture =
-      λ k n Q reads output. one-left writtenSays (plain W.Bytes W.Refused) written-back (written k n Q reads output);
-  put-heading = λ output. line (lent headingLine output);
-  put-row = λ place n bits output. line (lent (eventLine place (row (take n (unpacked 8 bits)))) output);
-  put-broken = λ place found output. line (lent (eventLine place (broken found)) output);
-  put-end = λ reads rows output. line (lent (endLine reads rows) output);
-  put-refused = λ refusal output. line (lent (refusedLine (numberOf refusal) (placeOf refusal)) output);
-  number = λ refusal. only;
-  place = λ refusal. only;
-  between = λ least most x. only;
-  settings-fit = λ k n Q. only;
-  first-above = λ most entries. only;
-  well-formed = λ receiver. only;
-  held-new = λ bytes. only;
-  held-advance = λ reader. only;
-  held-place = λ reader. only;
-  entry-points = λ defined. only;
+  number = record { always = λ κs a. tt; once = λ κs a x y left right h h′. (h ∙ sym h′, refl) };
+  place = record { always = λ κs a. tt; once = λ κs a x y left right h h′. (h ∙ sym h′, refl) };
+  between = record { always = λ κs a. tt; once = λ κs a x y left right h h′. (h ∙ sym h′, refl) };
+  settings-fit = record { always = λ κs a. tt; once = λ κs a x y left right h h′. (h ∙ sym h′, refl) };
+  first-above = record { always = λ κs a. tt; once = λ κs a x y left right h h′. (h ∙ sym h′, refl) };
+  judge = record { always = λ κs a. tt; once = λ κs a x y left right h h′. (same judge-said h h′, refl) };
+  judge-quiet = record { always = λ κs a. tt; once = λ κs a x y left right h h′. (same quiet-said h h′, refl) };
+  send = record {
+    always = λ κs a. tt;
+    once = λ κs a x y left right h h′. leaves sent (λ l. (tt, (tt, (tt, (tt, (tt, (l, tt))))))) h h′;
+  };
+  send-plan = record {
+    always = λ κs a. tt;
+    once = λ κs a x y left right h h′. leaves sent (λ l. (tt, (tt, (tt, (tt, (tt, (tt, (l, tt)))))))) h h′;
+  };
+  smooth = record {
+    always = λ κs a. tt;
+    once = λ κs a x y left right h h′. leaves smooth-said (λ l. (tt, (l, tt))) h h′;
+  };
+  warp = record {
+    always = λ κs a. tt;
+    once = λ κs a x y left right h h′. leaves read (λ l. (tt, (tt, (tt, (tt, (l, tt)))))) h h′;
+  };
+  settle = record {
+    always = λ κs a. tt;
+    once = λ κs a x y left right h h′. leaves read (λ l. (tt, (tt, (l, tt)))) h h′;
+  };
+  count-bits = record {
+    always = λ κs a. tt;
+    once = λ κs a x y left right h h′. leaves counted-said (λ l. (tt, (tt, (tt, (tt, (l, tt)))))) h h′;
+  };
+  fresh = record { always = λ κs a. tt; once = λ κs a x y left right h h′. (started h h′, refl) };
+  well-formed = record { always = λ κs a. tt; once = λ κs a x y left right h h′. (h ∙ sym h′, refl) };
+  step = record { always = λ κs a. tt; once = λ κs a x y left right h h′. (same stepped-said h h′, refl) };
+  listen = record { always = λ κs a. tt; once = λ κs a x y left right h h′. (same listened-said h h′, refl) };
+  read-header = record { always = λ κs a. tt; once = λ κs a x y left right h h′. (same head-said h h′, refl) };
+  check = record { always = λ κs a. tt; once = λ κs a x y left right h h′. (same checked-said h h′, refl) };
+  read-capture = record {
+    always = λ κs a. tt;
+    once = λ κs a x y left right h h′. leaves checked-said (λ l. (tt, (l, tt))) h h′;
+  };
+  write-capture = record {
+    always = λ κs a. tt;
+    once = λ κs a x y left right h h′. leaves written-said (λ l. (tt, (tt, (tt, (tt, (l, tt)))))) h h′;
+  };
+  put-heading = record { always = λ κs a. tt; once = λ κs a x y left right h h′. leaves line (λ l. (l, tt)) h h′ };
+  put-row = record {
+    always = λ κs a. tt;
+    once = λ κs a x y left right h h′. leaves line (λ l. (tt, (tt, (tt, (l, tt))))) h h′;
+  };
+  put-broken = record {
+    always = λ κs a. tt;
+    once = λ κs a x y left right h h′. leaves line (λ l. (tt, (tt, (l, tt)))) h h′;
+  };
+  put-end = record {
+    always = λ κs a. tt;
+    once = λ κs a x y left right h h′. leaves line (λ l. (tt, (tt, (l, tt)))) h h′;
+  };
+  put-refused = record {
+    always = λ κs a. tt;
+    once = λ κs a x y left right h h′. leaves line (λ l. (tt, (l, tt))) h h′;
+  };
+  siengulot-judge = record {
+    always = λ κs a. tt;
+    once = λ κs a x y left right h h′.
+        crosses (λ (p : ℕ × ℕ × List ℤ). p .0)
+        (λ p. (tt, (tt, (tt, (tt, (tt, (p .2, (p .1, tt)))))))) h h′;
+  };
+  siengulot-judge-quiet = record {
+    always = λ κs a. tt;
+    once = λ κs a x y left right h h′.
+        crosses (λ (p : ℕ × ℕ × List ℤ). p .0)
+        (λ p. (tt, (tt, (tt, (tt, (tt, (tt, (tt, (p .2, (p .1, tt)))))))))) h h′;
+  };
+  siengulot-send = record {
+    always = λ κs a. tt;
+    once = λ κs a x y left right h h′.
+        crosses (λ (p : Crossed × List ℕ). p .0 .number)
+        (λ p. (tt, (tt, (tt, (tt, (tt, (p .1, (p .0 .place, (p .0 .count, tt))))))))) h h′;
+  };
+  siengulot-plan = record {
+    always = λ κs a. tt;
+    once = λ κs a x y left right h h′.
+        crosses (λ (p : Crossed × List ℕ). p .0 .number)
+        (λ p. (tt, (tt, (tt, (tt, (tt, (tt, (p .1, (p .0 .place, (p .0 .count, tt)))))))))) h h′;
+  };
+  siengulot-smooth = record {
+    always = λ κs a. tt;
+    once = λ κs a x y left right h h′.
+        crosses (λ (p : Crossed × List ℕ). p .0 .number)
+        (λ p. (tt, (p .1, (p .0 .place, (p .0 .count, tt))))) h h′;
+  };
+  siengulot-warp = record {
+    always = λ κs a. tt;
+    once = λ κs a x y left right h h′.
+        crosses (λ (p : Crossed × List ℕ). p .0 .number)
+        (λ p. (tt, (tt, (tt, (tt, (p .1, (p .0 .place, (p .0 .count, tt)))))))) h h′;
+  };
+  siengulot-settle = record {
+    always = λ κs a. tt;
+    once = λ κs a x y left right h h′.
+        crosses (λ (p : Crossed × List ℕ). p .0 .number)
+        (λ p. (tt, (tt, (p .1, (p .0 .place, (p .0 .count, tt)))))) h h′;
+  };
+  siengulot-counted = record {
+    always = λ κs a. tt;
+    once = λ κs a x y left right h h′.
+        crosses (λ (p : Crossed × List ℕ). p .0 .number)
+        (λ p. (tt, (tt, (tt, (tt, (p .1, (p .0 .place, (p .0 .count, tt)))))))) h h′;
+  };
+  siengulot-fresh = record {
+    always = λ κs a. tt;
+    once = λ κs a x y left right h h′.
+        crosses (λ (p : ℕ × List ℕ × List ℕ). p .0)
+        (λ p. (tt, (tt, (tt, (p .1, (p .2, tt)))))) h h′;
+  };
+  siengulot-well-formed = record { always = λ κs a. tt; once = λ κs a x y left right h h′. (sym h ∙ h′, refl) };
+  siengulot-step = record {
+    always = λ κs a. tt;
+    once = λ κs a x y left right h h′.
+        crosses (λ (p : Told × Lent). p .0 .number)
+        (λ p. (p .1 .numbers, (p .1 .bytes, (tt, (p .1 .row, (p .0 .event, (p .0 .found, (p .0 .place, tt)))))))) h h′;
+  };
+  siengulot-listen = record {
+    always = λ κs a. tt;
+    once = λ κs a x y left right h h′.
+        crosses (λ (p : (Told × Lent) × ℕ). p .0 .0 .number)
+        (λ p. (
+          p .0 .1 .numbers,
+          (
+            p .0 .1 .bytes,
+            (
+              tt,
+              (
+                p .0 .1 .row,
+                (p .0 .0 .event, (p .0 .0 .found, (p .1, (p .0 .0 .place, tt)))),
+              ),
+            ),
+          ),
+        )) h h′;
+  };
+  siengulot-capture-check = record {
+    always = λ κs a. tt;
+    once = λ κs a x y left right h h′.
+        crosses (λ (p : ℕ × ℕ × List ℕ). p .0)
+        (λ p. (tt, (p .2, (p .1, tt)))) h h′;
+  };
+  siengulot-capture-read = record {
+    always = λ κs a. tt;
+    once = λ κs a x y left right h h′.
+        crosses (λ (p : (ℕ × ℕ × List ℕ) × List ℕ). p .0 .0)
+        (λ p. (tt, (p .1, (p .0 .2, (p .0 .1, tt))))) h h′;
+  };
+  siengulot-capture-write = record {
+    always = λ κs a. tt;
+    once = λ κs a x y left right h h′.
+        crosses (λ (p : Crossed × List ℕ). p .0 .number)
+        (λ p. (tt, (tt, (tt, (tt, (p .1, (p .0 .place, (p .0 .count, tt)))))))) h h′;
+  };
+  held-new = λ bytes x y h h′. h ∙ sym h′;
+  held-place = λ reader x y h h′. h ∙ sym h′;
+  held-next = λ bytes at x y h h′. same number-said h h′;
+  held-advance = λ reader x y h h′. h ∙ sym h′;
 }
   where
     judge-back : (x : Judged) → plain judged J.Refused (judgedSays x) ≡ x
@@ -187,9 +324,6 @@ one-meaning = record {
     send-back (S.Wave cycles) = refl
     send-back (S.Refused f) = ap S.Refused (refusal-back f)
 
-    sent : (defined : Answer ℕ × List ℕ) → OneLeft sentSays defined
-    sent = one-left sentSays (plain (λ n. S.Wave (record { 0 = n })) S.Refused) send-back
-
     smooth-back : (x : Smoothed) → plain (λ n. M.Wave (record { 0 = n })) M.Refused (smoothedSays x) ≡ x
     smooth-back (M.Wave cycles) = refl
     smooth-back (M.Refused f) = ap M.Refused (refusal-back f)
@@ -198,10 +332,7 @@ one-meaning = record {
     read-back (R.Reads reads) = refl
     read-back (R.Refused f) = ap R.Refused (refusal-back f)
 
-    read : (defined : Answer ℕ × List ℕ) → OneLeft readSays defined
-    read = one-left readSays (plain (λ n. R.Reads (record { 0 = n })) R.Refused) read-back
-
-    count-back : (x : Received) → answer C.Bits C.Refused C.RanOut (countedSays x) ≡ x
+    count-back : (x : Counted) → answer C.Bits C.Refused C.RanOut (countedSays x) ≡ x
     count-back (C.Bits n) = refl
     count-back (C.RanOut n) = refl
     count-back (C.Refused f) = ap C.Refused (refusal-back f)
@@ -252,5 +383,54 @@ one-meaning = record {
     put-back (P.Line n) = refl
     put-back (P.Refused f) = ap P.Refused (refusal-back f)
 
-    line : (defined : Answer ℕ × List ℕ) → OneLeft putSays defined
-    line = one-left putSays (plain P.Line P.Refused) put-back
+    judge-said : Said Judged (Answer Judgement)
+    judge-said = record { says = judgedSays; back = plain judged J.Refused; turns = judge-back }
+
+    quiet-said : Said QuietJudged (Answer QuietJudgement)
+    quiet-said = record { says = quietJudgedSays; back = plain quiet-judged Q.Refused; turns = quiet-back }
+
+    sent : Said Sent (Answer ℕ)
+    sent = record { says = sentSays; back = plain (λ n. S.Wave (record { 0 = n })) S.Refused; turns = send-back }
+
+    smooth-said : Said Smoothed (Answer ℕ)
+    smooth-said =
+        record { says = smoothedSays; back = plain (λ n. M.Wave (record { 0 = n })) M.Refused; turns = smooth-back }
+
+    read : Said Read (Answer ℕ)
+    read = record { says = readSays; back = plain (λ n. R.Reads (record { 0 = n })) R.Refused; turns = read-back }
+
+    counted-said : Said Counted (Answer ℕ)
+    counted-said = record { says = countedSays; back = answer C.Bits C.Refused C.RanOut; turns = count-back }
+
+    start-said : Said Start (Answer Event)
+    start-said = record { says = startSays; back = plain (λ e. F.Fresh) F.Refused; turns = start-back }
+
+    stepped-said : Said Stepped Outcome
+    stepped-said = record { says = steppedSays; back = step-of; turns = step-back }
+
+    listened-said : Said Listened (Outcome × ℕ)
+    listened-said = record { says = listenedSays; back = listen-of; turns = listen-back }
+
+    number-said : Said Number (Answer Numeral)
+    number-said =
+        record { says = numberSays; back = plain (λ n. N.Is (n .value) (n .after)) N.Refused; turns = number-back }
+
+    head-said : Said Head (Answer Heading)
+    head-said = record { says = headSays; back = plain head H.Refused; turns = head-back }
+
+    checked-said : Said Checked (Answer Summary)
+    checked-said = record { says = checkedSays; back = plain K.Capture K.Refused; turns = capture-back }
+
+    written-said : Said Written (Answer ℕ)
+    written-said = record { says = writtenSays; back = plain W.Bytes W.Refused; turns = written-back }
+
+    line : Said Put (Answer ℕ)
+    line = record { says = putSays; back = plain P.Line P.Refused; turns = put-back }
+
+    started : {defined : Answer Event × Receiver} {x y : Started} → defined ≡ (startSays (x .start), x .receiver)
+        → defined ≡ (startSays (y .start), y .receiver) → x ≡ y
+    started {x = x} {y = y} h h′ =
+        let e : startSays (x .start) ≡ startSays (y .start) = ap (λ (p : Answer Event × Receiver). p .0) (sym h ∙ h′) in
+        let start : x .start ≡ y .start = same start-said refl e in
+        let receiver : x .receiver ≡ y .receiver = ap (λ (p : Answer Event × Receiver). p .1) (sym h ∙ h′) in
+        λ i. record { receiver = receiver i; start = start i }

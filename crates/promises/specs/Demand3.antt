@@ -10,8 +10,8 @@ use mathlib.Core.List.{List, [], _∷_, _++_}
 use lib.ListN.{length}
 use Rattle.settings.specs.Margins.{m1 as M1, m2 as M2, m3 as M3, m4 as M4, m5 as M5, zeroOrMore}
 use Rattle.sender.specs.Sending.{Row}
-use Rattle.board.specs.Rows.{Settings, fresh, next}
-use Rattle.board.specs.Feeding.{Step, reportsBy}
+use Rattle.board.specs.Rows.{Settings, fresh}
+use Rattle.board.specs.Feeding.{Report, reports}
 use Rattle.measure.specs.Levels.{Levels}
 use Rattle.promises.specs.Places.{Link, planReads, cyclesOf, withinLead, heard, deliveries}
 use Rattle.promises.specs.Replaced.{damaged, WhollyAfter, below, above, moved}
@@ -36,27 +36,27 @@ pub record Fitting (x : Link) : Type 0 where
   pub m3 : zeroOrMore (M3 (x .a) (x .b) (x .k) (x .w) (x .r)) ≡ true
   pub m4 : zeroOrMore (M4 (x .a) (x .b) (x .w) (x .r) (x .Q)) ≡ true
 
--- D16, D17, D18: Demand 3 of a receiver that does `step` with each read.
-pub record Demand3 (x : Link) (step : Step) : Type 0 where
+-- D16, D17, D18: demand 3 of whatever hears: of a function from reads to reports.
+pub record Demand3 (x : Link) (hear : List ℕ → List Report) : Type 0 where
   -- Ahead of the stretch: the rows that end there by their last sample are delivered, these and no others, and nothing
   -- is broken.
   pub before : (i j : ℕ) (junk : List ℕ) → i ≤ j → j ≤ length (planReads x)
-      → below i (reportsBy step fresh 0 (damaged x i j junk)) ≡ below i (deliveries x 0 (x .rows))
+      → below i (hear (damaged x i j junk)) ≡ below i (deliveries x 0 (x .rows))
   -- After a row's lead quiet, read wholly after the stretch, has been heard, exactly that row and those after it are.
   -- Of the first such row it says most.
   pub after : (i j : ℕ) (junk : List ℕ) → i ≤ j → j ≤ length (planReads x)
       → (earlier : List Row) (row : Row) (later : List Row) → x .rows ≡ earlier ++ row ∷ later
       → WhollyAfter x (cyclesOf x earlier) row j
-      → above (i + length junk + (heard x (cyclesOf x earlier) row - j)) (reportsBy step fresh 0 (damaged x i j junk))
+      → above (i + length junk + (heard x (cyclesOf x earlier) row - j)) (hear (damaged x i j junk))
       ≡ moved i j junk (deliveries x (cyclesOf x earlier) (row ∷ later))
 
 -- D3: the receiver's settings
 abbrev pub receiverSettings : Link → Settings
 receiverSettings x = record { k = x .k; n = x .n; Q = x .Q }
 
--- D3: what is promised of the rules' step
+-- D3: what is promised of the rules
 abbrev pub Demand3Holds : Type 0
-Demand3Holds = (x : Link) → Fitting x → Demand3 x (next (receiverSettings x))
+Demand3Holds = (x : Link) → Fitting x → Demand3 x (reports (receiverSettings x) fresh 0)
 
 -- D14: What demand 3 takes for granted. Q reads lie within each lead, and each last sample is a read; a lead quiet that
 -- is read wholly after the stretch is heard after it, and the last samples from its row on are read after that, so

@@ -1,119 +1,132 @@
--- The user's demands 1, 2 and 3 in order, each over the definitions that the operations' contracts cite. That every
--- call ends is not stated here: the prover shows it of each function by itself.
-use Prim.Native.Nat.{ℕ, _+_, _-_, _≤_}
+-- The user's demands 1, 2 and 3, in order. Each line speaks of the definition that the operation's own contract cites,
+-- as ByContract says of each. That every call ends is not stated: the prover shows it of each function by itself.
+use Prim.Native.Nat.{ℕ}
 use mathlib.Core.Path.{_≡_}
-use mathlib.Core.Bool.{Bool, true, false}
-use mathlib.Core.List.{List, [], _∷_, _++_}
-use lib.Dec.{eqb}
-use lib.ListN.{length, take}
-use Rattle.measure.specs.Choose.{choose}
+use mathlib.Core.Bool.{true}
+use mathlib.Core.List.{List, [], _∷_}
+use denote.Ref.{RefT, now}
+use lib.ListN.{length}
 use Rattle.measure.specs.Ranges.{settingsFit}
-use Rattle.measure.specs.Refusals.{Answer, given, refused, refusedAfter, lent}
+use Rattle.measure.specs.Lists.{onto}
+use Rattle.measure.specs.Refusals.{given, refused, lent}
 use Rattle.settings.specs.Answers.{judgement, quietJudgement}
-use Rattle.sender.specs.Sending.{Row}
+use Rattle.sender.specs.Sending.{wave, planWave, rowsOf}
 use Rattle.sender.specs.Answers.{sentMessage, sentPlan}
+use Rattle.line.specs.Smooth.{smooth as smoothing}
+use Rattle.line.specs.Warp.{warp as warping}
+use Rattle.line.specs.Settle.{settle as settling}
+use Rattle.line.specs.Sharing.{WarpLawsHold}
 use Rattle.line.specs.Answers.{smoothed, warped, settled}
 use Rattle.counted.specs.Counted.{counted}
-use Rattle.counted.specs.Answers.{countedBits}
+use Rattle.counted.specs.Answers.{found, countedBits}
+use Rattle.board.specs.Rows.{Settings, nothing, fresh as freshState, next as nextState}
+use Rattle.board.specs.Feeding.{reports as reportsOf}
+use Rattle.board.specs.Packed.{settingsOf, stateOf, receiverOf}
+use Rattle.board.specs.EveryStep.{EveryStep}
+use Rattle.board.specs.Answers.{reached, refusing, begun, stepped, levelsOf, toEvent, listened}
 use Rattle.board.specs.declared.Receiver.{Receiver}
-use Rattle.board.specs.Feeding.{Report}
-use Rattle.board.specs.Answers.{Outcome, begun, stepped, listened}
+use Rattle.capture.specs.Numbers.{numberAt}
 use Rattle.capture.specs.Capture.{header}
-use Rattle.capture.specs.Answers.{checked, readBack, written}
+use Rattle.capture.specs.Writing.{captureOf}
+use Rattle.capture.specs.Held.{begun as begunReader, advanced}
+use Rattle.capture.specs.Answers.{summary, checked, readBack, written}
 use Rattle.capture.specs.RoundTrips.{WrittenReadsBack, ReadWritesBack}
-use Rattle.measure.specs.Levels.{Levels}
-use Rattle.promises.specs.Places.{Link, planReads, cyclesOf, heard, deliveries}
-use Rattle.promises.specs.Replaced.{damaged, WhollyAfter, below, above, moved}
-use Rattle.promises.specs.Demand3.{Fitting, Demand3Holds, GroundsHold}
-use Rattle.promises.specs.OneByOne.{answers, reported, OperationReports}
-use Rattle.promises.specs.Operations.{Leaves, OperationsLeave}
+use Rattle.capture.specs.declared.held.CaptureReader.{CaptureReader}
+use Rattle.promises.specs.GoodInput as Good
+use Rattle.promises.specs.Promised.{Answered, Tells, Fills, judged as judgedSettings, quietJudged, unstarted}
+use Rattle.promises.specs.Promised.{room}
+use Rattle.promises.specs.ByContract.{ByContract}
+use Rattle.promises.specs.FromC.{Demand1FromC}
+use Rattle.promises.specs.CountedReturns.{OperationReturns}
+use Rattle.promises.specs.Places.{Link}
+use Rattle.promises.specs.Demand3.{Fitting, receiverSettings, Demand3, Demand3Holds, GroundsHold}
+use Rattle.promises.specs.Hearing.{Caller, hearing, Hears}
+use Rattle.promises.specs.WholeWay.{AcceptedFits, WholeWayHolds}
 
--- D1: a number is one of these
-unfoldable pub oneOf : ℕ → List ℕ → Bool
-oneOf number [] = false
-oneOf number (one ∷ more) = choose (eqb number one) true (oneOf number more)
-
--- D1: an answer refuses, if it does, by one of these numbers
-unfoldable pub RefusesBy : {A : Type 0} → List ℕ → Answer A → Type 0
-RefusesBy numbers (given result) = Unit {0}
-RefusesBy numbers (refused number place) = oneOf number numbers ≡ true
-RefusesBy numbers (refusedAfter number place count) = ⊥
-
--- D1, R30: and leaves what was lent; refusal 5, which tells how many bits were found, leaves these bits, and is spoken
--- of with demand 2
-unfoldable pub Refuses : {A B : Type 0} → List ℕ → B → Answer A × B → Type 0
-Refuses numbers lent (given result, left) = Unit {0}
-Refuses numbers lent (refused number place, left) = (oneOf number numbers ≡ true) × (left ≡ lent)
-Refuses numbers lent (refusedAfter number place count, left) = number ≡ 5
-
--- D1, R30: a receiver that is given reads
-abbrev pub RefusesReads : List ℕ → Receiver → Outcome → Type 0
-RefusesReads numbers receiver outcome = Refuses numbers receiver (outcome .answer, outcome .receiver)
-
--- R33: what a refused start hands back: hunting, and all numbers 0
-abbrev pub unstarted : Receiver
-unstarted = begun 0 0 0 .1
-
--- D1: Demand 1: whatever comes in is answered, and what is bad is refused by number and leaves what was lent. When
--- exactly which number is given, the definitions say.
+-- Demand 1: whatever comes in is answered. Good input gets its very result, and every lent entry past it is as it was.
+-- Bad input is refused by the first test of 01's table that it fails, with its number and its place, and all that was
+-- lent is as it was. GoodInput lists the tests.
 pub record Demand1 : Type 0 where
-  pub judge : (a b k w r : ℕ) → RefusesBy (1 ∷ []) (judgement a b k w r)
-  pub judge-quiet : (a b k w r Q p1 : ℕ) → RefusesBy (1 ∷ []) (quietJudgement a b k w r Q p1)
+  pub judge : (a b k w r : ℕ) → Tells (Good.judge a b k w r) (judgedSettings a b k w r) (judgement a b k w r)
+  pub judge-quiet : (a b k w r Q p1 : ℕ)
+      → Tells (Good.judgeQuiet a b k w r Q p1) (quietJudged a b k w r Q p1) (quietJudgement a b k w r Q p1)
   pub send : (a b p1 p2 : ℕ) (bits output : List ℕ)
-      → Refuses (1 ∷ 3 ∷ 2 ∷ 4 ∷ []) output (sentMessage a b p1 p2 bits output)
+      → Fills (Good.send a b p1 p2 bits output) (wave a b p1 p2 bits) output (sentMessage a b p1 p2 bits output)
   pub send-plan : (a b n : ℕ) (leads trails bits output : List ℕ)
-      → Refuses (1 ∷ 3 ∷ 2 ∷ 4 ∷ []) output (sentPlan a b n leads trails bits output)
-  pub smooth : (wave output : List ℕ) → Refuses (3 ∷ 2 ∷ 4 ∷ []) output (smoothed wave output)
-  pub warp : (w r p : ℕ) (wave output : List ℕ) → Refuses (1 ∷ 3 ∷ 2 ∷ 4 ∷ []) output (warped w r p wave output)
-  pub settle : (reads choices output : List ℕ) → Refuses (3 ∷ 2 ∷ 4 ∷ []) output (settled reads choices output)
+      → Fills (Good.sendPlan a b n leads trails bits output) (planWave a b (rowsOf n leads trails bits)) output
+      (sentPlan a b n leads trails bits output)
+  pub smooth : (wave output : List ℕ) → Fills (Good.smooth wave output) (smoothing wave) output (smoothed wave output)
+  pub warp : (w r p : ℕ) (wave output : List ℕ)
+      → Fills (Good.warp w r p wave output) (warping w r p wave) output (warped w r p wave output)
+  pub settle : (reads choices output : List ℕ)
+      → Fills (Good.settle reads choices output) (settling reads choices) output (settled reads choices output)
+  -- refusal 5 is the counted receiver's alone: `found` gives it with the bits that there are
   pub count-bits : (k n level : ℕ) (reads output : List ℕ)
-      → Refuses (1 ∷ 3 ∷ 2 ∷ 4 ∷ []) output (countedBits k n level reads output)
-  pub fresh : (k n Q : ℕ) → Refuses (1 ∷ []) unstarted (begun k n Q)
-  pub step : (receiver : Receiver) (read : ℕ) → RefusesReads (1 ∷ 2 ∷ []) receiver (stepped receiver read)
-  pub listen : (receiver : Receiver) (reads : List ℕ)
-      → RefusesReads (1 ∷ 3 ∷ 2 ∷ []) receiver (listened receiver reads .0)
-  pub read-header : (bytes : List ℕ) → RefusesBy (3 ∷ 6 ∷ 7 ∷ 8 ∷ []) (header bytes)
-  pub check : (bytes : List ℕ) → RefusesBy (3 ∷ 6 ∷ 7 ∷ 8 ∷ []) (checked bytes)
-  pub read-capture : (bytes output : List ℕ) → Refuses (3 ∷ 6 ∷ 7 ∷ 8 ∷ 4 ∷ []) output (readBack bytes output)
+      → Answered (Good.countBits k n level reads output) (countedBits k n level reads output)
+      (found n (counted k n level reads) output) (λ number place. (refused number place, output))
+  pub fresh : (k n Q : ℕ)
+      → Answered (Good.fresh k n Q) (begun k n Q)
+      (given nothing, receiverOf (record { k = k; n = n; Q = Q }) freshState)
+      (λ number place. (refused number place, unstarted))
+  pub step : (x : Receiver) (read : ℕ)
+      → let moved = nextState (settingsOf x) (stateOf x) read in
+      Answered (Good.step x read) (stepped x read) (reached (settingsOf x) (moved .state) (moved .event)) (refusing x)
+  pub listen : (x : Receiver) (reads : List ℕ)
+      → let told = reportsOf (settingsOf x) (stateOf x) 0 (levelsOf reads) in
+      Answered (Good.listen x reads) (listened x reads) (toEvent (settingsOf x) (stateOf x) (levelsOf reads) told)
+      (λ number place. (refusing x number place, 0))
+  -- the held reader: at the first byte of what is lent, the number at its place `at`, and past that number
+  pub held-new : (bytes : RefT (List ℕ)) → begunReader bytes ≡ record { src = bytes; at = 0 }
+  pub held-next : (x : CaptureReader)
+      → let bytes = now (x .src) in
+      Tells (Good.number bytes (x .at))
+      (record { value = Good.valueOf (Good.at bytes (x .at)); after = Good.next bytes (x .at) })
+      (numberAt bytes (x .at))
+  pub held-advance : (x : CaptureReader)
+      → let bytes = now (x .src) in
+      Answered (Good.number bytes (x .at)) (advanced x) (record { src = x .src; at = Good.next bytes (x .at) })
+      (λ number place. x)
+  pub read-header : (bytes : List ℕ) → Tells (Good.header bytes) (Good.heading bytes) (header bytes)
+  pub check : (bytes : List ℕ) → Tells (Good.capture bytes) (summary (Good.captured bytes)) (checked bytes)
+  pub read-capture : (bytes output : List ℕ)
+      → Answered (Good.readCapture bytes output) (readBack bytes output)
+      (given (summary (Good.captured bytes)), onto (Good.readsIn bytes) output)
+      (λ number place. (refused number place, output))
   pub write-capture : (k n Q : ℕ) (reads output : List ℕ)
-      → Refuses (1 ∷ 3 ∷ 2 ∷ 4 ∷ []) output (written k n Q reads output)
-  pub put-line : (line output : List ℕ) → Refuses (4 ∷ []) output (lent line output)
+      → Fills (Good.writeCapture k n Q reads output) (captureOf k n Q reads) output (written k n Q reads output)
+  pub put-line : (line output : List ℕ) → Fills (room (length line) output ∷ []) line output (lent line output)
 
--- D2: Demand 2: what is sent, what the line makes of it and what is received are the very lists and reports of the
--- definitions, and captures go both ways.
+-- Demand 2: what goes over the line is what 01's rules make of it, from the sender to the receivers and to a capture.
 pub record Demand2 : Type 0 where
-  pub sends-and-passes : OperationsLeave
-  pub counts : (k n level : ℕ) (reads output : List ℕ)
-      → Leaves (countedBits k n level reads output) (counted k n level reads)
-  pub counts-until-the-end : (k n level : ℕ) (reads output : List ℕ) (place count : ℕ) (left : List ℕ)
-      → countedBits k n level reads output ≡ (refusedAfter 5 place count, left)
-      → take count left ≡ counted k n level reads
-  pub reports : OperationReports
+  -- what a read looks at, and how many reads there are
+  pub line : WarpLawsHold
+  -- accepted receiverSettings return every message
+  pub counts : OperationReturns
+  -- every step gives a well formed state; and the row receiver hears what the rules hear, whatever comes in, one read a
+  -- call or a list a call, in Rust and from C
+  pub well-formed : EveryStep
+  pub hears : (g : Settings) → settingsFit (g .k) (g .n) (g .Q) ≡ true → (caller : Caller) → Hears g (hearing caller g)
+  -- captures both ways
   pub reads-back : WrittenReadsBack
   pub writes-back : ReadWritesBack
 
--- D10: what the receiver's operation, made fresh with a link's settings and given one read a call, reports
-abbrev pub reportsOf : Link → List ℕ → List Report
-reportsOf x reads = reported 0 (answers (begun (x .k) (x .n) (x .Q) .1) reads)
-
--- D16, D17: demand 3 of these reports, for reads that are levels
-pub record OfTheOperation (x : Link) : Type 0 where
-  pub before : (i j : ℕ) (junk : List ℕ) → Levels junk → i ≤ j → j ≤ length (planReads x)
-      → below i (reportsOf x (damaged x i j junk)) ≡ below i (deliveries x 0 (x .rows))
-  pub after : (i j : ℕ) (junk : List ℕ) → Levels junk → i ≤ j → j ≤ length (planReads x)
-      → (earlier : List Row) (row : Row) (later : List Row) → x .rows ≡ earlier ++ row ∷ later
-      → WhollyAfter x (cyclesOf x earlier) row j
-      → above (i + length junk + (heard x (cyclesOf x earlier) row - j)) (reportsOf x (damaged x i j junk))
-      ≡ moved i j junk (deliveries x (cyclesOf x earlier) (row ∷ later))
-
--- D3: Demand 3: of the rules, with its grounds, and of the operation.
+-- Demand 3: each row of a plan is delivered once and in order; and where a stretch of reads is replaced by any others,
+-- each row again from the next lead quiet that is heard. It holds of the rules, with its grounds, and of every caller:
+-- of `step` with one read a call, of `listen` with a list a call, and of both from C.
 pub record Demand3Met : Type 0 where
   pub of-the-rules : Demand3Holds
   pub grounds : GroundsHold
-  pub of-the-operation : (x : Link) → Fitting x → settingsFit (x .k) (x .n) (x .Q) ≡ true → OfTheOperation x
+  pub of-every-caller : (x : Link) → Fitting x → settingsFit (x .k) (x .n) (x .Q) ≡ true → (caller : Caller)
+      → Demand3 x (hearing caller (receiverSettings x))
+  -- a yes of the quiet judge for each row's lead is what is asked of the receiverSettings; and from the lent lists of a plan to
+  -- the delivered rows, call after call
+  pub judged : AcceptedFits
+  pub whole-way : WholeWayHolds
 
--- D1 to D3: the three
+-- what the contracts say, and the three demands, the first also of the fifteen entry points for C
 pub record Demands : Type 0 where
+  pub contracts : ByContract
   pub demand-1 : Demand1
+  pub demand-1-from-c : Demand1FromC
   pub demand-2 : Demand2
   pub demand-3 : Demand3Met

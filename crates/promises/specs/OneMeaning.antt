@@ -1,83 +1,109 @@
--- Rules D30 to D34: no promise leaves room for two results.
--- Each promise is an equation: on the left the operation's definition, on the right what its answer tells and what it
--- leaves. Here they stand one by one.
-use Prim.Native.Nat.{ℕ}
+-- 01, "Holding the promises to one meaning": no contract leaves room for two results. Each line is about the contract
+-- itself, as the function's crate passes it on: `Post` is its whole `ensures`, `Asked` its `requires`, and `ended` its
+-- parameters. The gate fails for a public function that no line here names (.ci/one-meaning).
 use mathlib.Core.Path.{_≡_}
 use mathlib.Core.List.{List}
-use lib.ListN.{take}
-use Rattle.measure.specs.declared.Refusal.{Refusal}
+use Prim.Native.Nat.{ℕ}
+use contract.Lifetimes.{Lfts}
 use denote.Ref.{RefT}
-use Rattle.measure.specs.Choose.{between as isBetween}
-use Rattle.measure.specs.Ranges.{settingsFit}
-use Rattle.measure.specs.Lists.{firstAbove}
-use Rattle.measure.specs.Refusals.{lent, numberOf, placeOf}
-use Rattle.settings.specs.Answers.{judgement, judgedSays, quietJudgement, quietJudgedSays}
-use Rattle.sender.specs.Answers.{sentMessage, sentPlan, sentSays}
-use Rattle.line.specs.Answers.{smoothed, smoothedSays, warped, settled, readSays}
-use Rattle.counted.specs.Answers.{countedBits, countedSays}
-use Rattle.board.specs.declared.Receiver.{Receiver}
-use Rattle.board.specs.Rows.{row, broken}
-use Rattle.board.specs.Packed.{unpacked}
-use Rattle.board.specs.WellFormed.{wellFormed}
-use Rattle.board.specs.Answers.{begun, startSays, stepped, steppedSays, listened, listenedSays}
+use denote.Triple.Entry.{Args, Res}
+use denote.Triple.Clauses.{Ended, Lasts, AtExit, atExit}
 use Rattle.capture.specs.Numbers.{numberAt}
-use Rattle.capture.specs.Capture.{header}
+use Rattle.capture.specs.Held.{begun, advanced}
+use Rattle.capture.specs.Answers.{numberSays}
+use Rattle.capture.specs.declared.Number.{Number}
 use Rattle.capture.specs.declared.held.CaptureReader.{CaptureReader}
-use Rattle.capture.specs.Held.{begunReader, advanced}
-use Rattle.capture.specs.Answers.{numberSays, headSays, checked, readBack, checkedSays, written, writtenSays}
-use Rattle.page.specs.Lines.{headingLine, eventLine, endLine, refusedLine}
-use Rattle.page.specs.Answers.{putSays}
+use Rattle.measure.proofs as Measure
+use Rattle.settings.proofs as Settings
+use Rattle.sender.proofs as Sender
+use Rattle.line.proofs as Line
+use Rattle.counted.proofs as Counted
+use Rattle.board.proofs as Board
+use Rattle.capture.proofs as Capture
+use Rattle.page.proofs as Page
+use Rattle.siengulot.proofs as C
 
--- D31: one answer tells what is defined: any two are equal
-abbrev pub One : {X Y : Type 0} → (X → Y) → Y → Type 0
-One {X} told defined = (x y : X) → defined ≡ told x → defined ≡ told y → x ≡ y
+-- what a contract asks of a call's arguments
+abbrev pub Asking : Ended → Type 1
+Asking function = (κs : Lfts (function .signature .lifetimes)) → Args (function .signature) κs → Type 0
 
--- D31: what is given is what is defined: any two are equal
-abbrev pub Only : {X : Type 0} → X → Type 0
-Only {X} defined = (x y : X) → x ≡ defined → y ≡ defined → x ≡ y
+-- what a contract says of a call: of its arguments, its result, and what is left when it returns
+abbrev pub Clause : Ended → Type 1
+Clause function =
+    (κs : Lfts (function .signature .lifetimes)) → Args (function .signature) κs → Res (function .signature) κs
+    → AtExit function κs → Type 0
 
--- D31: and so are two answers with what each leaves in a lent output, or with the receiver that it hands back
-abbrev pub OneLeft : {X Y Z : Type 0} → (X → Y) → Y × Z → Type 0
-OneLeft {X} {Y} {Z} told defined =
-    (x y : X) (left right : Z) → defined ≡ (told x, left) → defined ≡ (told y, right) → (x ≡ y) × (left ≡ right)
+-- One meaning, for all input: nothing is asked of the caller; and two ends of one call that both satisfy the contract
+-- are the same, so the results are equal, and so is what is left behind each `&mut` that was passed.
+pub record One (function : Ended) (asked : Asking function) (clause : Clause function) : Type 0 where
+  pub always : (κs : Lfts (function .signature .lifetimes)) (a : Args (function .signature) κs) → asked κs a
+  pub once : (κs : Lfts (function .signature .lifetimes)) (a : Args (function .signature) κs)
+      (x y : Res (function .signature) κs) (left right : Lasts function κs a)
+      → clause κs a x (atExit function κs a left) → clause κs a y (atExit function κs a right)
+      → (x ≡ y) × (left ≡ right)
 
--- D31
-pub record OneMeaning : Type 1 where
-  pub judge : (a b k w r : ℕ) → One judgedSays (judgement a b k w r)
-  pub judge-quiet : (a b k w r Q p1 : ℕ) → One quietJudgedSays (quietJudgement a b k w r Q p1)
-  pub send : (a b p1 p2 : ℕ) (bits output : List ℕ) → OneLeft sentSays (sentMessage a b p1 p2 bits output)
-  pub send-plan : (a b n : ℕ) (leads trails bits output : List ℕ)
-      → OneLeft sentSays (sentPlan a b n leads trails bits output)
-  pub smooth : (wave output : List ℕ) → OneLeft smoothedSays (smoothed wave output)
-  pub warp : (w r p : ℕ) (wave output : List ℕ) → OneLeft readSays (warped w r p wave output)
-  pub settle : (reads choices output : List ℕ) → OneLeft readSays (settled reads choices output)
-  pub count-bits : (k n level : ℕ) (reads output : List ℕ) → OneLeft countedSays (countedBits k n level reads output)
-  pub fresh : (k n Q : ℕ) → OneLeft startSays (begun k n Q)
-  pub step : (receiver : Receiver) (read : ℕ) → One steppedSays (stepped receiver read)
-  pub listen : (receiver : Receiver) (reads : List ℕ) → One listenedSays (listened receiver reads)
-  -- the held reader's next
-  pub next : (bytes : List ℕ) (at : ℕ) → One numberSays (numberAt bytes at)
-  pub read-header : (bytes : List ℕ) → One headSays (header bytes)
-  pub check : (bytes : List ℕ) → One checkedSays (checked bytes)
-  pub read-capture : (bytes output : List ℕ) → OneLeft checkedSays (readBack bytes output)
-  pub write-capture : (k n Q : ℕ) (reads output : List ℕ) → OneLeft writtenSays (written k n Q reads output)
-  pub put-heading : (output : List ℕ) → OneLeft putSays (lent headingLine output)
-  pub put-row : (place n : ℕ) (bits output : List ℕ)
-      → OneLeft putSays (lent (eventLine place (row (take n (unpacked 8 bits)))) output)
-  pub put-broken : (place found : ℕ) (output : List ℕ) → OneLeft putSays (lent (eventLine place (broken found)) output)
-  pub put-end : (reads rows : ℕ) (output : List ℕ) → OneLeft putSays (lent (endLine reads rows) output)
-  pub put-refused : (refusal : Refusal) (output : List ℕ)
-      → OneLeft putSays (lent (refusedLine (numberOf refusal) (placeOf refusal)) output)
-  -- promises of the very thing given: those of `measure`, a receiver's well_formed, the held reader's new, advance and
-  -- place
-  pub number : (refusal : Refusal) → Only (numberOf refusal)
-  pub place : (refusal : Refusal) → Only (placeOf refusal)
-  pub between : (least most x : ℕ) → Only (isBetween least most x)
-  pub settings-fit : (k n Q : ℕ) → Only (settingsFit k n Q)
-  pub first-above : (most : ℕ) (entries : List ℕ) → Only (firstAbove most entries)
-  pub well-formed : (receiver : Receiver) → Only (wellFormed receiver)
-  pub held-new : (bytes : RefT (List ℕ)) → Only (begunReader bytes)
-  pub held-advance : (reader : CaptureReader) → Only (advanced reader)
-  pub held-place : (reader : CaptureReader) → Only (reader .at)
-  -- and each C entry point's, which is a number, with lent numbers and lists
-  pub entry-points : {X : Type 0} (defined : X) → Only defined
+pub record OneMeaning : Type 0 where
+  -- measure
+  pub number : One Measure.number.ended Measure.number.Reads.Asked Measure.number.Reads.Post
+  pub place : One Measure.place.ended Measure.place.Reads.Asked Measure.place.Reads.Post
+  pub between : One Measure.between.ended Measure.between.Reads.Asked Measure.between.Reads.Post
+  pub settings-fit : One Measure.settings_fit.ended Measure.settings_fit.Reads.Asked Measure.settings_fit.Reads.Post
+  pub first-above : One Measure.first_above.ended Measure.first_above.Reads.Asked Measure.first_above.Reads.Post
+  -- settings
+  pub judge : One Settings.judge.ended Settings.judge.Reads.Asked Settings.judge.Reads.Post
+  pub judge-quiet : One Settings.judge_quiet.ended Settings.judge_quiet.Reads.Asked Settings.judge_quiet.Reads.Post
+  -- sender
+  pub send : One Sender.send.ended Sender.send.Reads.Asked Sender.send.Reads.Post
+  pub send-plan : One Sender.send_plan.ended Sender.send_plan.Reads.Asked Sender.send_plan.Reads.Post
+  -- line
+  pub smooth : One Line.smooth.ended Line.smooth.Reads.Asked Line.smooth.Reads.Post
+  pub warp : One Line.warp.ended Line.warp.Reads.Asked Line.warp.Reads.Post
+  pub settle : One Line.settle.ended Line.settle.Reads.Asked Line.settle.Reads.Post
+  -- counted
+  pub count-bits : One Counted.count_bits.ended Counted.count_bits.Reads.Asked Counted.count_bits.Reads.Post
+  -- board
+  pub fresh : One Board.Receiver.fresh.ended Board.Receiver.fresh.Reads.Asked Board.Receiver.fresh.Reads.Post
+  pub well-formed :
+      One Board.Receiver.well_formed.ended Board.Receiver.well_formed.Reads.Asked Board.Receiver.well_formed.Reads.Post
+  pub step : One Board.Receiver.step.ended Board.Receiver.step.Reads.Asked Board.Receiver.step.Reads.Post
+  pub listen : One Board.Receiver.listen.ended Board.Receiver.listen.Reads.Asked Board.Receiver.listen.Reads.Post
+  -- capture
+  pub read-header : One Capture.read_header.ended Capture.read_header.Reads.Asked Capture.read_header.Reads.Post
+  pub check : One Capture.check.ended Capture.check.Reads.Asked Capture.check.Reads.Post
+  pub read-capture : One Capture.read_capture.ended Capture.read_capture.Reads.Asked Capture.read_capture.Reads.Post
+  pub write-capture : One Capture.write_capture.ended Capture.write_capture.Reads.Asked Capture.write_capture.Reads.Post
+  -- page
+  pub put-heading : One Page.put_heading.ended Page.put_heading.Reads.Asked Page.put_heading.Reads.Post
+  pub put-row : One Page.put_row.ended Page.put_row.Reads.Asked Page.put_row.Reads.Post
+  pub put-broken : One Page.put_broken.ended Page.put_broken.Reads.Asked Page.put_broken.Reads.Post
+  pub put-end : One Page.put_end.ended Page.put_end.Reads.Asked Page.put_end.Reads.Post
+  pub put-refused : One Page.put_refused.ended Page.put_refused.Reads.Asked Page.put_refused.Reads.Post
+  -- the entry points for C
+  pub siengulot-judge : One C.siengulot_judge.ended C.siengulot_judge.Reads.Asked C.siengulot_judge.Reads.Post
+  pub siengulot-judge-quiet :
+      One C.siengulot_judge_quiet.ended C.siengulot_judge_quiet.Reads.Asked C.siengulot_judge_quiet.Reads.Post
+  pub siengulot-send : One C.siengulot_send.ended C.siengulot_send.Reads.Asked C.siengulot_send.Reads.Post
+  pub siengulot-plan : One C.siengulot_plan.ended C.siengulot_plan.Reads.Asked C.siengulot_plan.Reads.Post
+  pub siengulot-smooth : One C.siengulot_smooth.ended C.siengulot_smooth.Reads.Asked C.siengulot_smooth.Reads.Post
+  pub siengulot-warp : One C.siengulot_warp.ended C.siengulot_warp.Reads.Asked C.siengulot_warp.Reads.Post
+  pub siengulot-settle : One C.siengulot_settle.ended C.siengulot_settle.Reads.Asked C.siengulot_settle.Reads.Post
+  pub siengulot-counted : One C.siengulot_counted.ended C.siengulot_counted.Reads.Asked C.siengulot_counted.Reads.Post
+  pub siengulot-fresh : One C.siengulot_fresh.ended C.siengulot_fresh.Reads.Asked C.siengulot_fresh.Reads.Post
+  pub siengulot-well-formed :
+      One C.siengulot_well_formed.ended C.siengulot_well_formed.Reads.Asked C.siengulot_well_formed.Reads.Post
+  pub siengulot-step : One C.siengulot_step.ended C.siengulot_step.Reads.Asked C.siengulot_step.Reads.Post
+  pub siengulot-listen : One C.siengulot_listen.ended C.siengulot_listen.Reads.Asked C.siengulot_listen.Reads.Post
+  pub siengulot-capture-check :
+      One C.siengulot_capture_check.ended C.siengulot_capture_check.Reads.Asked C.siengulot_capture_check.Reads.Post
+  pub siengulot-capture-read :
+      One C.siengulot_capture_read.ended C.siengulot_capture_read.Reads.Asked C.siengulot_capture_read.Reads.Post
+  pub siengulot-capture-write :
+      One C.siengulot_capture_write.ended C.siengulot_capture_write.Reads.Asked C.siengulot_capture_write.Reads.Post
+  -- The exceptions: the held reader's `capture::held::new`, `capture::held::place`, `capture::held::next` and
+  -- `capture::held::advance` take or hand on a struct that holds a reference. They are proved by hand, and for such a
+  -- function the check makes no clause that others can name. These lines repeat their equations.
+  pub held-new : (bytes : RefT (List ℕ)) (x y : CaptureReader) → x ≡ begun bytes → y ≡ begun bytes → x ≡ y
+  pub held-place : (reader : CaptureReader) (x y : ℕ) → x ≡ reader .at → y ≡ reader .at → x ≡ y
+  pub held-next : (bytes : List ℕ) (at : ℕ) (x y : Number) → numberAt bytes at ≡ numberSays x
+      → numberAt bytes at ≡ numberSays y → x ≡ y
+  pub held-advance : (reader x y : CaptureReader) → x ≡ advanced reader → y ≡ advanced reader → x ≡ y

@@ -5,8 +5,8 @@ use mathlib.Core.Path.{_≡_}
 use mathlib.Core.List.{List, [], _∷_, _++_}
 use lib.ListN.{replicate}
 use Rattle.sender.specs.Sending.{Row}
-use Rattle.board.specs.Rows.{Event, row, broken, fresh, next}
-use Rattle.board.specs.Feeding.{Report, reportsBy}
+use Rattle.board.specs.Rows.{Event, row, broken, fresh}
+use Rattle.board.specs.Feeding.{Report, reports as reportsOf}
 use Rattle.promises.specs.Places.{Link, cyclesOf, heard, deliveries}
 use Rattle.promises.specs.Replaced.{WhollyAfter, damaged, below, above}
 use Rattle.promises.specs.Demand3.{Fitting, Demand3, receiverSettings}
@@ -41,7 +41,7 @@ false-quiet = replicate 21 1 ++ replicate 3 0
 
 -- reads 54 up to 58 replaced; read 58 is the first that shares time with the second row's lead
 abbrev pub damagedReports : List Report
-damagedReports = reportsBy (next (receiverSettings p10)) fresh 0 (damaged p10 54 58 false-quiet)
+damagedReports = reportsOf (receiverSettings p10) fresh 0 (damaged p10 54 58 false-quiet)
 
 abbrev at : (place : ℕ) (event : Event) → Report
 at place event = record { place = place; event = event }
@@ -50,7 +50,7 @@ at place event = record { place = place; event = event }
 pub record Tried : Type 0 where
   -- the hypotheses are met, so demand 3 holds here
   pub fits : Fitting p10
-  pub demand : Demand3 p10 (next (receiverSettings p10))
+  pub demand : Demand3 p10 (reportsOf (receiverSettings p10) fresh 0)
   pub wholly : WhollyAfter p10 (cyclesOf p10 (first ∷ [])) second 58
   -- the places that it speaks of: the last samples, and the read with which the second lead quiet has been heard
   pub samples : deliveries p10 0 (first ∷ second ∷ []) ≡ at 51 (row (1 ∷ 0 ∷ [])) ∷ at 111 (row (0 ∷ 1 ∷ [])) ∷ []

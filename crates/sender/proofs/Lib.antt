@@ -5,3 +5,4 @@ pub mod Cells
 pub mod Plans
 pub mod Waves
 pub mod PlanWaves
+pub mod PlanRows

@@ -1,6 +1,6 @@
 -- `held::new` meets its contract: a reader is made of the bytes lent and 0, in the result's local.
--- A walk of its code, by hand. A `&[u8]` is Copy, so what it owns can be used twice: once at exit, and once inside the
--- reader.
+-- A walk of its code, by hand. A `&[u8]` is Copy, so what it owns can be used twice: once at exit, and once
+-- inside the reader.
 use mathlib.Core.Path.{refl}
 use Prim.Native.Nat.{ℕ}
 use mathlib.Core.List.{List, [], _∷_}

@@ -1,0 +1,122 @@
+-- Each operation makes its tests in the order of the table, so each line of demand 1 is read off its definition.
+use mathlib.Core.Path.{refl, sym}
+use mathlib.Core.Bool.{Bool, true, false, _&&_, false≢true}
+use mathlib.Core.List.{[], _∷_}
+use denote.Ref.{now}
+use lib.Dec.{leb}
+use Rattle.measure.specs.Ranges.{subcell, sampling, quiet, padMost, bitsMost, rowBits, rowsMost, entriesMost}
+use Rattle.measure.specs.Ranges.{settingsFit}
+use Rattle.measure.specs.Refusals.{given, lent}
+use Rattle.settings.specs.Answers.{inRange, judgement, quietJudgement}
+use Rattle.sender.specs.Sending.{wave, planWave, rowsOf}
+use Rattle.sender.specs.Answers.{sentMessage, sentPlan, fitting, padded}
+use Rattle.line.specs.Smooth.{smooth as smoothing}
+use Rattle.line.specs.Warp.{warp as warping}
+use Rattle.line.specs.Settle.{settle as settling}
+use Rattle.line.specs.Answers.{smoothed, warped, settled, timed}
+use Rattle.counted.specs.Answers.{countedBits}
+use Rattle.board.specs.Packed.{number, packed}
+use Rattle.board.specs.WellFormed.{wellFormed}
+use Rattle.board.specs.Answers.{begun, stepped, listened}
+use Rattle.capture.specs.Writing.{captureOf}
+use Rattle.capture.specs.Capture.{then}
+use Rattle.capture.specs.Held.{placeAfter}
+use Rattle.capture.specs.Answers.{summary, checked, readBack, written}
+use Rattle.siengulot.specs.Crossing.{crossed, crossing, flag, judgedThree, judgedFive, summed}
+use Rattle.siengulot.specs.Receivers.{standing, receiverOf, brought, broughtBy, begunLent, steppedLent, listenedLent}
+use Rattle.siengulot.specs.Receivers.{wellFormedLent}
+use Rattle.promises.specs.Promised.{good, first, Answered, setting, limit, entries, room}
+use Rattle.promises.specs.GoodInput as Good
+use Rattle.promises.specs.FromC.{Demand1FromC}
+use Rattle.promises.specs.Demands.{Demand1}
+use Rattle.promises.proofs.Promised.{done, past, within, across, laid}
+use Rattle.promises.proofs.GoodCaptures.{number-answered, header-answered, capture-answered, read-answered}
+
+pub answered : Demand1
+unfolding judgement quietJudgement sentMessage sentPlan smoothed warped settled countedBits begun stepped listened checked readBack written number packed
+answered = record {
+  judge = λ a b k w r. within (inRange a b k w r) 1 0 (done refl);
+  judge-quiet = λ a b k w r Q p1. within (inRange a b k w r && quiet Q && leb p1 padMost) 1 0 (done refl);
+  send = λ a b p1 p2 bits output.
+      within (subcell a && subcell b && leb p1 padMost && leb p2 padMost) 1 0
+      (past (limit bitsMost bits)
+      (past (limit entriesMost (wave a b p1 p2 bits))
+      (past (entries 1 bits)
+      (laid (wave a b p1 p2 bits) output))));
+  send-plan = λ a b n leads trails bits output.
+      within (subcell a && subcell b && rowBits n && fitting n leads trails bits && padded leads && padded trails) 1 0
+      (past (limit rowsMost leads)
+      (past (limit entriesMost (planWave a b (rowsOf n leads trails bits)))
+      (past (entries 1 bits)
+      (laid (planWave a b (rowsOf n leads trails bits)) output))));
+  smooth = λ levels output.
+      past (limit entriesMost levels) (past (entries 1 levels) (laid (smoothing levels) output));
+  warp = λ w r p levels output.
+      within (timed w r p) 1 0
+      (past (limit entriesMost levels)
+      (past (limit entriesMost (warping w r p levels))
+      (past (entries 2 levels)
+      (laid (warping w r p levels) output))));
+  settle = λ reads choices output.
+      past (limit entriesMost reads)
+      (past (limit entriesMost choices)
+      (past (entries 2 reads)
+      (past (entries 1 choices)
+      (laid (settling reads choices) output))));
+  count-bits = λ k n level reads output.
+      within (sampling k && leb n bitsMost && leb level 1) 1 0
+      (past (limit entriesMost reads)
+      (past (entries 1 reads)
+      (past (room n output) (done refl))));
+  fresh = λ k n Q. within (settingsFit k n Q) 1 0 (done refl);
+  step = λ x read. within (wellFormed x) 1 0 (within (leb read 1) 2 0 (done refl));
+  listen = λ x reads.
+      within (wellFormed x) 1 0
+      (past (limit entriesMost reads) (past (Good.beforeAnyEvent x reads) (done refl)));
+  held-new = λ bytes. refl;
+  held-next = λ x. number-answered (now (x .src)) (x .at);
+  held-advance = λ x.
+      across (λ answer. record { src = x .src; at = placeAfter (x .at) answer })
+      (number-answered (now (x .src)) (x .at));
+  read-header = header-answered;
+  check = λ bytes. across (λ c. then c (λ c. given (summary c))) (capture-answered bytes);
+  read-capture = read-answered;
+  write-capture = λ k n Q reads output.
+      within (settingsFit k n Q) 1 0
+      (past (limit entriesMost reads)
+      (past (entries 1 reads)
+      (laid (captureOf k n Q reads) output)));
+  put-line = laid;
+}
+
+pub answered-from-c : Demand1FromC
+unfolding begun steppedLent listenedLent wellFormedLent number packed good first
+answered-from-c = record {
+  judge = λ a b k w r margins. across (λ answer. judgedThree answer margins) (answered .judge a b k w r);
+  judge-quiet = λ a b k w r Q p1 margins.
+      across (λ answer. judgedFive answer margins) (answered .judge-quiet a b k w r Q p1);
+  send = λ a b p1 p2 bits output. across (crossing crossed) (answered .send a b p1 p2 bits output);
+  plan = λ a b n leads trails bits output.
+      across (crossing crossed) (answered .send-plan a b n leads trails bits output);
+  smooth = λ wave output. across (crossing crossed) (answered .smooth wave output);
+  warp = λ w r p wave output. across (crossing crossed) (answered .warp w r p wave output);
+  settle = λ reads choices output. across (crossing crossed) (answered .settle reads choices output);
+  counted = λ k n level reads output. across (crossing crossed) (answered .count-bits k n level reads output);
+  fresh = λ k n Q. across begunLent (answered .fresh k n Q);
+  well-formed = λ numbers bytes. both (standing numbers) (wellFormed (receiverOf numbers bytes));
+  step = λ lent read.
+      within (standing (lent .numbers)) 1 0
+      (across (brought lent) (answered .step (receiverOf (lent .numbers) (lent .bytes)) read));
+  listen = λ lent reads.
+      within (standing (lent .numbers)) 1 0
+      (across (broughtBy lent) (answered .listen (receiverOf (lent .numbers) (lent .bytes)) reads));
+  capture-check = λ bytes summary. across (summed summary) (answered .check bytes);
+  capture-read = λ bytes output summary. across (crossing (summed summary)) (answered .read-capture bytes output);
+  capture-write = λ k n Q reads output. across (crossing crossed) (answered .write-capture k n Q reads output);
+}
+  where
+    both : (stands well : Bool)
+        → Answered (setting stands ∷ setting well ∷ []) (flag (stands && well)) 1 (λ number place. 0)
+    both true true = record { gives = λ e. refl; refuses = λ e. absurd (false≢true (sym e)) }
+    both true false = record { gives = λ e. absurd (false≢true e); refuses = λ e. refl }
+    both false well = record { gives = λ e. absurd (false≢true e); refuses = λ e. refl }

@@ -1,0 +1,291 @@
+-- Each call's input is good because of what the call before left, so each gives its very result, and these results are
+-- the lists that demand 3 speaks of; the judge's yes is its margins.
+use Prim.Native.Nat.{ℕ, zero, suc, _*_, _≤_}
+use mathlib.Core.Path.{_≡_, refl, ap, _∙_}
+use mathlib.Core.Bool.{Bool, true, false, _&&_, not}
+use mathlib.Core.List.{List, [], _∷_}
+use native.Mathlib.Omega.{arith}
+use borrow.Author.Tests.{le-leb, le-ltb, lt-ltb, leb-true, eqb-true, ltb-false, not-false}
+use lib.Dec.{eqb, leb}
+use lib.ListN.{length, take, drop, length-take, length-drop}
+use lib.Seq.{take-append-seam}
+use Rattle.measure.specs.Ranges.{subcell, sampling, cycleLength, quiet, padMost, bitsMost, rowBits, entriesMost}
+use Rattle.measure.specs.Ranges.{settingsFit}
+use Rattle.measure.specs.Lists.{someAbove, onto}
+use Rattle.measure.specs.Refusals.{given}
+use Rattle.measure.proofs.Both.{both, both-3}
+use Rattle.measure.proofs.Above.{above-none}
+use Rattle.settings.specs.Margins.{quietAccepted}
+use Rattle.settings.specs.Answers.{inRange, quietJudgement}
+use Rattle.settings.proofs.Inequalities.{Accepted, QuietAccepted, quiet-keeps, m1-met, m2-met, m3-met, m4-met, m5-met}
+use Rattle.sender.specs.Sending.{Row, rowsOf}
+use Rattle.sender.specs.Answers.{fitting, padded}
+use Rattle.sender.proofs.PlanRows.{rows-none, rows-more}
+use Rattle.line.specs.Smooth.{smooth}
+use Rattle.line.specs.Warp.{warp}
+use Rattle.line.specs.Settle.{settle}
+use Rattle.line.specs.Answers.{smoothed, warped, settled, timed}
+use Rattle.line.proofs.Entries.{AtMost}
+use Rattle.line.proofs.SmoothLaws.{length-smooth, smooth-most}
+use Rattle.line.proofs.SettleLaws.{length-settle}
+use Rattle.line.proofs.Clocks.{even-clocks}
+use Rattle.line.proofs.ReadsThere.{reads-most}
+use Rattle.line.proofs.WarpLaws.{warp-by}
+use Rattle.board.specs.Rows.{fresh}
+use Rattle.measure.specs.Levels.{Levels}
+use Rattle.promises.specs.Places.{Link, planReads}
+use Rattle.promises.specs.Demand3.{RowsFit, Fitting, receiverSettings}
+use Rattle.promises.specs.Promised.{good, quietJudged, Tells}
+use Rattle.promises.specs.GoodInput as Good
+use Rattle.promises.specs.Hearing.{hearing}
+use Rattle.promises.specs.WholeWay.{SaysYes, YesForEach, BitsFit, leadsOf, AcceptedFits, linkOf, waveOf, warpedOf}
+use Rattle.promises.specs.WholeWay.{front, sending, smoothing, warping, settling, WholeWayHolds}
+use Rattle.promises.proofs.LevelLists.{most-levels, levels-most, none-above}
+use Rattle.promises.proofs.Sent.{plan-most}
+use Rattle.promises.proofs.Demand3.{timed as timed-reads, whole}
+use Rattle.promises.proofs.Promised.{passes, passing, none-left}
+use Rattle.promises.proofs.Hearing.{heeded-reports}
+use Rattle.promises.proofs.HearingFromC.{every-caller}
+use Rattle.promises.proofs.AnyHearing.{read-levels, any-hearing}
+use Rattle.promises.proofs.SingleCalls.{answered}
+
+-- a yes is that of receiverSettings in range, and of margins that are all zero or more
+pub record Yes (a b k w r Q p1 : ℕ) : Type 0 where
+  pub range : inRange a b k w r ≡ true
+  pub quiet-range : quiet Q ≡ true
+  pub three : Accepted a b k w r
+  pub two : QuietAccepted a b w r Q p1
+
+pub yes-keeps : (a b k w r Q p1 : ℕ) → SaysYes (quietJudgement a b k w r Q p1) → Yes a b k w r Q p1
+yes-keeps a b k w r Q p1 said = go (good (Good.judgeQuiet a b k w r Q p1)) refl
+  where
+    line : Tells (Good.judgeQuiet a b k w r Q p1) (quietJudged a b k w r Q p1) (quietJudgement a b k w r Q p1)
+    line = answered .judge-quiet a b k w r Q p1
+
+    go : (fits : Bool) → good (Good.judgeQuiet a b k w r Q p1) ≡ fits → Yes a b k w r Q p1
+    go true e =
+        let accepts : quietAccepted a b k w r Q p1 ≡ true = rw (line .gives e) at said in
+        let keeps = quiet-keeps a b k w r Q p1 accepts in
+        let ranges = both-3 (inRange a b k w r) (quiet Q) (leb p1 padMost) (not-false _ (passes _ [] e .0)) in
+        record { range = ranges .0; quiet-range = ranges .1; three = keeps .0; two = keeps .1 }
+    go false e = absurd (rw (line .refuses e) at said)
+
+pub accepted-fits : AcceptedFits
+accepted-fits x some all phase bits-some bits choices = go (x .rows) some all
+  where
+    rows-fit : (rows : List Row) → YesForEach x (leadsOf rows) → BitsFit x rows → RowsFit x rows
+    rows-fit [] each bits = tt
+    rows-fit (row ∷ rows) each bits =
+        let keeps = yes-keeps (x .a) (x .b) (x .k) (x .w) (x .r) (x .Q) (row .lead) (each .0) in (
+          bits .0,
+          bits .1,
+          m5-met (row .lead) (x .Q) (x .w) (x .r) ∙ le-leb _ _ (keeps .two .M5),
+          rows-fit rows (each .1) (bits .2),
+        )
+
+    go : (rows : List Row) → 1 ≤ length rows → YesForEach x (leadsOf rows) → Fitting x
+    go [] some each = absurd (omega arith)
+    go (row ∷ rows) some each =
+        let keeps = yes-keeps (x .a) (x .b) (x .k) (x .w) (x .r) (x .Q) (row .lead) (each .0) in
+        record {
+          phase = phase;
+          choices = choices;
+          some-bits = bits-some;
+          rows = rows-fit (x .rows) all bits;
+          m1 = m1-met (x .a) (x .w) (x .r) ∙ le-leb _ _ (keeps .three .M1);
+          m2 = m2-met (x .a) (x .k) (x .w) (x .r) ∙ le-leb _ _ (keeps .three .M2);
+          m3 = m3-met (x .a) (x .b) (x .k) (x .w) (x .r) ∙ le-leb _ _ (keeps .three .M3);
+          m4 = m4-met (x .a) (x .b) (x .Q) (x .w) (x .r) ∙ le-leb _ _ (keeps .two .M4);
+        }
+
+-- a plan's rows
+
+levels-take : (i : ℕ) (list : List ℕ) → Levels list → Levels (take i list)
+levels-take zero list this = tt
+levels-take (suc i) [] this = tt
+levels-take (suc i) (x ∷ list) this = (this .0, levels-take i list (this .1))
+
+levels-drop : (i : ℕ) (list : List ℕ) → Levels list → Levels (drop i list)
+levels-drop zero list this = this
+levels-drop (suc i) [] this = tt
+levels-drop (suc i) (x ∷ list) this = levels-drop i list (this .1)
+
+pub record Plan (x : Link) (leads : List ℕ) (rows : List Row) : Type 0 where
+  pub bits : BitsFit x rows
+  pub same : leadsOf rows ≡ leads
+  pub many : length rows ≡ length leads
+
+plan-of : (x : Link) (leads trails bits : List ℕ) → length trails ≡ length leads → length bits ≡ length leads * x .n
+    → Levels bits → Plan x leads (rowsOf (x .n) leads trails bits)
+plan-of x [] trails bits t h levels = rw (rows-none (x .n) trails bits) (record { bits = tt; same = refl; many = refl })
+plan-of x (p1 ∷ leads) [] bits t h levels = absurd (omega arith)
+plan-of x (p1 ∷ leads) (p2 ∷ trails) bits t h levels =
+    let rest = plan-of x leads trails (drop (x .n) bits) (omega arith) (rw length-drop (omega arith))
+    (levels-drop (x .n) bits levels) in
+    rw (rows-more (x .n) p1 p2 leads trails bits)
+    (record {
+      bits = (omega (arith, length-take (x .n) bits), levels-take (x .n) bits levels, rest .bits);
+      same = ap (λ (l : List ℕ). p1 ∷ l) (rest .same);
+      many = omega (arith, rest .many);
+    })
+
+-- what a call has given stands at the front of what it left
+front-is : (result output : List ℕ) → front (given (length result), onto result output) ≡ result
+front-is result output = take-append-seam result (drop (length result) output)
+
+-- no entry is above the greatest of its kind
+none-bad : (most : ℕ) (list : List ℕ) → AtMost most list → someAbove most list ≡ false
+none-bad most list all = rw (none-above most list all) (le-ltb (length list) (length list) (omega arith))
+
+pub whole-way : WholeWayHolds
+unfolding planReads
+whole-way y within = record {
+  sends = sends;
+  smooths = smooths ∙ ap (λ (n : ℕ). (given n, onto (smooth wave) (y .forSmooth))) (length-smooth wave);
+  warps = warps;
+  settles = settles ∙ ap (λ (n : ℕ). (given n, onto (planReads x) (y .forSettled))) (length-settle reads (y .choices));
+  fits = fits;
+  reads = reads-front;
+  delivers = λ caller.
+      ap (hearing caller (receiverSettings x)) reads-front
+      ∙ every-caller (receiverSettings x) range caller (planReads x)
+      ∙ heeded-reports (receiverSettings x) fresh 0 (planReads x) (read-binary x fits)
+      ∙ whole x fits;
+  recovers = λ caller. any-hearing x fits (hearing caller (receiverSettings x)) (every-caller (receiverSettings x) range caller);
+}
+  where
+    x : Link
+    x = linkOf y
+
+    wave : List ℕ
+    wave = waveOf y
+
+    reads : List ℕ
+    reads = warpedOf y
+
+    -- what the plan's tests say
+    in-range : (subcell (y .a) && subcell (y .b) && rowBits (y .n) && fitting (y .n) (y .leads) (y .trails) (y .bits)
+        && padded (y .leads) && padded (y .trails)) ≡ true
+    in-range = not-false _ (passes _ _ (within .plan) .0)
+
+    few : length wave ≤ entriesMost
+    few = ltb-false _ _ (passes _ _ (passes _ _ (passes _ _ (within .plan) .1) .1) .0)
+
+    bits : Levels (y .bits)
+    bits = levels-most (y .bits)
+        (above-none 1 (y .bits)
+        (ltb-false _ _ (passes _ _ (passes _ _ (passes _ _ (passes _ _ (within .plan) .1) .1) .1) .0)))
+
+    outer : (subcell (y .a) && subcell (y .b) && rowBits (y .n) && fitting (y .n) (y .leads) (y .trails) (y .bits))
+        ≡ true
+    outer =
+        both-3 (subcell (y .a) && subcell (y .b) && rowBits (y .n) && fitting (y .n) (y .leads) (y .trails) (y .bits))
+        (padded (y .leads)) (padded (y .trails)) in-range .0
+
+    row-bits : rowBits (y .n) ≡ true
+    row-bits =
+        both-3 (subcell (y .a)) (subcell (y .b)) (rowBits (y .n))
+        (both (subcell (y .a) && subcell (y .b) && rowBits (y .n)) (fitting (y .n) (y .leads) (y .trails) (y .bits))
+        outer
+        .0) .2
+
+    lists : (leb 1 (length (y .leads)) ≡ true) × (eqb (length (y .trails)) (length (y .leads)) ≡ true)
+        × (eqb (length (y .bits)) (length (y .leads) * y .n) ≡ true)
+    lists =
+        both-3 (leb 1 (length (y .leads))) (eqb (length (y .trails)) (length (y .leads)))
+        (eqb (length (y .bits)) (length (y .leads) * y .n))
+        (both (subcell (y .a) && subcell (y .b) && rowBits (y .n)) (fitting (y .n) (y .leads) (y .trails) (y .bits))
+        outer
+        .1)
+
+    plan : Plan x (y .leads) (x .rows)
+    plan =
+        plan-of x (y .leads) (y .trails) (y .bits) (eqb-true _ _ (lists .1)) (eqb-true _ _ (lists .2)) bits
+
+    some-rows : 1 ≤ length (x .rows)
+    some-rows = omega (arith, leb-true 1 (length (y .leads)) (lists .0), plan .many)
+
+    some-bits : 1 ≤ y .n
+    some-bits = leb-true 1 (y .n) (both (leb 1 (y .n)) (leb (y .n) bitsMost) row-bits .0)
+
+    fits : Fitting x
+    fits = accepted-fits x some-rows (rw (plan .same) (within .accepted)) (within .phase) some-bits (plan .bits)
+        (within .choices)
+
+    -- what the judge's yes for the first lead says of the ranges
+    judged : (inRange (y .a) (y .b) (y .k) (y .w) (y .r) ≡ true) × (quiet (y .Q) ≡ true)
+    judged = go (y .leads) (leb-true 1 (length (y .leads)) (lists .0)) (within .accepted)
+      where
+        go : (leads : List ℕ) → 1 ≤ length leads → YesForEach x leads
+            → (inRange (y .a) (y .b) (y .k) (y .w) (y .r) ≡ true) × (quiet (y .Q) ≡ true)
+        go [] some each = absurd (omega arith)
+        go (p1 ∷ leads) some each =
+            let keeps = yes-keeps (y .a) (y .b) (y .k) (y .w) (y .r) (y .Q) p1 (each .0) in
+            (keeps .range, keeps .quiet-range)
+
+    ranges : (sampling (y .k) ≡ true) × (cycleLength (y .w) ≡ true) × (cycleLength (y .r) ≡ true)
+    ranges =
+        let three = both-3 (subcell (y .a) && subcell (y .b) && sampling (y .k)) (cycleLength (y .w))
+        (cycleLength (y .r))
+        (judged .0) in
+        (both-3 (subcell (y .a)) (subcell (y .b)) (sampling (y .k)) (three .0) .2, three .1, three .2)
+
+    range : settingsFit (y .k) (y .n) (y .Q) ≡ true
+    range = rw (ranges .0, row-bits, judged .1)
+
+    times : timed (y .w) (y .r) (y .p) ≡ true
+    times = rw (ranges .1, ranges .2, lt-ltb (y .p) (y .w) (within .phase))
+
+    -- the four calls
+    sends : sending y ≡ (given (length wave), onto wave (y .forWave))
+    sends = answered .send-plan (y .a) (y .b) (y .n) (y .leads) (y .trails) (y .bits) (y .forWave) .gives (within .plan)
+
+    levels : AtMost 1 wave
+    levels = plan-most (y .a) (y .b) (x .rows)
+
+    smooth-size : length (smooth wave) ≡ length wave
+    smooth-size = length-smooth wave
+
+    smooths : smoothing y ≡ (given (length (smooth wave)), onto (smooth wave) (y .forSmooth))
+    smooths =
+        ap (λ (l : List ℕ). smoothed l (y .forSmooth)) (ap front sends ∙ front-is wave (y .forWave))
+        ∙ answered .smooth wave (y .forSmooth) .gives
+        (passing _ _ (le-ltb _ _ few)
+        (passing _ _ (none-bad 1 wave levels)
+        (passing _ _
+        (le-ltb (length (y .forSmooth)) (length (smooth wave)) (omega (arith, smooth-size, within .smooth-room)))
+        none-left)))
+
+    smooth-levels : AtMost 2 (smooth wave)
+    smooth-levels = smooth-most 1 wave levels
+
+    warps : warping y ≡ (given (length reads), onto reads (y .forReads))
+    warps =
+        ap (λ (l : List ℕ). warped (y .w) (y .r) (y .p) l (y .forReads))
+        (ap front smooths ∙ front-is (smooth wave) (y .forSmooth))
+        ∙ answered .warp (y .w) (y .r) (y .p) (smooth wave) (y .forReads) .gives
+        (passing _ _ (ap not times)
+        (passing _ _ (le-ltb entriesMost (length (smooth wave)) (omega (arith, smooth-size, few)))
+        (passing _ _ (le-ltb _ _ (within .few-reads))
+        (passing _ _ (none-bad 2 (smooth wave) smooth-levels)
+        (passing _ _ (le-ltb _ _ (within .reads-room)) none-left)))))
+
+    read-kinds : AtMost 2 reads
+    read-kinds =
+        rw (warp-by (y .w) (y .r) (y .p) (smooth wave))
+        (reads-most (even-clocks (y .w) (y .r) (y .p) (timed-reads x fits) (within .phase)) (smooth wave) smooth-levels)
+
+    settles : settling y
+        ≡ (given (length (settle reads (y .choices))), onto (settle reads (y .choices)) (y .forSettled))
+    settles =
+        ap (λ (l : List ℕ). settled l (y .choices) (y .forSettled)) (ap front warps ∙ front-is reads (y .forReads))
+        ∙ answered .settle reads (y .choices) (y .forSettled) .gives
+        (passing _ _ (le-ltb _ _ (within .few-reads))
+        (passing _ _ (le-ltb _ _ (within .few-choices))
+        (passing _ _ (none-bad 2 reads read-kinds)
+        (passing _ _ (none-bad 1 (y .choices) (most-levels (y .choices) (within .choices)))
+        (passing _ _ (le-ltb (length (y .forSettled)) (length (settle reads (y .choices)))
+        (omega (arith, length-settle reads (y .choices), within .settled-room))) none-left)))))
+
+    reads-front : front (settling y) ≡ planReads x
+    reads-front = ap front settles ∙ front-is (settle reads (y .choices)) (y .forSettled)

@@ -1,0 +1,202 @@
+-- What the contracts say: each is the equation between the definition that the demands speak of and what the call
+-- answers and leaves. A call's arguments stand in their order; primed, what is left behind a `&mut`.
+use mathlib.Core.Path.{_≡_}
+use contract.Lifetimes.{Lfts}
+use denote.Ref.{now}
+use denote.Triple.Entry.{Args, Res}
+use denote.Triple.Clauses.{Ended, Lasts, atExit}
+use lib.ListN.{take}
+use Rattle.measure.specs.Choose.{between as isBetween}
+use Rattle.measure.specs.Ranges.{settingsFit}
+use Rattle.measure.specs.Lists.{firstAbove}
+use Rattle.measure.specs.Refusals.{lent, numberOf, placeOf}
+use Rattle.settings.specs.Answers.{judgement, judgedSays, quietJudgement, quietJudgedSays}
+use Rattle.sender.specs.Answers.{sentMessage, sentPlan, sentSays}
+use Rattle.line.specs.Answers.{smoothed, smoothedSays, warped, settled, readSays}
+use Rattle.counted.specs.Answers.{countedBits, countedSays}
+use Rattle.board.specs.Rows.{row, broken}
+use Rattle.board.specs.Packed.{unpacked}
+use Rattle.board.specs.WellFormed.{wellFormed}
+use Rattle.board.specs.Answers.{begun, startSays, stepped, steppedSays, listened, listenedSays}
+use Rattle.capture.specs.Capture.{header}
+use Rattle.capture.specs.Answers.{headSays, checked, readBack, checkedSays, written, writtenSays}
+use Rattle.page.specs.Lines.{headingLine, eventLine, endLine, refusedLine}
+use Rattle.page.specs.Answers.{putSays}
+use Rattle.siengulot.specs.Crossing.{crossed, crossing, judgedThree, judgedFive, summed}
+use Rattle.siengulot.specs.Receivers.{begunLent, steppedLent, listenedLent, wellFormedLent}
+use Rattle.measure.proofs as Measure
+use Rattle.settings.proofs as Settings
+use Rattle.sender.proofs as Sender
+use Rattle.line.proofs as Line
+use Rattle.counted.proofs as Counted
+use Rattle.board.proofs as Board
+use Rattle.capture.proofs as Capture
+use Rattle.page.proofs as Page
+use Rattle.siengulot.proofs as C
+use Rattle.promises.specs.OneMeaning.{Clause}
+
+-- a contract says this of each call
+abbrev pub Says : (function : Ended) → Clause function
+    → ((κs : Lfts (function .signature .lifetimes)) (a : Args (function .signature) κs) → Res (function .signature) κs
+    → Lasts function κs a → Type 0) → Type 0
+Says function clause said =
+    (κs : Lfts (function .signature .lifetimes)) (a : Args (function .signature) κs) (x : Res (function .signature) κs)
+    (left : Lasts function κs a) → clause κs a x (atExit function κs a left) → said κs a x left
+
+pub record ByContract : Type 0 where
+  -- measure
+  pub number : Says Measure.number.ended Measure.number.Reads.Post
+      λ κs (refusal, _) x _.
+      x ≡ numberOf refusal
+  pub place : Says Measure.place.ended Measure.place.Reads.Post
+      λ κs (refusal, _) x _.
+      x ≡ placeOf refusal
+  pub between : Says Measure.between.ended Measure.between.Reads.Post
+      λ κs (least, (most, (n, _))) x _.
+      x ≡ isBetween least most n
+  pub settings-fit : Says Measure.settings_fit.ended Measure.settings_fit.Reads.Post
+      λ κs (k, (n, (Q, _))) x _.
+      x ≡ settingsFit (k .0) n (Q .0)
+  pub first-above : Says Measure.first_above.ended Measure.first_above.Reads.Post
+      λ κs (entries, (most, _)) x _.
+      x ≡ firstAbove most (now entries)
+  -- settings
+  pub judge : Says Settings.judge.ended Settings.judge.Reads.Post
+      λ κs (a, (b, (k, (w, (r, _))))) x _.
+      judgement (a .0) (b .0) (k .0) (w .0) (r .0) ≡ judgedSays x
+  pub judge-quiet : Says Settings.judge_quiet.ended Settings.judge_quiet.Reads.Post
+      λ κs (a, (b, (k, (w, (r, (Q, (p1, _))))))) x _.
+      quietJudgement (a .0) (b .0) (k .0) (w .0) (r .0) (Q .0) (p1 .0) ≡ quietJudgedSays x
+  -- sender
+  pub send : Says Sender.send.ended Sender.send.Reads.Post
+      λ κs (a, (b, (p1, (p2, (bits, (out, _)))))) x (_, (_, (_, (_, (_, (out′, _)))))).
+      sentMessage (a .0) (b .0) (p1 .0) (p2 .0) (now bits) (now out) ≡ (sentSays x, out′)
+  pub send-plan : Says Sender.send_plan.ended Sender.send_plan.Reads.Post
+      λ κs (a, (b, (n, (leads, (trails, (bits, (out, _))))))) x (_, (_, (_, (_, (_, (_, (out′, _))))))).
+      sentPlan (a .0) (b .0) n (now leads) (now trails) (now bits) (now out) ≡ (sentSays x, out′)
+  -- line
+  pub smooth : Says Line.smooth.ended Line.smooth.Reads.Post
+      λ κs (wave, (out, _)) x (_, (out′, _)).
+      smoothed (now wave) (now out) ≡ (smoothedSays x, out′)
+  pub warp : Says Line.warp.ended Line.warp.Reads.Post
+      λ κs (wave, (w, (r, (p, (out, _))))) x (_, (_, (_, (_, (out′, _))))).
+      warped (w .0) (r .0) (p .0) (now wave) (now out) ≡ (readSays x, out′)
+  pub settle : Says Line.settle.ended Line.settle.Reads.Post
+      λ κs (reads, (choices, (out, _))) x (_, (_, (out′, _))).
+      settled (now reads) (now choices) (now out) ≡ (readSays x, out′)
+  -- counted
+  pub count-bits : Says Counted.count_bits.ended Counted.count_bits.Reads.Post
+      λ κs (k, (n, (level, (reads, (out, _))))) x (_, (_, (_, (_, (out′, _))))).
+      countedBits (k .0) n level (now reads) (now out) ≡ (countedSays x, out′)
+  -- board
+  pub fresh : Says Board.Receiver.fresh.ended Board.Receiver.fresh.Reads.Post
+      λ κs (k, (n, (Q, _))) x _.
+      begun (k .0) n (Q .0) ≡ (startSays (x .start), x .receiver)
+  pub well-formed : Says Board.Receiver.well_formed.ended Board.Receiver.well_formed.Reads.Post
+      λ κs (receiver, _) x _.
+      x ≡ wellFormed receiver
+  pub step : Says Board.Receiver.step.ended Board.Receiver.step.Reads.Post
+      λ κs (receiver, (read, _)) x _.
+      stepped receiver read ≡ steppedSays x
+  pub listen : Says Board.Receiver.listen.ended Board.Receiver.listen.Reads.Post
+      λ κs (receiver, (reads, _)) x _.
+      listened receiver (now reads) ≡ listenedSays x
+  -- capture
+  pub read-header : Says Capture.read_header.ended Capture.read_header.Reads.Post
+      λ κs (bytes, _) x _.
+      header (now bytes) ≡ headSays x
+  pub check : Says Capture.check.ended Capture.check.Reads.Post
+      λ κs (bytes, _) x _.
+      checked (now bytes) ≡ checkedSays x
+  pub read-capture : Says Capture.read_capture.ended Capture.read_capture.Reads.Post
+      λ κs (bytes, (out, _)) x (_, (out′, _)).
+      readBack (now bytes) (now out) ≡ (checkedSays x, out′)
+  pub write-capture : Says Capture.write_capture.ended Capture.write_capture.Reads.Post
+      λ κs (k, (n, (Q, (reads, (out, _))))) x (_, (_, (_, (_, (out′, _))))).
+      written (k .0) n (Q .0) (now reads) (now out) ≡ (writtenSays x, out′)
+  -- page
+  pub put-heading : Says Page.put_heading.ended Page.put_heading.Reads.Post
+      λ κs (out, _) x (out′, _).
+      lent headingLine (now out) ≡ (putSays x, out′)
+  pub put-row : Says Page.put_row.ended Page.put_row.Reads.Post
+      λ κs (place, (n, (bits, (out, _)))) x (_, (_, (_, (out′, _)))).
+      lent (eventLine (place .0) (row (take n (unpacked 8 (now bits))))) (now out) ≡ (putSays x, out′)
+  pub put-broken : Says Page.put_broken.ended Page.put_broken.Reads.Post
+      λ κs (place, (found, (out, _))) x (_, (_, (out′, _))).
+      lent (eventLine (place .0) (broken found)) (now out) ≡ (putSays x, out′)
+  pub put-end : Says Page.put_end.ended Page.put_end.Reads.Post
+      λ κs (reads, (rows, (out, _))) x (_, (_, (out′, _))).
+      lent (endLine (reads .0) rows) (now out) ≡ (putSays x, out′)
+  pub put-refused : Says Page.put_refused.ended Page.put_refused.Reads.Post
+      λ κs (refusal, (out, _)) x (_, (out′, _)).
+      lent (refusedLine (numberOf refusal) (placeOf refusal)) (now out) ≡ (putSays x, out′)
+  -- the entry points for C
+  pub siengulot-judge : Says C.siengulot_judge.ended C.siengulot_judge.Reads.Post
+      λ κs (a, (b, (k, (w, (r, (margins, (accepted, _))))))) x (_, (_, (_, (_, (_, (margins′, (accepted′, _))))))).
+      judgedThree (judgement a b k w r) (now margins) ≡ (x, accepted′, margins′)
+  pub siengulot-judge-quiet : Says C.siengulot_judge_quiet.ended C.siengulot_judge_quiet.Reads.Post
+      λ κs (a, (b, (k, (w, (r, (Q, (p1, (margins, (accepted, _))))))))) x
+      (_, (_, (_, (_, (_, (_, (_, (margins′, (accepted′, _))))))))).
+      judgedFive (quietJudgement a b k w r Q p1) (now margins) ≡ (x, accepted′, margins′)
+  pub siengulot-send : Says C.siengulot_send.ended C.siengulot_send.Reads.Post
+      λ κs (a, (b, (p1, (p2, (bits, (out, (place, (count, _)))))))) x
+      (_, (_, (_, (_, (_, (out′, (place′, (count′, _)))))))).
+      crossing crossed (sentMessage a b p1 p2 (now bits) (now out))
+      ≡ (record { number = x; place = place′; count = count′ }, out′)
+  pub siengulot-plan : Says C.siengulot_plan.ended C.siengulot_plan.Reads.Post
+      λ κs (a, (b, (n, (leads, (trails, (bits, (out, (place, (count, _))))))))) x
+      (_, (_, (_, (_, (_, (_, (out′, (place′, (count′, _))))))))).
+      crossing crossed (sentPlan a b n (now leads) (now trails) (now bits) (now out))
+      ≡ (record { number = x; place = place′; count = count′ }, out′)
+  pub siengulot-smooth : Says C.siengulot_smooth.ended C.siengulot_smooth.Reads.Post
+      λ κs (wave, (out, (place, (count, _)))) x (_, (out′, (place′, (count′, _)))).
+      crossing crossed (smoothed (now wave) (now out)) ≡ (record { number = x; place = place′; count = count′ }, out′)
+  pub siengulot-warp : Says C.siengulot_warp.ended C.siengulot_warp.Reads.Post
+      λ κs (w, (r, (p, (wave, (out, (place, (count, _))))))) x (_, (_, (_, (_, (out′, (place′, (count′, _))))))).
+      crossing crossed (warped w r p (now wave) (now out))
+      ≡ (record { number = x; place = place′; count = count′ }, out′)
+  pub siengulot-settle : Says C.siengulot_settle.ended C.siengulot_settle.Reads.Post
+      λ κs (reads, (choices, (out, (place, (count, _))))) x (_, (_, (out′, (place′, (count′, _))))).
+      crossing crossed (settled (now reads) (now choices) (now out))
+      ≡ (record { number = x; place = place′; count = count′ }, out′)
+  pub siengulot-counted : Says C.siengulot_counted.ended C.siengulot_counted.Reads.Post
+      λ κs (k, (n, (level, (reads, (out, (place, (count, _))))))) x (_, (_, (_, (_, (out′, (place′, (count′, _))))))).
+      crossing crossed (countedBits k n level (now reads) (now out))
+      ≡ (record { number = x; place = place′; count = count′ }, out′)
+  pub siengulot-fresh : Says C.siengulot_fresh.ended C.siengulot_fresh.Reads.Post
+      λ κs (k, (n, (Q, (numbers, (bytes, _))))) x (_, (_, (_, (numbers′, (bytes′, _))))).
+      begunLent (begun k n Q) ≡ (x, numbers′, bytes′)
+  pub siengulot-well-formed : Says C.siengulot_well_formed.ended C.siengulot_well_formed.Reads.Post
+      λ κs (numbers, (bytes, _)) x _.
+      wellFormedLent (now numbers) (now bytes) ≡ x
+  pub siengulot-step : Says C.siengulot_step.ended C.siengulot_step.Reads.Post
+      λ κs (numbers, (bytes, (read, (room, (event, (found, (place, _))))))) x
+      (numbers′, (bytes′, (_, (room′, (event′, (found′, (place′, _))))))).
+      steppedLent (record { numbers = now numbers; bytes = now bytes; row = now room }) read
+      ≡ (
+        record { number = x; place = place′; event = event′; found = found′ },
+        record { numbers = numbers′; bytes = bytes′; row = room′ },
+      )
+  pub siengulot-listen : Says C.siengulot_listen.ended C.siengulot_listen.Reads.Post
+      λ κs (numbers, (bytes, (reads, (room, (event, (found, (used, (place, _)))))))) x
+      (numbers′, (bytes′, (_, (room′, (event′, (found′, (used′, (place′, _)))))))).
+      listenedLent (record { numbers = now numbers; bytes = now bytes; row = now room }) (now reads)
+      ≡ (
+        (
+          record { number = x; place = place′; event = event′; found = found′ },
+          record { numbers = numbers′; bytes = bytes′; row = room′ },
+        ),
+        used′,
+      )
+  pub siengulot-capture-check :
+      Says C.siengulot_capture_check.ended C.siengulot_capture_check.Reads.Post
+      λ κs (bytes, (summary, (place, _))) x (_, (summary′, (place′, _))).
+      summed (now summary) (checked (now bytes)) ≡ (x, place′, summary′)
+  pub siengulot-capture-read : Says C.siengulot_capture_read.ended C.siengulot_capture_read.Reads.Post
+      λ κs (bytes, (out, (summary, (place, _)))) x (_, (out′, (summary′, (place′, _)))).
+      crossing (summed (now summary)) (readBack (now bytes) (now out)) ≡ ((x, place′, summary′), out′)
+  pub siengulot-capture-write :
+      Says C.siengulot_capture_write.ended C.siengulot_capture_write.Reads.Post
+      λ κs (k, (n, (Q, (reads, (out, (place, (count, _))))))) x (_, (_, (_, (_, (out′, (place′, (count′, _))))))).
+      crossing crossed (written k n Q (now reads) (now out))
+      ≡ (record { number = x; place = place′; count = count′ }, out′)

@@ -1,0 +1,100 @@
+-- Demand 1 of the fifteen entry points for C. The tests are those of the operations. What crosses is a number, 0 for no
+-- refusal, and what is left behind each pointer.
+use Prim.Native.Nat.{ℕ}
+use mathlib.Core.List.{List, [], _∷_}
+use lib.IntN.{ℤ}
+use lib.ListN.{length, replicate}
+use Rattle.measure.specs.Lists.{onto}
+use Rattle.settings.specs.Margins.{m1, m2, m3, m4, m5, accepted, quietAccepted}
+use Rattle.settings.specs.Answers.{judgement, quietJudgement}
+use Rattle.sender.specs.Sending.{wave, planWave, rowsOf}
+use Rattle.sender.specs.Answers.{sentMessage, sentPlan}
+use Rattle.line.specs.Smooth.{smooth as smoothing}
+use Rattle.line.specs.Warp.{warp as warping}
+use Rattle.line.specs.Settle.{settle as settling}
+use Rattle.line.specs.Answers.{smoothed, warped, settled}
+use Rattle.counted.specs.Counted.{counted as countedOf}
+use Rattle.counted.specs.Answers.{found, countedBits}
+use Rattle.board.specs.Rows.{next}
+use Rattle.board.specs.Feeding.{reports}
+use Rattle.board.specs.Packed.{settingsOf, stateOf}
+use Rattle.board.specs.WellFormed.{wellFormed}
+use Rattle.board.specs.Answers.{reached, begun, levelsOf, toEvent}
+use Rattle.capture.specs.Writing.{captureOf}
+use Rattle.capture.specs.Answers.{checked, readBack, written}
+use Rattle.siengulot.specs.Crossing.{crossed, crossing, flag, judgedThree, judgedFive, summed}
+use Rattle.siengulot.specs.Receivers.{Lent, Told, standing, receiverOf, brought, broughtBy, begunLent, steppedLent}
+use Rattle.siengulot.specs.Receivers.{listenedLent, wellFormedLent}
+use Rattle.promises.specs.GoodInput as Good
+use Rattle.promises.specs.Promised.{Answered, FillsFromC, setting}
+
+-- what is told with a refusal of reads
+abbrev pub refusal : ℕ → ℕ → Told
+refusal number place = record { number = number; place = place; event = 0; found = 0 }
+
+-- the five numbers of a capture's summary
+abbrev pub summaryOf : (bytes : List ℕ) → List ℕ
+summaryOf bytes =
+    let c = Good.captured bytes in c .k ∷ c .n ∷ c .Q ∷ length (Good.readsIn bytes) ∷ length (c .runs) ∷ []
+
+pub record Demand1FromC : Type 0 where
+  -- judging: the number, whether the settings are accepted, and the margins, which a refusal leaves
+  pub judge : (a b k w r : ℕ) (margins : List ℤ)
+      → Answered (Good.judge a b k w r) (judgedThree (judgement a b k w r) margins)
+      (0, flag (accepted a b k w r), m1 a w r ∷ m2 a k w r ∷ m3 a b k w r ∷ []) (λ number place. (number, 0, margins))
+  pub judge-quiet : (a b k w r Q p1 : ℕ) (margins : List ℤ)
+      → Answered (Good.judgeQuiet a b k w r Q p1) (judgedFive (quietJudgement a b k w r Q p1) margins) (
+        0,
+        flag (quietAccepted a b k w r Q p1),
+        m1 a w r ∷ m2 a k w r ∷ m3 a b k w r ∷ m4 a b Q w r ∷ m5 p1 Q w r ∷ [],
+      ) (λ number place. (number, 0, margins))
+  pub send : (a b p1 p2 : ℕ) (bits output : List ℕ)
+      → FillsFromC (Good.send a b p1 p2 bits output) (wave a b p1 p2 bits) output
+      (crossing crossed (sentMessage a b p1 p2 bits output))
+  pub plan : (a b n : ℕ) (leads trails bits output : List ℕ)
+      → FillsFromC (Good.sendPlan a b n leads trails bits output) (planWave a b (rowsOf n leads trails bits)) output
+      (crossing crossed (sentPlan a b n leads trails bits output))
+  pub smooth : (wave output : List ℕ)
+      → FillsFromC (Good.smooth wave output) (smoothing wave) output (crossing crossed (smoothed wave output))
+  pub warp : (w r p : ℕ) (wave output : List ℕ)
+      → FillsFromC (Good.warp w r p wave output) (warping w r p wave) output
+      (crossing crossed (warped w r p wave output))
+  pub settle : (reads choices output : List ℕ)
+      → FillsFromC (Good.settle reads choices output) (settling reads choices) output
+      (crossing crossed (settled reads choices output))
+  -- with refusal 5 the count is of the bits found, which stand at the output's front
+  pub counted : (k n level : ℕ) (reads output : List ℕ)
+      → Answered (Good.countBits k n level reads output) (crossing crossed (countedBits k n level reads output))
+      (crossing crossed (found n (countedOf k n level reads) output))
+      (λ number place. (record { number = number; place = place; count = 0 }, output))
+  -- the receiver's eight numbers (k, n, Q, mode, run, left, level, found) and its bytes; a refused start is all zeros
+  pub fresh : (k n Q : ℕ)
+      → Answered (Good.fresh k n Q) (begunLent (begun k n Q))
+      (0, k ∷ n ∷ Q ∷ 0 ∷ 0 ∷ 0 ∷ 1 ∷ 0 ∷ [], replicate 128 0)
+      (λ number place. (number, replicate 8 0, replicate 128 0))
+  -- 1 for a well formed state and 0 for any other
+  pub well-formed : (numbers bytes : List ℕ)
+      → Answered (setting (standing numbers) ∷ setting (wellFormed (receiverOf numbers bytes)) ∷ [])
+      (wellFormedLent numbers bytes) 1 (λ number place. 0)
+  pub step : (lent : Lent) (read : ℕ)
+      → let x = receiverOf (lent .numbers) (lent .bytes) in
+      let moved = next (settingsOf x) (stateOf x) read in
+      Answered (Good.stepFromC lent read) (steppedLent lent read)
+      (brought lent (reached (settingsOf x) (moved .state) (moved .event)))
+      (λ number place. (refusal number place, lent))
+  pub listen : (lent : Lent) (reads : List ℕ)
+      → let x = receiverOf (lent .numbers) (lent .bytes) in
+      let told = reports (settingsOf x) (stateOf x) 0 (levelsOf reads) in
+      Answered (Good.listenFromC lent reads) (listenedLent lent reads)
+      (broughtBy lent (toEvent (settingsOf x) (stateOf x) (levelsOf reads) told))
+      (λ number place. ((refusal number place, lent), 0))
+  pub capture-check : (bytes summary : List ℕ)
+      → Answered (Good.capture bytes) (summed summary (checked bytes)) (0, 0, summaryOf bytes)
+      (λ number place. (number, place, summary))
+  pub capture-read : (bytes output summary : List ℕ)
+      → Answered (Good.readCapture bytes output) (crossing (summed summary) (readBack bytes output))
+      ((0, 0, summaryOf bytes), onto (Good.readsIn bytes) output)
+      (λ number place. ((number, place, summary), output))
+  pub capture-write : (k n Q : ℕ) (reads output : List ℕ)
+      → FillsFromC (Good.writeCapture k n Q reads output) (captureOf k n Q reads) output
+      (crossing crossed (written k n Q reads output))
