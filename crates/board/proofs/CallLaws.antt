@@ -21,7 +21,7 @@ use Rattle.board.specs.Rows.{collected, listening, inProgress}
 use Rattle.board.specs.Feeding.{Report, noted, afterBy, reportsBy, after, reports}
 use Rattle.board.specs.Packed.{receiverOf}
 use Rattle.board.specs.Answers.{Outcome, reached, refusing, begun, stepped, listened}
-use Rattle.board.specs.Listening.{onward, heardFrom}
+use Rattle.board.specs.Listening.{eventOrRest, heardFrom}
 use Rattle.board.proofs.PackedBits.{Binary, binary-snoc}
 use Rattle.board.proofs.RowRules.{Valid, bit-most, valid-next}
 use Rattle.board.proofs.Standing.{state-of-receiver, well-formed-of}
@@ -75,11 +75,11 @@ noted-some place nothing some more = absurd some
 noted-some place (row bits) some more = refl
 noted-some place (broken found) some more = refl
 
-onward-some : (g : Settings) (s : State) (event : Event) → Some event → (used : ℕ) (rest : Outcome × ℕ)
-    → onward g s event used rest ≡ (reached g s event, used)
-onward-some g s nothing some used rest = absurd some
-onward-some g s (row bits) some used rest = refl
-onward-some g s (broken found) some used rest = refl
+event-some : (g : Settings) (s : State) (event : Event) → Some event → (used : ℕ) (rest : Outcome × ℕ)
+    → eventOrRest g s event used rest ≡ (reached g s event, used)
+event-some g s nothing some used rest = absurd some
+event-some g s (row bits) some used rest = refl
+event-some g s (broken found) some used rest = refl
 
 -- The three ways in which reads from a state on come to an end, the first of them at this place.
 module _ (x : Receiver) (g : Settings) (s : State) (place : ℕ) (reads : List ℕ) where
@@ -155,7 +155,7 @@ module _ (x : Receiver) (g : Settings) where
             levels = binary-more read [] h (λ i. omega arith);
             valid = valid-next g s read v h;
             told = rw (e, here) (noted-some place event some []);
-            is = rw (le-leb read 1 h, e, one) (onward-some g (next g s read .state) event some (suc place) _);
+            is = rw (le-leb read 1 h, e, one) (event-some g (next g s read .state) event some (suc place) _);
           }
 
       t : State

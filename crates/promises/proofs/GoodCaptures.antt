@@ -13,12 +13,11 @@ use Rattle.measure.specs.Ranges.{sampling, rowBits, quiet, captureMost}
 use Rattle.measure.specs.Lists.{onto}
 use Rattle.measure.specs.Refusals.{Answer, given, refused}
 use Rattle.capture.specs.Numbers.{Group, value, cut, long, further, Numeral, placed, numberAt}
-use Rattle.capture.specs.Capture.{then, passing, fittingAt, heading, header, runsFrom, capture}
-use Rattle.capture.specs.Capture.{totalMost}
+use Rattle.capture.specs.Capture.{then, fittingAt, fourNumbers, header, runsFrom, fitsAfter, capture}
 use Rattle.capture.specs.Answers.{summary, unrolled}
 use Rattle.capture.proofs.Runs.{runs-end}
-use Rattle.capture.proofs.Captures.{capture-judged}
-use Rattle.capture.proofs.Judging.{number-is, Ends, group-ends, fitting-then, heading-then, runs-then}
+use Rattle.capture.proofs.Groups.{Ends, group-ends}
+use Rattle.capture.proofs.Judging.{number-is, fitting-then, four-then, runs-then, capture-then}
 use Rattle.promises.specs.Promised.{Test, good, first, Answered, Tells, limit, room}
 use Rattle.promises.specs.GoodInput as Good
 use Rattle.promises.proofs.Promised.{done, past, within, same, across, followed}
@@ -53,25 +52,26 @@ module _ (bytes : List ℕ) (place : ℕ) where
   fitting-answered : (fits : ℕ → Bool) → Tells (Good.inRange fits bytes place) numeral (fittingAt fits bytes place)
   fitting-answered fits =
       same (fitting-then fits bytes place)
-      (followed (passing fits place) number-answered (λ number place. refl) λ good.
+      (followed
+      (λ answer. then answer (λ n. choose (fits (n .value)) (given n) (refused 8 place))) number-answered (λ number place. refl) λ good.
       (within (fits (Good.valueOf (Good.at bytes place))) 8 place (done refl)))
 
 -- the first four numbers
-heading-answered : (bytes : List ℕ)
+four-answered : (bytes : List ℕ)
     → Tells
     (Good.inRange sampling bytes 0
     ++ (Good.inRange rowBits bytes (Good.second bytes)
     ++ (Good.inRange quiet bytes (Good.third bytes) ++ Good.inRange (between 0 1) bytes (Good.fourth bytes))))
-    (Good.heading bytes) (heading bytes)
-heading-answered bytes =
-    same (heading-then bytes)
+    (Good.heading bytes) (fourNumbers bytes)
+four-answered bytes =
+    same (four-then bytes)
     (then-answered _ (fitting-answered bytes 0 sampling) λ good.
     then-answered _ (fitting-answered bytes (Good.second bytes) rowBits) λ good.
     then-answered _ (fitting-answered bytes (Good.third bytes) quiet) λ good.
     then-made _ (fitting-answered bytes (Good.fourth bytes) (between 0 1)))
 
 pub header-answered : (bytes : List ℕ) → Tells (Good.header bytes) (Good.heading bytes) (header bytes)
-header-answered bytes = past (limit captureMost bytes) (heading-answered bytes)
+header-answered bytes = past (limit captureMost bytes) (four-answered bytes)
 
 -- a number that is there has a byte
 sized : (fits : ℕ → Bool) (bytes : List ℕ) (place : ℕ) → good (Good.inRange fits bytes place) ≡ true
@@ -89,30 +89,27 @@ sized fits bytes place = go (Good.at bytes place) (group-ends further (drop plac
 -- the runs from a place on
 runs-answered : (most total place : ℕ) (bytes : List ℕ) → length bytes ≤ most + place
     → Tells (Good.runs most total place bytes) (Good.runsIn most place bytes)
-    (runsFrom 0 total place (drop place bytes))
+    (runsFrom total bytes place)
 unfolding Good.runs Good.runsIn
-runs-answered zero total place bytes h = done (runs-end bytes total place (omega arith))
+runs-answered zero total place bytes h = done (runs-end total bytes place (omega arith))
 runs-answered (suc most) total place bytes h =
     go (decLe (length bytes) place) (λ total place h. runs-answered most total place bytes h)
   where
-    fits : ℕ → Bool
-    fits v = leb 1 v && leb (total + v) totalMost
-
     On : ℕ → ℕ → ℕ → Type 0
     On most total place =
         Tells (Good.runs most total place bytes) (Good.runsIn most place bytes)
-        (runsFrom 0 total place (drop place bytes))
+        (runsFrom total bytes place)
 
     go : Dec (length bytes ≤ place) → ((total place : ℕ) → length bytes ≤ most + place → On most total place)
         → On (suc most) total place
-    go (yes over) more = rw (le-leb (length bytes) place over) (done (runs-end bytes total place over))
+    go (yes over) more = rw (le-leb (length bytes) place over) (done (runs-end total bytes place over))
     go (no here) more =
         rw (lt-leb (length bytes) place (omega arith))
-        (same (runs-then bytes total place (omega arith))
-        (then-answered _ (fitting-answered bytes place fits) λ good.
+        (same (runs-then total bytes place (omega arith))
+        (then-answered _ (fitting-answered bytes place (fitsAfter total)) λ good.
         then-made (λ runs. Good.valueOf (Good.at bytes place) ∷ runs)
         (more (total + Good.valueOf (Good.at bytes place)) (Good.next bytes place)
-        (omega (arith, sized fits bytes place good)))))
+        (omega (arith, sized (fitsAfter total) bytes place good)))))
 
 -- there is no run exactly where no byte is left for one
 no-run : (bytes : List ℕ) (place : ℕ)
@@ -131,7 +128,7 @@ no-run (byte ∷ bytes) place = go (leb (suc (length bytes)) place)
 
 pub capture-answered : (bytes : List ℕ) → Tells (Good.capture bytes) (Good.captured bytes) (capture bytes)
 capture-answered bytes =
-    same (capture-judged bytes)
+    same (capture-then bytes)
     (then-answered _ (header-answered bytes) λ good.
     then-answered _ (runs-answered (length bytes) 0 (Good.firstRun bytes) bytes (omega arith)) λ good.
     same (rw (no-run bytes (Good.firstRun bytes))) (past (Good.someRun bytes) (done refl)))

@@ -25,7 +25,7 @@ use Rattle.board.proofs.Standing.{ranged-of}
 use Rattle.board.proofs.FeedingLaws.{reports-append, later, reports-later}
 use Rattle.board.proofs.CallLaws.{Whole, Ends, Stops, Brings, Heard, hears, noted-some}
 use Rattle.board.proofs.CallLaws.{stepped-level, stepped-other, listened-valid, begun-fresh}
-use Rattle.page.proofs.Turns.{listened-levels}
+use Rattle.board.proofs.HeardLaws.{listened-levels}
 use Rattle.promises.specs.Hearing.{Stepping, Listening, oneByOne, goingOn, byLists, step, listen}
 use Rattle.promises.specs.Hearing.{steps, listens, hearing, heeding, Hears}
 

@@ -1,4 +1,4 @@
--- What C holds between calls is a receiver as it crosses, which stands for that receiver again, and a row's bits can be
+-- What C holds between calls is a receiver as it crosses, from which that receiver can be recovered, and a row's bits can be
 -- recovered from its bytes. So a run of calls from C is a run of the operations.
 use Prim.Native.Nat.{ℕ, _≤_, _<_}
 use mathlib.Core.Path.{_≡_, refl, sym, ap}
@@ -18,8 +18,8 @@ use Rattle.board.proofs.RowRules.{Ranged, Fitting, Valid, valid-fresh}
 use Rattle.board.proofs.Standing.{ranged-of}
 use Rattle.board.proofs.CellLaws.{row-read}
 use Rattle.board.proofs.CallLaws.{Whole, whole-next, stepped-level, stepped-other}
-use Rattle.siengulot.specs.Receivers.{Lent, Told, keeping, brought, steppedLent, listenedLent}
-use Rattle.siengulot.proofs.Standing.{stands, stands-back}
+use Rattle.siengulot.specs.Receivers.{Lent, Reply, putBack, brought, steppedLent, listenedLent}
+use Rattle.siengulot.proofs.Recovered.{its-numbers-fit, receiver-recovered}
 use Rattle.siengulot.proofs.Brought.{step-brought, listen-brought}
 use Rattle.promises.specs.Hearing.{crossedEvent, stepFromC, listenFromC, startedFromC, Caller, steps, listens}
 use Rattle.promises.specs.Hearing.{stepsFromC, listensFromC, hearing, Hears}
@@ -34,11 +34,11 @@ level-low Waiting g run left found level f = omega (arith, f .3)
 module _ (g : Settings) where
   -- the receiver that keeps a state, lent beside some bytes for a row
   abbrev Holds : State → Lent → Type 0
-  Holds s lent = (room : List ℕ) × (lent ≡ keeping (receiverOf g s) room)
+  Holds s lent = (room : List ℕ) × (lent ≡ putBack (receiverOf g s) room)
 
   -- what an event crosses as is that event, and the receiver crosses with it
   crosses : (s : State) (room : List ℕ) (x : Receiver) (event : Event) → Ranged g → Whole g event
-      → (crossed : Told × Lent) → brought (keeping x room) (reached g s event) ≡ crossed
+      → (crossed : Reply × Lent) → brought (putBack x room) (reached g s event) ≡ crossed
       → (crossedEvent (crossed .0) (crossed .1) ≡ given event) × Holds s (crossed .1)
   crosses s room x nothing range whole crossed e = rw (← e) (refl, (room, refl))
   crosses s room x (row bits) range whole crossed e =
@@ -56,12 +56,12 @@ module _ (g : Settings) where
     byte = level-low (s .mode) g (s .run) (s .left) (length (s .bits)) (s .level) (v .fitting)
 
     step-crosses : (read : ℕ) (outcome : Outcome) → stepped x read ≡ outcome
-        → steppedLent (keeping x room) read ≡ brought (keeping x room) outcome
-    step-crosses read outcome e = step-brought (keeping x room) (stands x byte) (stands-back x) read e refl
+        → steppedLent (putBack x room) read ≡ brought (putBack x room) outcome
+    step-crosses read outcome e = step-brought (putBack x room) (its-numbers-fit x byte) (receiver-recovered x) read e refl
 
     listen-crosses : (reads : List ℕ) (outcome : Outcome) (used : ℕ) → listened x reads ≡ (outcome, used)
-        → listenedLent (keeping x room) reads ≡ (brought (keeping x room) outcome, used)
-    listen-crosses reads outcome used e = listen-brought (keeping x room) (stands x byte) (stands-back x) reads e refl
+        → listenedLent (putBack x room) reads ≡ (brought (putBack x room) outcome, used)
+    listen-crosses reads outcome used e = listen-brought (putBack x room) (its-numbers-fit x byte) (receiver-recovered x) reads e refl
 
   c-steps : Steps g Holds stepFromC
   c-steps = record { level = level; other = other }
@@ -73,7 +73,7 @@ module _ (g : Settings) where
           rw is
           (crosses (next g s read .state) room (receiverOf g s) (next g s read .event) (v .range)
           (whole-next g s read v)
-          (steppedLent (keeping (receiverOf g s) room) read)
+          (steppedLent (putBack (receiverOf g s) room) read)
           (sym (step-crosses s v room read _ (stepped-level g s v read low))))
 
       other : (s : State) (lent : Lent) (read : ℕ) → Valid g s → Holds s lent → 1 < read
@@ -91,9 +91,9 @@ module _ (g : Settings) where
       brings s t lent reads v (room, is) event many whole e =
           let crossed = listen-crosses s v room reads (reached g t event) many e in
           let done = crosses t room (receiverOf g s) event (v .range) whole
-          (listenedLent (keeping (receiverOf g s) room) reads .0)
-          (sym (ap (λ (c : (Told × Lent) × ℕ). c .0) crossed)) in
-          rw is (done .0, (ap (λ (c : (Told × Lent) × ℕ). c .1) crossed, done .1))
+          (listenedLent (putBack (receiverOf g s) room) reads .0)
+          (sym (ap (λ (c : (Reply × Lent) × ℕ). c .0) crossed)) in
+          rw is (done .0, (ap (λ (c : (Reply × Lent) × ℕ). c .1) crossed, done .1))
 
       stops : (s : State) (lent : Lent) (reads : List ℕ) → Valid g s → Holds s lent → (place : ℕ)
           → listened (receiverOf g s) reads ≡ (refusing (receiverOf g s) 2 place, 0)
@@ -106,7 +106,7 @@ module _ (g : Settings) (range : settingsFit (g .k) (g .n) (g .Q) ≡ true) (roo
   valid = valid-fresh g (ranged-of g range)
 
   -- it starts with a fresh receiver
-  started : startedFromC g room ≡ keeping (receiverOf g fresh) room
+  started : startedFromC g room ≡ putBack (receiverOf g fresh) room
   unfolding begun
   started = rw range
 

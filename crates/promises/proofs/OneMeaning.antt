@@ -21,8 +21,8 @@ use Rattle.line.specs.declared.Smoothed.the-variants as M
 use Rattle.line.specs.declared.Read.{Read}
 use Rattle.line.specs.declared.Read.the-variants as R
 use Rattle.line.specs.Answers.{smoothedSays, readSays}
-use Rattle.counted.specs.declared.Counted.{Counted}
-use Rattle.counted.specs.declared.Counted.the-variants as C
+use Rattle.counted.specs.declared.Received.{Received}
+use Rattle.counted.specs.declared.Received.the-variants as C
 use Rattle.counted.specs.Answers.{countedSays}
 use Rattle.board.specs.Rows.{Event, nothing, row, broken}
 use Rattle.board.specs.declared.Event.{Event as CodeEvent}
@@ -49,8 +49,7 @@ use Rattle.capture.specs.Answers.{numberSays, headSays, checkedSays, writtenSay
 use Rattle.page.specs.declared.Put.{Put}
 use Rattle.page.specs.declared.Put.the-variants as P
 use Rattle.page.specs.Answers.{putSays}
-use Rattle.siengulot.specs.Crossing.{Crossed}
-use Rattle.siengulot.specs.Receivers.{Told, Lent}
+use Rattle.siengulot.specs.Receivers.{Reply, Lent}
 use Rattle.promises.specs.OneMeaning.{OneMeaning}
 
 -- an answer can be recovered from what it says
@@ -190,6 +189,20 @@ one-meaning = record {
     always = λ κs a. tt;
     once = λ κs a x y left right h h′. leaves written-said (λ l. (tt, (tt, (tt, (tt, (l, tt)))))) h h′;
   };
+  put-text = record {
+    always = λ κs a. tt;
+    once = λ κs a x y left right h h′. crosses (λ (p : ℕ × List ℕ). p .0) (λ p. (p .1, (tt, (tt, tt)))) h h′;
+  };
+  number-size = record { always = λ κs a. tt; once = λ κs a x y left right h h′. (h ∙ sym h′, refl) };
+  put-number = record {
+    always = λ κs a. tt;
+    once = λ κs a x y left right h h′. crosses (λ (p : ℕ × List ℕ). p .0) (λ p. (p .1, (tt, (tt, tt)))) h h′;
+  };
+  signed-size = record { always = λ κs a. tt; once = λ κs a x y left right h h′. (h ∙ sym h′, refl) };
+  put-signed = record {
+    always = λ κs a. tt;
+    once = λ κs a x y left right h h′. crosses (λ (p : ℕ × List ℕ). p .0) (λ p. (p .1, (tt, (tt, tt)))) h h′;
+  };
   put-heading = record { always = λ κs a. tt; once = λ κs a x y left right h h′. leaves line (λ l. (l, tt)) h h′ };
   put-row = record {
     always = λ κs a. tt;
@@ -222,38 +235,38 @@ one-meaning = record {
   siengulot-send = record {
     always = λ κs a. tt;
     once = λ κs a x y left right h h′.
-        crosses (λ (p : Crossed × List ℕ). p .0 .number)
-        (λ p. (tt, (tt, (tt, (tt, (tt, (p .1, (p .0 .place, (p .0 .count, tt))))))))) h h′;
+        crosses (λ (p : (ℕ × ℕ × ℕ) × List ℕ). p .0 .0)
+        (λ p. (tt, (tt, (tt, (tt, (tt, (p .1, (p .0 .1, (p .0 .2, tt))))))))) h h′;
   };
   siengulot-plan = record {
     always = λ κs a. tt;
     once = λ κs a x y left right h h′.
-        crosses (λ (p : Crossed × List ℕ). p .0 .number)
-        (λ p. (tt, (tt, (tt, (tt, (tt, (tt, (p .1, (p .0 .place, (p .0 .count, tt)))))))))) h h′;
+        crosses (λ (p : (ℕ × ℕ × ℕ) × List ℕ). p .0 .0)
+        (λ p. (tt, (tt, (tt, (tt, (tt, (tt, (p .1, (p .0 .1, (p .0 .2, tt)))))))))) h h′;
   };
   siengulot-smooth = record {
     always = λ κs a. tt;
     once = λ κs a x y left right h h′.
-        crosses (λ (p : Crossed × List ℕ). p .0 .number)
-        (λ p. (tt, (p .1, (p .0 .place, (p .0 .count, tt))))) h h′;
+        crosses (λ (p : (ℕ × ℕ × ℕ) × List ℕ). p .0 .0)
+        (λ p. (tt, (p .1, (p .0 .1, (p .0 .2, tt))))) h h′;
   };
   siengulot-warp = record {
     always = λ κs a. tt;
     once = λ κs a x y left right h h′.
-        crosses (λ (p : Crossed × List ℕ). p .0 .number)
-        (λ p. (tt, (tt, (tt, (tt, (p .1, (p .0 .place, (p .0 .count, tt)))))))) h h′;
+        crosses (λ (p : (ℕ × ℕ × ℕ) × List ℕ). p .0 .0)
+        (λ p. (tt, (tt, (tt, (tt, (p .1, (p .0 .1, (p .0 .2, tt)))))))) h h′;
   };
   siengulot-settle = record {
     always = λ κs a. tt;
     once = λ κs a x y left right h h′.
-        crosses (λ (p : Crossed × List ℕ). p .0 .number)
-        (λ p. (tt, (tt, (p .1, (p .0 .place, (p .0 .count, tt)))))) h h′;
+        crosses (λ (p : (ℕ × ℕ × ℕ) × List ℕ). p .0 .0)
+        (λ p. (tt, (tt, (p .1, (p .0 .1, (p .0 .2, tt)))))) h h′;
   };
   siengulot-counted = record {
     always = λ κs a. tt;
     once = λ κs a x y left right h h′.
-        crosses (λ (p : Crossed × List ℕ). p .0 .number)
-        (λ p. (tt, (tt, (tt, (tt, (p .1, (p .0 .place, (p .0 .count, tt)))))))) h h′;
+        crosses (λ (p : (ℕ × ℕ × ℕ) × List ℕ). p .0 .0)
+        (λ p. (tt, (tt, (tt, (tt, (p .1, (p .0 .1, (p .0 .2, tt)))))))) h h′;
   };
   siengulot-fresh = record {
     always = λ κs a. tt;
@@ -265,13 +278,13 @@ one-meaning = record {
   siengulot-step = record {
     always = λ κs a. tt;
     once = λ κs a x y left right h h′.
-        crosses (λ (p : Told × Lent). p .0 .number)
+        crosses (λ (p : Reply × Lent). p .0 .number)
         (λ p. (p .1 .numbers, (p .1 .bytes, (tt, (p .1 .row, (p .0 .event, (p .0 .found, (p .0 .place, tt)))))))) h h′;
   };
   siengulot-listen = record {
     always = λ κs a. tt;
     once = λ κs a x y left right h h′.
-        crosses (λ (p : (Told × Lent) × ℕ). p .0 .0 .number)
+        crosses (λ (p : (Reply × Lent) × ℕ). p .0 .0 .number)
         (λ p. (
           p .0 .1 .numbers,
           (
@@ -301,8 +314,8 @@ one-meaning = record {
   siengulot-capture-write = record {
     always = λ κs a. tt;
     once = λ κs a x y left right h h′.
-        crosses (λ (p : Crossed × List ℕ). p .0 .number)
-        (λ p. (tt, (tt, (tt, (tt, (p .1, (p .0 .place, (p .0 .count, tt)))))))) h h′;
+        crosses (λ (p : (ℕ × ℕ × ℕ) × List ℕ). p .0 .0)
+        (λ p. (tt, (tt, (tt, (tt, (p .1, (p .0 .1, (p .0 .2, tt)))))))) h h′;
   };
   held-new = λ bytes x y h h′. h ∙ sym h′;
   held-place = λ reader x y h h′. h ∙ sym h′;
@@ -332,7 +345,7 @@ one-meaning = record {
     read-back (R.Reads reads) = refl
     read-back (R.Refused f) = ap R.Refused (refusal-back f)
 
-    count-back : (x : Counted) → answer C.Bits C.Refused C.RanOut (countedSays x) ≡ x
+    count-back : (x : Received) → answer C.Bits C.Refused C.RanOut (countedSays x) ≡ x
     count-back (C.Bits n) = refl
     count-back (C.RanOut n) = refl
     count-back (C.Refused f) = ap C.Refused (refusal-back f)
@@ -399,7 +412,7 @@ one-meaning = record {
     read : Said Read (Answer ℕ)
     read = record { says = readSays; back = plain (λ n. R.Reads (record { 0 = n })) R.Refused; turns = read-back }
 
-    counted-said : Said Counted (Answer ℕ)
+    counted-said : Said Received (Answer ℕ)
     counted-said = record { says = countedSays; back = answer C.Bits C.Refused C.RanOut; turns = count-back }
 
     start-said : Said Start (Answer Event)

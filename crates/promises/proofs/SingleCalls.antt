@@ -23,8 +23,8 @@ use Rattle.capture.specs.Capture.{then}
 use Rattle.capture.specs.Held.{placeAfter}
 use Rattle.capture.specs.Answers.{summary, checked, readBack, written}
 use Rattle.siengulot.specs.Crossing.{crossed, crossing, flag, judgedThree, judgedFive, summed}
-use Rattle.siengulot.specs.Receivers.{standing, receiverOf, brought, broughtBy, begunLent, steppedLent, listenedLent}
-use Rattle.siengulot.specs.Receivers.{wellFormedLent}
+use Rattle.siengulot.specs.Receivers.{named, numbersFit, receiverLent, brought, broughtBy, begunLent, steppedLent}
+use Rattle.siengulot.specs.Receivers.{listenedLent, wellFormedLent}
 use Rattle.promises.specs.Promised.{good, first, Answered, setting, limit, entries, room}
 use Rattle.promises.specs.GoodInput as Good
 use Rattle.promises.specs.FromC.{Demand1FromC}
@@ -103,13 +103,13 @@ answered-from-c = record {
   settle = λ reads choices output. across (crossing crossed) (answered .settle reads choices output);
   counted = λ k n level reads output. across (crossing crossed) (answered .count-bits k n level reads output);
   fresh = λ k n Q. across begunLent (answered .fresh k n Q);
-  well-formed = λ numbers bytes. both (standing numbers) (wellFormed (receiverOf numbers bytes));
+  well-formed = λ numbers bytes. both (numbersFit (named numbers)) (wellFormed (receiverLent (named numbers) bytes));
   step = λ lent read.
-      within (standing (lent .numbers)) 1 0
-      (across (brought lent) (answered .step (receiverOf (lent .numbers) (lent .bytes)) read));
+      within (numbersFit (named (lent .numbers))) 1 0
+      (across (brought lent) (answered .step (receiverLent (named (lent .numbers)) (lent .bytes)) read));
   listen = λ lent reads.
-      within (standing (lent .numbers)) 1 0
-      (across (broughtBy lent) (answered .listen (receiverOf (lent .numbers) (lent .bytes)) reads));
+      within (numbersFit (named (lent .numbers))) 1 0
+      (across (broughtBy lent) (answered .listen (receiverLent (named (lent .numbers)) (lent .bytes)) reads));
   capture-check = λ bytes summary. across (summed summary) (answered .check bytes);
   capture-read = λ bytes output summary. across (crossing (summed summary)) (answered .read-capture bytes output);
   capture-write = λ k n Q reads output. across (crossing crossed) (answered .write-capture k n Q reads output);

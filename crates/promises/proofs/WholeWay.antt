@@ -11,28 +11,29 @@ use lib.ListN.{length, take, drop, length-take, length-drop}
 use lib.Seq.{take-append-seam}
 use Rattle.measure.specs.Ranges.{subcell, sampling, cycleLength, quiet, padMost, bitsMost, rowBits, entriesMost}
 use Rattle.measure.specs.Ranges.{settingsFit}
-use Rattle.measure.specs.Lists.{someAbove, onto}
+use Rattle.measure.specs.Lists.{onto}
+use Rattle.measure.specs.Levels.{AtMost, Levels}
 use Rattle.measure.specs.Refusals.{given}
 use Rattle.measure.proofs.Both.{both, both-3}
-use Rattle.measure.proofs.Above.{above-none}
+use Rattle.measure.proofs.LevelLaws.{none-some, most-none-some, most-take, most-drop}
 use Rattle.settings.specs.Margins.{quietAccepted}
 use Rattle.settings.specs.Answers.{inRange, quietJudgement}
 use Rattle.settings.proofs.Inequalities.{Accepted, QuietAccepted, quiet-keeps, m1-met, m2-met, m3-met, m4-met, m5-met}
 use Rattle.sender.specs.Sending.{Row, rowsOf}
 use Rattle.sender.specs.Answers.{fitting, padded}
 use Rattle.sender.proofs.PlanRows.{rows-none, rows-more}
+use Rattle.sender.proofs.PlanWaves.{plan-levels}
 use Rattle.line.specs.Smooth.{smooth}
 use Rattle.line.specs.Warp.{warp}
 use Rattle.line.specs.Settle.{settle}
+use Rattle.line.specs.Passes.{overTheLine}
 use Rattle.line.specs.Answers.{smoothed, warped, settled, timed}
-use Rattle.line.proofs.Entries.{AtMost}
 use Rattle.line.proofs.SmoothLaws.{length-smooth, smooth-most}
 use Rattle.line.proofs.SettleLaws.{length-settle}
 use Rattle.line.proofs.Clocks.{even-clocks}
 use Rattle.line.proofs.ReadsThere.{reads-most}
 use Rattle.line.proofs.WarpLaws.{warp-by}
 use Rattle.board.specs.Rows.{fresh}
-use Rattle.measure.specs.Levels.{Levels}
 use Rattle.promises.specs.Places.{Link, planReads}
 use Rattle.promises.specs.Demand3.{RowsFit, Fitting, receiverSettings}
 use Rattle.promises.specs.Promised.{good, quietJudged, Tells}
@@ -40,16 +41,14 @@ use Rattle.promises.specs.GoodInput as Good
 use Rattle.promises.specs.Hearing.{hearing}
 use Rattle.promises.specs.WholeWay.{SaysYes, YesForEach, BitsFit, leadsOf, AcceptedFits, linkOf, waveOf, warpedOf}
 use Rattle.promises.specs.WholeWay.{front, sending, smoothing, warping, settling, WholeWayHolds}
-use Rattle.promises.proofs.LevelLists.{most-levels, levels-most, none-above}
-use Rattle.promises.proofs.Sent.{plan-most}
 use Rattle.promises.proofs.Demand3.{timed as timed-reads, whole}
 use Rattle.promises.proofs.Promised.{passes, passing, none-left}
 use Rattle.promises.proofs.Hearing.{heeded-reports}
 use Rattle.promises.proofs.HearingFromC.{every-caller}
-use Rattle.promises.proofs.AnyHearing.{read-levels, any-hearing}
+use Rattle.promises.proofs.AnyHearing.{read-binary, any-hearing}
 use Rattle.promises.proofs.SingleCalls.{answered}
 
--- a yes is that of receiverSettings in range, and of margins that are all zero or more
+-- a yes is that of settings in range, and of margins that are all zero or more
 pub record Yes (a b k w r Q p1 : ℕ) : Type 0 where
   pub range : inRange a b k w r ≡ true
   pub quiet-range : quiet Q ≡ true
@@ -79,7 +78,7 @@ accepted-fits x some all phase bits-some bits choices = go (x .rows) some all
         let keeps = yes-keeps (x .a) (x .b) (x .k) (x .w) (x .r) (x .Q) (row .lead) (each .0) in (
           bits .0,
           bits .1,
-          m5-met (row .lead) (x .Q) (x .w) (x .r) ∙ le-leb _ _ (keeps .two .M5),
+          m5-met (x .w) (x .r) (x .Q) (row .lead) ∙ le-leb _ _ (keeps .two .M5),
           rows-fit rows (each .1) (bits .2),
         )
 
@@ -95,21 +94,10 @@ accepted-fits x some all phase bits-some bits choices = go (x .rows) some all
           m1 = m1-met (x .a) (x .w) (x .r) ∙ le-leb _ _ (keeps .three .M1);
           m2 = m2-met (x .a) (x .k) (x .w) (x .r) ∙ le-leb _ _ (keeps .three .M2);
           m3 = m3-met (x .a) (x .b) (x .k) (x .w) (x .r) ∙ le-leb _ _ (keeps .three .M3);
-          m4 = m4-met (x .a) (x .b) (x .Q) (x .w) (x .r) ∙ le-leb _ _ (keeps .two .M4);
+          m4 = m4-met (x .a) (x .b) (x .w) (x .r) (x .Q) ∙ le-leb _ _ (keeps .two .M4);
         }
 
 -- a plan's rows
-
-levels-take : (i : ℕ) (list : List ℕ) → Levels list → Levels (take i list)
-levels-take zero list this = tt
-levels-take (suc i) [] this = tt
-levels-take (suc i) (x ∷ list) this = (this .0, levels-take i list (this .1))
-
-levels-drop : (i : ℕ) (list : List ℕ) → Levels list → Levels (drop i list)
-levels-drop zero list this = this
-levels-drop (suc i) [] this = tt
-levels-drop (suc i) (x ∷ list) this = levels-drop i list (this .1)
-
 pub record Plan (x : Link) (leads : List ℕ) (rows : List Row) : Type 0 where
   pub bits : BitsFit x rows
   pub same : leadsOf rows ≡ leads
@@ -121,10 +109,10 @@ plan-of x [] trails bits t h levels = rw (rows-none (x .n) trails bits) (record 
 plan-of x (p1 ∷ leads) [] bits t h levels = absurd (omega arith)
 plan-of x (p1 ∷ leads) (p2 ∷ trails) bits t h levels =
     let rest = plan-of x leads trails (drop (x .n) bits) (omega arith) (rw length-drop (omega arith))
-    (levels-drop (x .n) bits levels) in
+    (most-drop 1 (x .n) bits levels) in
     rw (rows-more (x .n) p1 p2 leads trails bits)
     (record {
-      bits = (omega (arith, length-take (x .n) bits), levels-take (x .n) bits levels, rest .bits);
+      bits = (omega (arith, length-take (x .n) bits), most-take 1 (x .n) bits levels, rest .bits);
       same = ap (λ (l : List ℕ). p1 ∷ l) (rest .same);
       many = omega (arith, rest .many);
     })
@@ -133,12 +121,8 @@ plan-of x (p1 ∷ leads) (p2 ∷ trails) bits t h levels =
 front-is : (result output : List ℕ) → front (given (length result), onto result output) ≡ result
 front-is result output = take-append-seam result (drop (length result) output)
 
--- no entry is above the greatest of its kind
-none-bad : (most : ℕ) (list : List ℕ) → AtMost most list → someAbove most list ≡ false
-none-bad most list all = rw (none-above most list all) (le-ltb (length list) (length list) (omega arith))
-
 pub whole-way : WholeWayHolds
-unfolding planReads
+unfolding planReads overTheLine
 whole-way y within = record {
   sends = sends;
   smooths = smooths ∙ ap (λ (n : ℕ). (given n, onto (smooth wave) (y .forSmooth))) (length-smooth wave);
@@ -151,7 +135,8 @@ whole-way y within = record {
       ∙ every-caller (receiverSettings x) range caller (planReads x)
       ∙ heeded-reports (receiverSettings x) fresh 0 (planReads x) (read-binary x fits)
       ∙ whole x fits;
-  recovers = λ caller. any-hearing x fits (hearing caller (receiverSettings x)) (every-caller (receiverSettings x) range caller);
+  recovers = λ caller.
+      any-hearing x fits (hearing caller (receiverSettings x)) (every-caller (receiverSettings x) range caller);
 }
   where
     x : Link
@@ -172,9 +157,8 @@ whole-way y within = record {
     few = ltb-false _ _ (passes _ _ (passes _ _ (passes _ _ (within .plan) .1) .1) .0)
 
     bits : Levels (y .bits)
-    bits = levels-most (y .bits)
-        (above-none 1 (y .bits)
-        (ltb-false _ _ (passes _ _ (passes _ _ (passes _ _ (passes _ _ (within .plan) .1) .1) .1) .0)))
+    bits =
+        most-none-some 1 (y .bits) (passes _ _ (passes _ _ (passes _ _ (passes _ _ (within .plan) .1) .1) .1) .0)
 
     outer : (subcell (y .a) && subcell (y .b) && rowBits (y .n) && fitting (y .n) (y .leads) (y .trails) (y .bits))
         ≡ true
@@ -241,7 +225,7 @@ whole-way y within = record {
     sends = answered .send-plan (y .a) (y .b) (y .n) (y .leads) (y .trails) (y .bits) (y .forWave) .gives (within .plan)
 
     levels : AtMost 1 wave
-    levels = plan-most (y .a) (y .b) (x .rows)
+    levels = plan-levels (y .a) (y .b) (x .rows)
 
     smooth-size : length (smooth wave) ≡ length wave
     smooth-size = length-smooth wave
@@ -251,7 +235,7 @@ whole-way y within = record {
         ap (λ (l : List ℕ). smoothed l (y .forSmooth)) (ap front sends ∙ front-is wave (y .forWave))
         ∙ answered .smooth wave (y .forSmooth) .gives
         (passing _ _ (le-ltb _ _ few)
-        (passing _ _ (none-bad 1 wave levels)
+        (passing _ _ (none-some 1 wave levels)
         (passing _ _
         (le-ltb (length (y .forSmooth)) (length (smooth wave)) (omega (arith, smooth-size, within .smooth-room)))
         none-left)))
@@ -267,7 +251,7 @@ whole-way y within = record {
         (passing _ _ (ap not times)
         (passing _ _ (le-ltb entriesMost (length (smooth wave)) (omega (arith, smooth-size, few)))
         (passing _ _ (le-ltb _ _ (within .few-reads))
-        (passing _ _ (none-bad 2 (smooth wave) smooth-levels)
+        (passing _ _ (none-some 2 (smooth wave) smooth-levels)
         (passing _ _ (le-ltb _ _ (within .reads-room)) none-left)))))
 
     read-kinds : AtMost 2 reads
@@ -282,8 +266,8 @@ whole-way y within = record {
         ∙ answered .settle reads (y .choices) (y .forSettled) .gives
         (passing _ _ (le-ltb _ _ (within .few-reads))
         (passing _ _ (le-ltb _ _ (within .few-choices))
-        (passing _ _ (none-bad 2 reads read-kinds)
-        (passing _ _ (none-bad 1 (y .choices) (most-levels (y .choices) (within .choices)))
+        (passing _ _ (none-some 2 reads read-kinds)
+        (passing _ _ (none-some 1 (y .choices) (within .choices))
         (passing _ _ (le-ltb (length (y .forSettled)) (length (settle reads (y .choices)))
         (omega (arith, length-settle reads (y .choices), within .settled-room))) none-left)))))
 

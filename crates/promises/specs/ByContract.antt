@@ -5,7 +5,7 @@ use contract.Lifetimes.{Lfts}
 use denote.Ref.{now}
 use denote.Triple.Entry.{Args, Res}
 use denote.Triple.Clauses.{Ended, Lasts, atExit}
-use lib.ListN.{take}
+use lib.ListN.{length, take}
 use Rattle.measure.specs.Choose.{between as isBetween}
 use Rattle.measure.specs.Ranges.{settingsFit}
 use Rattle.measure.specs.Lists.{firstAbove}
@@ -20,6 +20,8 @@ use Rattle.board.specs.WellFormed.{wellFormed}
 use Rattle.board.specs.Answers.{begun, startSays, stepped, steppedSays, listened, listenedSays}
 use Rattle.capture.specs.Capture.{header}
 use Rattle.capture.specs.Answers.{headSays, checked, readBack, checkedSays, written, writtenSays}
+use Rattle.text.specs.Decimal.{decimal, signedDecimal}
+use Rattle.text.specs.Putting.{putAt}
 use Rattle.page.specs.Lines.{headingLine, eventLine, endLine, refusedLine}
 use Rattle.page.specs.Answers.{putSays}
 use Rattle.siengulot.specs.Crossing.{crossed, crossing, judgedThree, judgedFive, summed}
@@ -31,6 +33,7 @@ use Rattle.line.proofs as Line
 use Rattle.counted.proofs as Counted
 use Rattle.board.proofs as Board
 use Rattle.capture.proofs as Capture
+use Rattle.text.proofs as Text
 use Rattle.page.proofs as Page
 use Rattle.siengulot.proofs as C
 use Rattle.promises.specs.OneMeaning.{Clause}
@@ -114,6 +117,22 @@ pub record ByContract : Type 0 where
   pub write-capture : Says Capture.write_capture.ended Capture.write_capture.Reads.Post
       λ κs (k, (n, (Q, (reads, (out, _))))) x (_, (_, (_, (_, (out′, _))))).
       written (k .0) n (Q .0) (now reads) (now out) ≡ (writtenSays x, out′)
+  -- text
+  pub put-text : Says Text.put_text.ended Text.put_text.Reads.Post
+      λ κs (out, (at, (text, _))) x (out′, _).
+      putAt (now text) at (now out) ≡ (x, out′)
+  pub number-size : Says Text.number_size.ended Text.number_size.Reads.Post
+      λ κs (n, _) x _.
+      x ≡ length (decimal n)
+  pub put-number : Says Text.put_number.ended Text.put_number.Reads.Post
+      λ κs (out, (at, (n, _))) x (out′, _).
+      putAt (decimal n) at (now out) ≡ (x, out′)
+  pub signed-size : Says Text.signed_size.ended Text.signed_size.Reads.Post
+      λ κs (v, _) x _.
+      x ≡ length (signedDecimal v)
+  pub put-signed : Says Text.put_signed.ended Text.put_signed.Reads.Post
+      λ κs (out, (at, (v, _))) x (out′, _).
+      putAt (signedDecimal v) at (now out) ≡ (x, out′)
   -- page
   pub put-heading : Says Page.put_heading.ended Page.put_heading.Reads.Post
       λ κs (out, _) x (out′, _).
@@ -142,27 +161,27 @@ pub record ByContract : Type 0 where
       λ κs (a, (b, (p1, (p2, (bits, (out, (place, (count, _)))))))) x
       (_, (_, (_, (_, (_, (out′, (place′, (count′, _)))))))).
       crossing crossed (sentMessage a b p1 p2 (now bits) (now out))
-      ≡ (record { number = x; place = place′; count = count′ }, out′)
+      ≡ ((x, place′, count′), out′)
   pub siengulot-plan : Says C.siengulot_plan.ended C.siengulot_plan.Reads.Post
       λ κs (a, (b, (n, (leads, (trails, (bits, (out, (place, (count, _))))))))) x
       (_, (_, (_, (_, (_, (_, (out′, (place′, (count′, _))))))))).
       crossing crossed (sentPlan a b n (now leads) (now trails) (now bits) (now out))
-      ≡ (record { number = x; place = place′; count = count′ }, out′)
+      ≡ ((x, place′, count′), out′)
   pub siengulot-smooth : Says C.siengulot_smooth.ended C.siengulot_smooth.Reads.Post
       λ κs (wave, (out, (place, (count, _)))) x (_, (out′, (place′, (count′, _)))).
-      crossing crossed (smoothed (now wave) (now out)) ≡ (record { number = x; place = place′; count = count′ }, out′)
+      crossing crossed (smoothed (now wave) (now out)) ≡ ((x, place′, count′), out′)
   pub siengulot-warp : Says C.siengulot_warp.ended C.siengulot_warp.Reads.Post
       λ κs (w, (r, (p, (wave, (out, (place, (count, _))))))) x (_, (_, (_, (_, (out′, (place′, (count′, _))))))).
       crossing crossed (warped w r p (now wave) (now out))
-      ≡ (record { number = x; place = place′; count = count′ }, out′)
+      ≡ ((x, place′, count′), out′)
   pub siengulot-settle : Says C.siengulot_settle.ended C.siengulot_settle.Reads.Post
       λ κs (reads, (choices, (out, (place, (count, _))))) x (_, (_, (out′, (place′, (count′, _))))).
       crossing crossed (settled (now reads) (now choices) (now out))
-      ≡ (record { number = x; place = place′; count = count′ }, out′)
+      ≡ ((x, place′, count′), out′)
   pub siengulot-counted : Says C.siengulot_counted.ended C.siengulot_counted.Reads.Post
       λ κs (k, (n, (level, (reads, (out, (place, (count, _))))))) x (_, (_, (_, (_, (out′, (place′, (count′, _))))))).
       crossing crossed (countedBits k n level (now reads) (now out))
-      ≡ (record { number = x; place = place′; count = count′ }, out′)
+      ≡ ((x, place′, count′), out′)
   pub siengulot-fresh : Says C.siengulot_fresh.ended C.siengulot_fresh.Reads.Post
       λ κs (k, (n, (Q, (numbers, (bytes, _))))) x (_, (_, (_, (numbers′, (bytes′, _))))).
       begunLent (begun k n Q) ≡ (x, numbers′, bytes′)
@@ -199,4 +218,4 @@ pub record ByContract : Type 0 where
       Says C.siengulot_capture_write.ended C.siengulot_capture_write.Reads.Post
       λ κs (k, (n, (Q, (reads, (out, (place, (count, _))))))) x (_, (_, (_, (_, (out′, (place′, (count′, _))))))).
       crossing crossed (written k n Q (now reads) (now out))
-      ≡ (record { number = x; place = place′; count = count′ }, out′)
+      ≡ ((x, place′, count′), out′)

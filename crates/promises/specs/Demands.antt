@@ -18,7 +18,7 @@ use Rattle.line.specs.Settle.{settle as settling}
 use Rattle.line.specs.Sharing.{WarpLawsHold}
 use Rattle.line.specs.Answers.{smoothed, warped, settled}
 use Rattle.counted.specs.Counted.{counted}
-use Rattle.counted.specs.Answers.{found, countedBits}
+use Rattle.counted.specs.Answers.{countedInto, countedBits}
 use Rattle.board.specs.Rows.{Settings, nothing, fresh as freshState, next as nextState}
 use Rattle.board.specs.Feeding.{reports as reportsOf}
 use Rattle.board.specs.Packed.{settingsOf, stateOf, receiverOf}
@@ -28,7 +28,7 @@ use Rattle.board.specs.declared.Receiver.{Receiver}
 use Rattle.capture.specs.Numbers.{numberAt}
 use Rattle.capture.specs.Capture.{header}
 use Rattle.capture.specs.Writing.{captureOf}
-use Rattle.capture.specs.Held.{begun as begunReader, advanced}
+use Rattle.capture.specs.Held.{begunReader, advanced}
 use Rattle.capture.specs.Answers.{summary, checked, readBack, written}
 use Rattle.capture.specs.RoundTrips.{WrittenReadsBack, ReadWritesBack}
 use Rattle.capture.specs.declared.held.CaptureReader.{CaptureReader}
@@ -60,10 +60,10 @@ pub record Demand1 : Type 0 where
       → Fills (Good.warp w r p wave output) (warping w r p wave) output (warped w r p wave output)
   pub settle : (reads choices output : List ℕ)
       → Fills (Good.settle reads choices output) (settling reads choices) output (settled reads choices output)
-  -- refusal 5 is the counted receiver's alone: `found` gives it with the bits that there are
+  -- refusal 5 is the counted receiver's alone: `countedInto` gives it with the bits that there are
   pub count-bits : (k n level : ℕ) (reads output : List ℕ)
       → Answered (Good.countBits k n level reads output) (countedBits k n level reads output)
-      (found n (counted k n level reads) output) (λ number place. (refused number place, output))
+      (countedInto n (counted k n level reads) output) (λ number place. (refused number place, output))
   pub fresh : (k n Q : ℕ)
       → Answered (Good.fresh k n Q) (begun k n Q)
       (given nothing, receiverOf (record { k = k; n = n; Q = Q }) freshState)
@@ -100,7 +100,7 @@ pub record Demand1 : Type 0 where
 pub record Demand2 : Type 0 where
   -- what a read looks at, and how many reads there are
   pub line : WarpLawsHold
-  -- accepted receiverSettings return every message
+  -- accepted settings return every message
   pub counts : OperationReturns
   -- every step gives a well formed state; and the row receiver hears what the rules hear, whatever comes in, one read a
   -- call or a list a call, in Rust and from C
@@ -118,8 +118,8 @@ pub record Demand3Met : Type 0 where
   pub grounds : GroundsHold
   pub of-every-caller : (x : Link) → Fitting x → settingsFit (x .k) (x .n) (x .Q) ≡ true → (caller : Caller)
       → Demand3 x (hearing caller (receiverSettings x))
-  -- a yes of the quiet judge for each row's lead is what is asked of the receiverSettings; and from the lent lists of a plan to
-  -- the delivered rows, call after call
+  -- a yes of the quiet judge for each row's lead is what is asked of the settings; and from the lent lists of a plan to the
+  -- delivered rows, call after call
   pub judged : AcceptedFits
   pub whole-way : WholeWayHolds
 

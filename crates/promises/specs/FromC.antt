@@ -14,7 +14,7 @@ use Rattle.line.specs.Warp.{warp as warping}
 use Rattle.line.specs.Settle.{settle as settling}
 use Rattle.line.specs.Answers.{smoothed, warped, settled}
 use Rattle.counted.specs.Counted.{counted as countedOf}
-use Rattle.counted.specs.Answers.{found, countedBits}
+use Rattle.counted.specs.Answers.{countedInto, countedBits}
 use Rattle.board.specs.Rows.{next}
 use Rattle.board.specs.Feeding.{reports}
 use Rattle.board.specs.Packed.{settingsOf, stateOf}
@@ -23,13 +23,13 @@ use Rattle.board.specs.Answers.{reached, begun, levelsOf, toEvent}
 use Rattle.capture.specs.Writing.{captureOf}
 use Rattle.capture.specs.Answers.{checked, readBack, written}
 use Rattle.siengulot.specs.Crossing.{crossed, crossing, flag, judgedThree, judgedFive, summed}
-use Rattle.siengulot.specs.Receivers.{Lent, Told, standing, receiverOf, brought, broughtBy, begunLent, steppedLent}
-use Rattle.siengulot.specs.Receivers.{listenedLent, wellFormedLent}
+use Rattle.siengulot.specs.Receivers.{Lent, Reply, named, numbersFit, receiverLent, brought, broughtBy, begunLent}
+use Rattle.siengulot.specs.Receivers.{steppedLent, listenedLent, wellFormedLent}
 use Rattle.promises.specs.GoodInput as Good
 use Rattle.promises.specs.Promised.{Answered, FillsFromC, setting}
 
 -- what is told with a refusal of reads
-abbrev pub refusal : ℕ → ℕ → Told
+abbrev pub refusal : ℕ → ℕ → Reply
 refusal number place = record { number = number; place = place; event = 0; found = 0 }
 
 -- the five numbers of a capture's summary
@@ -46,7 +46,7 @@ pub record Demand1FromC : Type 0 where
       → Answered (Good.judgeQuiet a b k w r Q p1) (judgedFive (quietJudgement a b k w r Q p1) margins) (
         0,
         flag (quietAccepted a b k w r Q p1),
-        m1 a w r ∷ m2 a k w r ∷ m3 a b k w r ∷ m4 a b Q w r ∷ m5 p1 Q w r ∷ [],
+        m1 a w r ∷ m2 a k w r ∷ m3 a b k w r ∷ m4 a b w r Q ∷ m5 w r Q p1 ∷ [],
       ) (λ number place. (number, 0, margins))
   pub send : (a b p1 p2 : ℕ) (bits output : List ℕ)
       → FillsFromC (Good.send a b p1 p2 bits output) (wave a b p1 p2 bits) output
@@ -65,8 +65,8 @@ pub record Demand1FromC : Type 0 where
   -- with refusal 5 the count is of the bits found, which stand at the output's front
   pub counted : (k n level : ℕ) (reads output : List ℕ)
       → Answered (Good.countBits k n level reads output) (crossing crossed (countedBits k n level reads output))
-      (crossing crossed (found n (countedOf k n level reads) output))
-      (λ number place. (record { number = number; place = place; count = 0 }, output))
+      (crossing crossed (countedInto n (countedOf k n level reads) output))
+      (λ number place. ((number, place, 0), output))
   -- the receiver's eight numbers (k, n, Q, mode, run, left, level, found) and its bytes; a refused start is all zeros
   pub fresh : (k n Q : ℕ)
       → Answered (Good.fresh k n Q) (begunLent (begun k n Q))
@@ -74,16 +74,16 @@ pub record Demand1FromC : Type 0 where
       (λ number place. (number, replicate 8 0, replicate 128 0))
   -- 1 for a well formed state and 0 for any other
   pub well-formed : (numbers bytes : List ℕ)
-      → Answered (setting (standing numbers) ∷ setting (wellFormed (receiverOf numbers bytes)) ∷ [])
+      → Answered (setting (numbersFit (named numbers)) ∷ setting (wellFormed (receiverLent (named numbers) bytes)) ∷ [])
       (wellFormedLent numbers bytes) 1 (λ number place. 0)
   pub step : (lent : Lent) (read : ℕ)
-      → let x = receiverOf (lent .numbers) (lent .bytes) in
+      → let x = receiverLent (named (lent .numbers)) (lent .bytes) in
       let moved = next (settingsOf x) (stateOf x) read in
       Answered (Good.stepFromC lent read) (steppedLent lent read)
       (brought lent (reached (settingsOf x) (moved .state) (moved .event)))
       (λ number place. (refusal number place, lent))
   pub listen : (lent : Lent) (reads : List ℕ)
-      → let x = receiverOf (lent .numbers) (lent .bytes) in
+      → let x = receiverLent (named (lent .numbers)) (lent .bytes) in
       let told = reports (settingsOf x) (stateOf x) 0 (levelsOf reads) in
       Answered (Good.listenFromC lent reads) (listenedLent lent reads)
       (broughtBy lent (toEvent (settingsOf x) (stateOf x) (levelsOf reads) told))

@@ -23,7 +23,7 @@ use Rattle.board.specs.declared.Receiver.{Receiver}
 use Rattle.capture.specs.Numbers.{Group, value, cut, long, group, further}
 use Rattle.capture.specs.Capture.{Heading, Capture, totalMost, readsOfRuns}
 use Rattle.capture.specs.Writing.{captureOf}
-use Rattle.siengulot.specs.Receivers.{Lent, standing, receiverOf}
+use Rattle.siengulot.specs.Receivers.{Lent, named, numbersFit, receiverLent}
 use Rattle.promises.specs.Promised.{Test, setting, limit, entries, entry, room}
 
 -- the judges
@@ -102,12 +102,12 @@ beforeAnyEvent x reads =
 abbrev pub listen : (x : Receiver) (reads : List ℕ) → List Test
 listen x reads = setting (wellFormed x) ∷ limit entriesMost reads ∷ beforeAnyEvent x reads ∷ []
 
--- from C: first the lent numbers have to stand for a receiver
+-- from C: first the lent numbers have to make a receiver
 abbrev pub stepFromC : (lent : Lent) (read : ℕ) → List Test
-stepFromC lent read = setting (standing (lent .numbers)) ∷ step (receiverOf (lent .numbers) (lent .bytes)) read
+stepFromC lent read = setting (numbersFit (named (lent .numbers))) ∷ step (receiverLent (named (lent .numbers)) (lent .bytes)) read
 
 abbrev pub listenFromC : (lent : Lent) (reads : List ℕ) → List Test
-listenFromC lent reads = setting (standing (lent .numbers)) ∷ listen (receiverOf (lent .numbers) (lent .bytes)) reads
+listenFromC lent reads = setting (numbersFit (named (lent .numbers))) ∷ listen (receiverLent (named (lent .numbers)) (lent .bytes)) reads
 
 -- what stands at a place of a capture: a number's value and how many bytes it has, 0 where there is none
 abbrev pub at : List ℕ → ℕ → Group

@@ -4,7 +4,7 @@ use Prim.Native.Nat.{ℕ, zero, suc, _+_, _-_, _≤_}
 use mathlib.Core.Path.{_≡_}
 use mathlib.Core.List.{List, [], _∷_}
 use lib.Dec.{eqb, leb}
-use lib.ListN.{length, getD, take, drop}
+use lib.ListN.{length, take, drop}
 use Rattle.measure.specs.Choose.{choose}
 use Rattle.measure.specs.Ranges.{entriesMost}
 use Rattle.measure.specs.Refusals.{Answer, given, refused, refusedAfter}
@@ -13,7 +13,7 @@ use Rattle.board.specs.Feeding.{Report, noted, Step, reportsBy}
 use Rattle.board.specs.Packed.{unpacked}
 use Rattle.board.specs.Answers.{begun, stepped, listened}
 use Rattle.board.specs.declared.Receiver.{Receiver}
-use Rattle.siengulot.specs.Receivers.{Lent, Told, begunLent, steppedLent, listenedLent}
+use Rattle.siengulot.specs.Receivers.{named, Lent, Reply, begunLent, steppedLent, listenedLent}
 
 -- what a call with one read answers, and the receiver that comes back
 abbrev pub Stepping : Type 0 → Type 0
@@ -61,12 +61,12 @@ listen x reads = ((listened x reads .0 .answer, listened x reads .0 .receiver), 
 
 -- What a C caller makes of the numbers it is told: number 0 is no refusal; event 1 is a row, whose n bits stand in the
 -- lent bytes, and event 2 a broken one.
-abbrev pub crossedEvent : Told → Lent → Answer Event
-crossedEvent told lent =
-    choose (eqb (told .number) 0)
-    (given (choose (eqb (told .event) 1) (row (take (getD (lent .numbers) 1 0) (unpacked 8 (lent .row))))
-    (choose (eqb (told .event) 2) (broken (told .found)) nothing)))
-    (refused (told .number) (told .place))
+abbrev pub crossedEvent : Reply → Lent → Answer Event
+crossedEvent reply lent =
+    choose (eqb (reply .number) 0)
+    (given (choose (eqb (reply .event) 1) (row (take (named (lent .numbers) .n) (unpacked 8 (lent .row))))
+    (choose (eqb (reply .event) 2) (broken (reply .found)) nothing)))
+    (refused (reply .number) (reply .place))
 
 -- and C's two entry points
 abbrev pub stepFromC : Stepping Lent

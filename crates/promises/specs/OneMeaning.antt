@@ -9,7 +9,7 @@ use denote.Ref.{RefT}
 use denote.Triple.Entry.{Args, Res}
 use denote.Triple.Clauses.{Ended, Lasts, AtExit, atExit}
 use Rattle.capture.specs.Numbers.{numberAt}
-use Rattle.capture.specs.Held.{begun, advanced}
+use Rattle.capture.specs.Held.{begunReader, advanced}
 use Rattle.capture.specs.Answers.{numberSays}
 use Rattle.capture.specs.declared.Number.{Number}
 use Rattle.capture.specs.declared.held.CaptureReader.{CaptureReader}
@@ -20,6 +20,7 @@ use Rattle.line.proofs as Line
 use Rattle.counted.proofs as Counted
 use Rattle.board.proofs as Board
 use Rattle.capture.proofs as Capture
+use Rattle.text.proofs as Text
 use Rattle.page.proofs as Page
 use Rattle.siengulot.proofs as C
 
@@ -72,6 +73,12 @@ pub record OneMeaning : Type 0 where
   pub check : One Capture.check.ended Capture.check.Reads.Asked Capture.check.Reads.Post
   pub read-capture : One Capture.read_capture.ended Capture.read_capture.Reads.Asked Capture.read_capture.Reads.Post
   pub write-capture : One Capture.write_capture.ended Capture.write_capture.Reads.Asked Capture.write_capture.Reads.Post
+  -- text
+  pub put-text : One Text.put_text.ended Text.put_text.Reads.Asked Text.put_text.Reads.Post
+  pub number-size : One Text.number_size.ended Text.number_size.Reads.Asked Text.number_size.Reads.Post
+  pub put-number : One Text.put_number.ended Text.put_number.Reads.Asked Text.put_number.Reads.Post
+  pub signed-size : One Text.signed_size.ended Text.signed_size.Reads.Asked Text.signed_size.Reads.Post
+  pub put-signed : One Text.put_signed.ended Text.put_signed.Reads.Asked Text.put_signed.Reads.Post
   -- page
   pub put-heading : One Page.put_heading.ended Page.put_heading.Reads.Asked Page.put_heading.Reads.Post
   pub put-row : One Page.put_row.ended Page.put_row.Reads.Asked Page.put_row.Reads.Post
@@ -102,7 +109,7 @@ pub record OneMeaning : Type 0 where
   -- The exceptions: the held reader's `capture::held::new`, `capture::held::place`, `capture::held::next` and
   -- `capture::held::advance` take or hand on a struct that holds a reference. They are proved by hand, and for such a
   -- function the check makes no clause that others can name. These lines repeat their equations.
-  pub held-new : (bytes : RefT (List ℕ)) (x y : CaptureReader) → x ≡ begun bytes → y ≡ begun bytes → x ≡ y
+  pub held-new : (bytes : RefT (List ℕ)) (x y : CaptureReader) → x ≡ begunReader bytes → y ≡ begunReader bytes → x ≡ y
   pub held-place : (reader : CaptureReader) (x y : ℕ) → x ≡ reader .at → y ≡ reader .at → x ≡ y
   pub held-next : (bytes : List ℕ) (at : ℕ) (x y : Number) → numberAt bytes at ≡ numberSays x
       → numberAt bytes at ≡ numberSays y → x ≡ y

@@ -13,7 +13,6 @@ use Rattle.settings.specs.Margins.{m1, m2, m3, m4, m5, accepted, quietAccepted}
 use Rattle.settings.specs.Answers.{Judgement, QuietJudgement}
 use Rattle.board.specs.declared.Mode.the-variants.{Hunting}
 use Rattle.board.specs.declared.Receiver.{Receiver}
-use Rattle.siengulot.specs.Crossing.{Crossed}
 
 -- a test of the table: the number and the place of its refusal, and whether the input fails it
 pub record Test : Type 0 where
@@ -66,10 +65,10 @@ Fills tests result output outcome =
     Answered tests outcome (given (length result), onto result output) (λ number place. (refused number place, output))
 
 -- The same from C: the refusal's number (0 for none), its place, and the count, which is 0 with a refusal.
-abbrev pub FillsFromC : List Test → (result output : List ℕ) → Crossed × List ℕ → Type 0
+abbrev pub FillsFromC : List Test → (result output : List ℕ) → (ℕ × ℕ × ℕ) × List ℕ → Type 0
 FillsFromC tests result output outcome =
-    Answered tests outcome (record { number = 0; place = 0; count = length result }, onto result output)
-    (λ number place. (record { number = number; place = place; count = 0 }, output))
+    Answered tests outcome ((0, 0, length result), onto result output)
+    (λ number place. ((number, place, 0), output))
 
 -- what the judges tell: the margins, and whether they are all zero or more
 abbrev pub judged : (a b k w r : ℕ) → Judgement
@@ -82,7 +81,7 @@ judged a b k w r =
 abbrev pub quietJudged : (a b k w r Q p1 : ℕ) → QuietJudgement
 quietJudged a b k w r Q p1 =
     record {
-      margins = record { m1 = m1 a w r; m2 = m2 a k w r; m3 = m3 a b k w r; m4 = m4 a b Q w r; m5 = m5 p1 Q w r };
+      margins = record { m1 = m1 a w r; m2 = m2 a k w r; m3 = m3 a b k w r; m4 = m4 a b w r Q; m5 = m5 w r Q p1 };
       accepts = quietAccepted a b k w r Q p1;
     }
 

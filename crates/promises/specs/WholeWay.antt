@@ -49,7 +49,7 @@ abbrev pub AcceptedFits : Type 0
 AcceptedFits = (x : Link) → 1 ≤ length (x .rows) → YesForEach x (leadsOf (x .rows)) → x .p < x .w → 1 ≤ x .n
     → BitsFit x (x .rows) → Levels (x .choices) → Fitting x
 
--- a plan as it is lent, the receiverSettings of its link, the line's choices, and the outputs that are lent to the four calls
+-- a plan as it is lent, the settings of its link, the line's choices, and the outputs that are lent to the four calls
 pub record Way : Type 0 where
   pub a : ℕ
   pub b : ℕ
