@@ -9,23 +9,24 @@ use native.Mathlib.Omega.{arith}
 use native.Mathlib.Decide.{decLe}
 use borrow.Author.Tests.{le-leb, lt-leb, le-ltb, eqb-true}
 use lib.Dec.{eqb}
-use lib.ListN.{length, getD, take, length-append}
+use lib.ListN.{length, getD, take}
 use Rattle.measure.specs.Choose.{choose}
-use Rattle.measure.specs.Ranges.{entriesMost, settingsFit}
+use Rattle.measure.specs.Ranges.{entriesMost}
 use Rattle.measure.specs.Cells.{bitOf}
 use Rattle.board.specs.declared.Mode.{Mode}
 use Rattle.board.specs.declared.Mode.the-variants.{Hunting, Ready, Counting, Waiting}
 use Rattle.board.specs.declared.Receiver.{Receiver}
-use Rattle.board.specs.Rows.{Settings, State, Event, nothing, row, broken, Moved, fresh, runAfter, next}
+use Rattle.board.specs.Rows.{Settings, State, Event, nothing, row, broken, Moved, runAfter, next}
 use Rattle.board.specs.Rows.{collected, listening, inProgress}
 use Rattle.board.specs.Feeding.{Report, noted, afterBy, reportsBy, after, reports}
 use Rattle.board.specs.Packed.{receiverOf}
-use Rattle.board.specs.Answers.{Outcome, reached, refusing, begun, stepped, listened}
+use Rattle.board.specs.Answers.{Outcome, reached, refusing, stepped, listened}
 use Rattle.board.specs.Listening.{eventOrRest, heardFrom}
 use Rattle.board.proofs.PackedBits.{Binary, binary-snoc}
 use Rattle.board.proofs.RowRules.{Valid, bit-most, valid-next}
 use Rattle.board.proofs.Standing.{state-of-receiver, well-formed-of}
 use Rattle.board.proofs.ListenedLaws.{listened-is}
+use Rattle.board.proofs.HeardLaws.{Some}
 
 -- a row that is delivered has n bits, each 0 or 1
 abbrev pub Whole : Settings → Event → Type 0
@@ -62,12 +63,6 @@ module _ (g : Settings) where
       whole-either (eqb (runAfter (g .Q) (s .run) read) (g .Q)) _ _
       (λ e. whole-quiet (inProgress (s .mode)) (length (s .bits)))
       (λ e. whole-listening (s .mode) s (runAfter (g .Q) (s .run) read) read (v .binary))
-
--- an event is something
-abbrev pub Some : Event → Type 0
-Some nothing = ⊥
-Some (row bits) = Unit {0}
-Some (broken found) = Unit {0}
 
 pub noted-some : (place : ℕ) (event : Event) → Some event → (more : List Report)
     → noted place event more ≡ record { place = place; event = event } ∷ more
@@ -141,7 +136,8 @@ module _ (x : Receiver) (g : Settings) where
             is = rw (lt-leb read 1 (omega arith), e);
           }
 
-      brings : read ≤ 1 → (event : Event) → next g s read .event ≡ event → Some event → Brings x g s place (read ∷ reads)
+      brings : read ≤ 1 → (event : Event) → next g s read .event ≡ event → Some event
+          → Brings x g s place (read ∷ reads)
       brings h event e some =
           let one : place + 1 ≡ suc place = omega arith in
           let here : place + 1 - 1 ≡ place = omega arith in
@@ -225,8 +221,3 @@ module _ (g : Settings) (s : State) (v : Valid g s) where
       listened-is (receiverOf g s) reads
       ∙ rw (well-formed-of g s v, le-ltb entriesMost (length reads) few)
       (ap (λ (t : State). heardFrom (receiverOf g s) g t 0 reads) (state-of-receiver g s v))
-
-pub begun-fresh : (k n Q : ℕ) → settingsFit k n Q ≡ true
-    → begun k n Q .1 ≡ receiverOf (record { k = k; n = n; Q = Q }) fresh
-unfolding begun
-begun-fresh k n Q fits = rw fits

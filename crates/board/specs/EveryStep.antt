@@ -1,4 +1,4 @@
--- 01, "The row receiver": whatever is read, the state that comes back is well formed.
+-- Rule B26: whatever is read, the state that comes back is well formed.
 use Prim.Native.Nat.{ℕ}
 use mathlib.Core.Path.{_≡_}
 use mathlib.Core.Bool.{true}
@@ -8,8 +8,8 @@ use Rattle.board.specs.WellFormed.{wellFormed}
 use Rattle.board.specs.Answers.{begun, stepped, listened}
 use Rattle.board.specs.declared.Receiver.{Receiver}
 
--- A receiver that is started with settings in range is well formed, and each call hands on a well formed one where it
--- was given one, also where it refuses.
+-- B26, R30: A receiver that is started with settings in range is well formed, and each call hands on a well formed one
+-- where it was given one, also where it refuses.
 pub record EveryStep : Type 0 where
   pub fresh : (k n Q : ℕ) → settingsFit k n Q ≡ true → wellFormed (begun k n Q .1) ≡ true
   pub step : (x : Receiver) (read : ℕ) → wellFormed x ≡ true → wellFormed (stepped x read .receiver) ≡ true

@@ -1,6 +1,6 @@
 -- Whatever hears as the rules do, with entries that are no level passed over, meets demand 3: a link's own reads are
 -- levels, and what stands in the stretch leaves no trace once a lead quiet has been heard.
-use Prim.Native.Nat.{ℕ, suc, _+_, _-_, _≤_, _<_}
+use Prim.Native.Nat.{ℕ, suc, _+_, _-_}
 use mathlib.Core.Path.{ap, _∙_}
 use mathlib.Core.List.{List}
 use native.Mathlib.Omega.{arith}
@@ -25,7 +25,8 @@ binary-drop n list all i = rw (getD-drop n list i 0) (all (n + i))
 pub read-binary : (x : Link) → Fitting x → Binary (planReads x)
 read-binary x fits = most-at 1 (planReads x) (read-levels x fits)
 
-pub any-hearing : (x : Link) → Fitting x → (hear : List ℕ → List Report) → Hears (receiverSettings x) hear → Demand3 x hear
+pub any-hearing : (x : Link) → Fitting x → (hear : List ℕ → List Report) → Hears (receiverSettings x) hear
+    → Demand3 x hear
 any-hearing x fits hear hears = record {
   before = λ i j junk ij le.
       ap (below i) (hears (damaged x i j junk))

@@ -1,5 +1,5 @@
--- Where the rules' words place a row: the Q reads of a lead are the first that pass the test of lying within it, so the Q-th
--- is the last of them, and the last sample is counted from the read after it.
+-- Where the rules' words place a row: the Q reads of a lead are the first that pass the test of lying within it, so the
+-- Q-th is the last of them, and the last sample is counted from the read after it.
 use mathlib.Core.Path.{_≡_, refl, subst, ap, _∙_}
 use mathlib.Core.Bool.{Bool, true, false}
 use mathlib.Core.List.{List, _∷_}

@@ -53,7 +53,8 @@ module _ (bytes : List ℕ) (place : ℕ) where
   fitting-answered fits =
       same (fitting-then fits bytes place)
       (followed
-      (λ answer. then answer (λ n. choose (fits (n .value)) (given n) (refused 8 place))) number-answered (λ number place. refl) λ good.
+      (λ answer. then answer (λ n. choose (fits (n .value)) (given n) (refused 8 place))) number-answered
+      (λ number place. refl) λ good.
       (within (fits (Good.valueOf (Good.at bytes place))) 8 place (done refl)))
 
 -- the first four numbers

@@ -13,7 +13,7 @@ use borrow.Author.Tests.{le-leb, lt-leb}
 use lib.ListN.{length, getD, take, drop, length-take, length-drop, take-append-drop}
 use lib.Seq.{take-append-le, take-length, getD-take, drop-cons}
 use Rattle.measure.specs.Ranges.{entriesMost, settingsFit}
-use Rattle.measure.specs.Refusals.{given, refused}
+use Rattle.measure.specs.Refusals.{Answer, given, refused}
 use Rattle.board.specs.Rows.{Settings, State, Event, nothing, fresh, next}
 use Rattle.board.specs.Feeding.{Report, noted, afterBy, reportsBy, after, reports}
 use Rattle.board.specs.Packed.{receiverOf}
@@ -24,8 +24,8 @@ use Rattle.board.proofs.RowRules.{Valid, valid-fresh, valid-next}
 use Rattle.board.proofs.Standing.{ranged-of}
 use Rattle.board.proofs.FeedingLaws.{reports-append, later, reports-later}
 use Rattle.board.proofs.CallLaws.{Whole, Ends, Stops, Brings, Heard, hears, noted-some}
-use Rattle.board.proofs.CallLaws.{stepped-level, stepped-other, listened-valid, begun-fresh}
-use Rattle.board.proofs.HeardLaws.{listened-levels}
+use Rattle.board.proofs.CallLaws.{stepped-level, stepped-other, listened-valid}
+use Rattle.board.proofs.HeardLaws.{listened-levels, begun-fresh}
 use Rattle.promises.specs.Hearing.{Stepping, Listening, oneByOne, goingOn, byLists, step, listen}
 use Rattle.promises.specs.Hearing.{steps, listens, hearing, heeding, Hears}
 
@@ -245,13 +245,16 @@ module _ (g : Settings) (range : settingsFit (g .k) (g .n) (g .Q) ≡ true) wher
   valid : Valid g fresh
   valid = valid-fresh g (ranged-of g range)
 
+  started : begun (g .k) (g .n) (g .Q) .1 ≡ receiverOf g fresh
+  started = ap (λ (p : Answer Event × Receiver). p .1) (begun-fresh (g .k) (g .n) (g .Q) range)
+
   pub step-hears : Hears g (hearing steps g)
   step-hears reads =
       one-by-one g (Is g) step (rust-steps g) fresh (begun (g .k) (g .n) (g .Q) .1) 0 reads valid
-      (begun-fresh (g .k) (g .n) (g .Q) range)
+      started
 
   pub listen-hears : (part : ℕ) (some : 1 ≤ part) (few : part ≤ entriesMost)
       → Hears g (hearing (listens part some few) g)
   listen-hears part some few reads =
       by-lists g (Is g) listen (rust-listens g) part some few (length reads) fresh (begun (g .k) (g .n) (g .Q) .1) 0
-      reads valid (begun-fresh (g .k) (g .n) (g .Q) range) (omega arith)
+      reads valid started (omega arith)

@@ -1,5 +1,5 @@
--- What C holds between calls is a receiver as it crosses, from which that receiver can be recovered, and a row's bits can be
--- recovered from its bytes. So a run of calls from C is a run of the operations.
+-- What C holds between calls is a receiver as it crosses, from which that receiver can be recovered, and a row's bits
+-- can be recovered from its bytes. So a run of calls from C is a run of the operations.
 use Prim.Native.Nat.{ℕ, _≤_, _<_}
 use mathlib.Core.Path.{_≡_, refl, sym, ap}
 use mathlib.Core.Bool.{true}
@@ -57,11 +57,13 @@ module _ (g : Settings) where
 
     step-crosses : (read : ℕ) (outcome : Outcome) → stepped x read ≡ outcome
         → steppedLent (putBack x room) read ≡ brought (putBack x room) outcome
-    step-crosses read outcome e = step-brought (putBack x room) (its-numbers-fit x byte) (receiver-recovered x) read e refl
+    step-crosses read outcome e =
+        step-brought (putBack x room) (its-numbers-fit x byte) (receiver-recovered x) read e refl
 
     listen-crosses : (reads : List ℕ) (outcome : Outcome) (used : ℕ) → listened x reads ≡ (outcome, used)
         → listenedLent (putBack x room) reads ≡ (brought (putBack x room) outcome, used)
-    listen-crosses reads outcome used e = listen-brought (putBack x room) (its-numbers-fit x byte) (receiver-recovered x) reads e refl
+    listen-crosses reads outcome used e =
+        listen-brought (putBack x room) (its-numbers-fit x byte) (receiver-recovered x) reads e refl
 
   c-steps : Steps g Holds stepFromC
   c-steps = record { level = level; other = other }

@@ -1,5 +1,5 @@
--- the rules' limits leave room for a lost message wherever one bit fits at all: at the last phase with no pads it has the
--- fewest reads, and where a lead is needed, the cell is short enough for it.
+-- The rules' limits leave room for a lost message wherever one bit fits at all: at the last phase with no pads it has
+-- the fewest reads, and where a lead is needed, the cell is short enough for it.
 use mathlib.Core.Path.{_≡_, refl, sym, _∙_}
 use mathlib.Core.Logic.{dite}
 use mathlib.Core.Bool.{true, false, false≢true}

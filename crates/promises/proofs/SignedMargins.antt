@@ -1,5 +1,5 @@
--- Each margin of the rules is a difference of two naturals, so that it is minus one or more is an order between these: the
--- margins of the inner theorem.
+-- Each margin of the rules is a difference of two naturals, so that it is minus one or more is an order between these:
+-- the margins of the inner theorem.
 use mathlib.Core.Path.{_≡_, refl, sym, _∙_}
 use mathlib.Core.Bool.{true}
 use Prim.Native.Nat.{ℕ, zero, suc, _+_, _*_}

@@ -33,7 +33,8 @@ use Rattle.promises.proofs.Promised.{done, past, within, across, laid}
 use Rattle.promises.proofs.GoodCaptures.{number-answered, header-answered, capture-answered, read-answered}
 
 pub answered : Demand1
-unfolding judgement quietJudgement sentMessage sentPlan smoothed warped settled countedBits begun stepped listened checked readBack written number packed
+unfolding judgement quietJudgement sentMessage sentPlan smoothed warped settled countedBits begun stepped
+    listened checked readBack written number packed
 answered = record {
   judge = λ a b k w r. within (inRange a b k w r) 1 0 (done refl);
   judge-quiet = λ a b k w r Q p1. within (inRange a b k w r && quiet Q && leb p1 padMost) 1 0 (done refl);

@@ -28,13 +28,15 @@ use Rattle.promises.specs.Useless.{Sender, Line, ShutOut1, ShutOut}
 
 too-few : (hear : List ℕ → List Report) → length (below 117 (hear (damaged p10 117 117 []))) < 2 → Demand3 p10 hear
     → ⊥
-unfolding planReads overTheLine settle warp warpFrom look dropped smoothFrom planWave wave cells fromMark placesWhere numbered withinLead heard markPlace samplePlace lastSample deliveries reportsAt
+unfolding planReads overTheLine settle warp warpFrom look dropped smoothFrom planWave wave cells fromMark
+    placesWhere numbered withinLead heard markPlace samplePlace lastSample deliveries reportsAt
 too-few hear few demand =
     let two = ap (λ (l : List Report). length l) (demand .before 117 117 [] (omega arith) (omega arith)) in
     omega arith
 
 pub shut-out : ShutOut
-unfolding planReads overTheLine settle warp warpFrom look dropped smoothFrom planWave wave cells next reportsBy reportsAt
+unfolding planReads overTheLine settle warp warpFrom look dropped smoothFrom planWave wave cells next reportsBy
+    reportsAt
 shut-out = record {
   refusing = too-few _ (omega arith);
   leaving = too-few _ (omega arith);

@@ -1,5 +1,6 @@
--- The exact rule at the rules' clocks and settling: the rules' margins at minus one or more are those of the inner rule, whose lost
--- message is lost on the rules' line. The harmless "no" is computed, and for that the margins are unfolded.
+-- The exact rule at the rules' clocks and settling: the rules' margins at minus one or more are those of the inner
+-- rule, whose lost message is lost on the rules' line. The harmless "no" is computed, and for that the margins are
+-- unfolded.
 use mathlib.Core.Path.{_≡_, refl, sym, _∙_}
 use mathlib.Core.Bool.{Bool, true, false, false≢true}
 use mathlib.Core.List.{[], _∷_}

@@ -1,13 +1,13 @@
 -- Each call's input is good because of what the call before left, so each gives its very result, and these results are
 -- the lists that demand 3 speaks of; the judge's yes is its margins.
-use Prim.Native.Nat.{ℕ, zero, suc, _*_, _≤_}
+use Prim.Native.Nat.{ℕ, _*_, _≤_}
 use mathlib.Core.Path.{_≡_, refl, ap, _∙_}
 use mathlib.Core.Bool.{Bool, true, false, _&&_, not}
 use mathlib.Core.List.{List, [], _∷_}
 use native.Mathlib.Omega.{arith}
 use borrow.Author.Tests.{le-leb, le-ltb, lt-ltb, leb-true, eqb-true, ltb-false, not-false}
 use lib.Dec.{eqb, leb}
-use lib.ListN.{length, take, drop, length-take, length-drop}
+use lib.ListN.{length, drop, length-take, length-drop}
 use lib.Seq.{take-append-seam}
 use Rattle.measure.specs.Ranges.{subcell, sampling, cycleLength, quiet, padMost, bitsMost, rowBits, entriesMost}
 use Rattle.measure.specs.Ranges.{settingsFit}

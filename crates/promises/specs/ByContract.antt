@@ -38,7 +38,7 @@ use Rattle.page.proofs as Page
 use Rattle.siengulot.proofs as C
 use Rattle.promises.specs.OneMeaning.{Clause}
 
--- a contract says this of each call
+-- D30: a contract says this of each call
 abbrev pub Says : (function : Ended) → Clause function
     → ((κs : Lfts (function .signature .lifetimes)) (a : Args (function .signature) κs) → Res (function .signature) κs
     → Lasts function κs a → Type 0) → Type 0
@@ -46,6 +46,7 @@ Says function clause said =
     (κs : Lfts (function .signature .lifetimes)) (a : Args (function .signature) κs) (x : Res (function .signature) κs)
     (left : Lasts function κs a) → clause κs a x (atExit function κs a left) → said κs a x left
 
+-- D30
 pub record ByContract : Type 0 where
   -- measure
   pub number : Says Measure.number.ended Measure.number.Reads.Post

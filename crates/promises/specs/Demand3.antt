@@ -2,7 +2,7 @@
 -- the next lead quiet that is heard.
 -- The definitions are those that the operations' contracts cite: the sender leaves `planWave` in the lent output, each
 -- pass of the line leaves its list, and the receiver, given one read a call, reports what feeding `next` reports
--- (OneByOne).
+-- (Hearing).
 use Prim.Native.Nat.{ℕ, _+_, _-_, _≤_, _<_}
 use mathlib.Core.Path.{_≡_}
 use mathlib.Core.Bool.{true}
@@ -25,7 +25,8 @@ RowsFit x (row ∷ rows) =
     × (zeroOrMore (M5 (x .w) (x .r) (x .Q) (row .lead)) ≡ true)
     × RowsFit x rows
 
--- D20: What is asked of a link and its plan. None of the rules' upper limits is, and that a read takes time follows from M2.
+-- D20: What is asked of a link and its plan. None of the rules' upper limits is, and that a read takes time follows
+-- from M2.
 pub record Fitting (x : Link) : Type 0 where
   pub phase : x .p < x .w
   pub choices : Levels (x .choices)

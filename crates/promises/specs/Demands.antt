@@ -43,8 +43,8 @@ use Rattle.promises.specs.Demand3.{Fitting, receiverSettings, Demand3, D
 use Rattle.promises.specs.Hearing.{Caller, hearing, Hears}
 use Rattle.promises.specs.WholeWay.{AcceptedFits, WholeWayHolds}
 
--- Demand 1: whatever comes in is answered. Good input gets its very result, and every lent entry past it is as it was.
--- Bad input is refused by the first test of 01's table that it fails, with its number and its place, and all that was
+-- D1: whatever comes in is answered. Good input gets its very result, and every lent entry past it is as it was. Bad
+-- input is refused by the first test of the rules' table that it fails, with its number and its place, and all that was
 -- lent is as it was. GoodInput lists the tests.
 pub record Demand1 : Type 0 where
   pub judge : (a b k w r : ℕ) → Tells (Good.judge a b k w r) (judgedSettings a b k w r) (judgement a b k w r)
@@ -96,7 +96,7 @@ pub record Demand1 : Type 0 where
       → Fills (Good.writeCapture k n Q reads output) (captureOf k n Q reads) output (written k n Q reads output)
   pub put-line : (line output : List ℕ) → Fills (room (length line) output ∷ []) line output (lent line output)
 
--- Demand 2: what goes over the line is what 01's rules make of it, from the sender to the receivers and to a capture.
+-- D2: what goes over the line is what the rules make of it, from the sender to the receivers and to a capture.
 pub record Demand2 : Type 0 where
   -- what a read looks at, and how many reads there are
   pub line : WarpLawsHold
@@ -110,20 +110,20 @@ pub record Demand2 : Type 0 where
   pub reads-back : WrittenReadsBack
   pub writes-back : ReadWritesBack
 
--- Demand 3: each row of a plan is delivered once and in order; and where a stretch of reads is replaced by any others,
--- each row again from the next lead quiet that is heard. It holds of the rules, with its grounds, and of every caller:
--- of `step` with one read a call, of `listen` with a list a call, and of both from C.
+-- D3: each row of a plan is delivered once and in order; and where a stretch of reads is replaced by any others, each
+-- row again from the next lead quiet that is heard. It holds of the rules, with its grounds, and of every caller: of
+-- `step` with one read a call, of `listen` with a list a call, and of both from C.
 pub record Demand3Met : Type 0 where
   pub of-the-rules : Demand3Holds
   pub grounds : GroundsHold
   pub of-every-caller : (x : Link) → Fitting x → settingsFit (x .k) (x .n) (x .Q) ≡ true → (caller : Caller)
       → Demand3 x (hearing caller (receiverSettings x))
-  -- a yes of the quiet judge for each row's lead is what is asked of the settings; and from the lent lists of a plan to the
-  -- delivered rows, call after call
+  -- a yes of the quiet judge for each row's lead is what is asked of the settings; and from the lent lists of a plan
+  -- to the delivered rows, call after call
   pub judged : AcceptedFits
   pub whole-way : WholeWayHolds
 
--- what the contracts say, and the three demands, the first also of the fifteen entry points for C
+-- D1, D2, D3: what the contracts say, and the three demands, the first also of the fifteen entry points for C
 pub record Demands : Type 0 where
   pub contracts : ByContract
   pub demand-1 : Demand1

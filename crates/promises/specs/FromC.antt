@@ -28,15 +28,16 @@ use Rattle.siengulot.specs.Receivers.{steppedLent, listenedLent, wellFormedLent
 use Rattle.promises.specs.GoodInput as Good
 use Rattle.promises.specs.Promised.{Answered, FillsFromC, setting}
 
--- what is told with a refusal of reads
+-- H9: what is told with a refusal of reads
 abbrev pub refusal : ℕ → ℕ → Reply
 refusal number place = record { number = number; place = place; event = 0; found = 0 }
 
--- the five numbers of a capture's summary
+-- H10: the five numbers of a capture's summary
 abbrev pub summaryOf : (bytes : List ℕ) → List ℕ
 summaryOf bytes =
     let c = Good.captured bytes in c .k ∷ c .n ∷ c .Q ∷ length (Good.readsIn bytes) ∷ length (c .runs) ∷ []
 
+-- D1, H1
 pub record Demand1FromC : Type 0 where
   -- judging: the number, whether the settings are accepted, and the margins, which a refusal leaves
   pub judge : (a b k w r : ℕ) (margins : List ℤ)

@@ -1,5 +1,5 @@
--- What good input is, operation by operation: the tests of 01's table of refusals that it has to pass, in the order in
--- which they are made.
+-- What good input is, operation by operation: the tests of the rules' table of refusals that it has to pass, in the
+-- order in which they are made.
 use Prim.Native.Nat.{ℕ, zero, suc, _+_}
 use mathlib.Core.Bool.{Bool, true, false, _&&_, not}
 use mathlib.Core.List.{List, [], _∷_, _++_}
@@ -26,15 +26,16 @@ use Rattle.capture.specs.Writing.{captureOf}
 use Rattle.siengulot.specs.Receivers.{Lent, named, numbersFit, receiverLent}
 use Rattle.promises.specs.Promised.{Test, setting, limit, entries, entry, room}
 
--- the judges
+-- R40: the judges
 abbrev pub judge : (a b k w r : ℕ) → List Test
 judge a b k w r = setting (subcell a && subcell b && sampling k && cycleLength w && cycleLength r) ∷ []
 
+-- R41
 abbrev pub judgeQuiet : (a b k w r Q p1 : ℕ) → List Test
 judgeQuiet a b k w r Q p1 =
     setting ((subcell a && subcell b && sampling k && cycleLength w && cycleLength r) && quiet Q && leb p1 padMost) ∷ []
 
--- sending; a plan is lent as its lead pads, its trail pads and the bits of all rows
+-- R42: sending; a plan is lent as its lead pads, its trail pads and the bits of all rows
 abbrev pub send : (a b p1 p2 : ℕ) (bits output : List ℕ) → List Test
 send a b p1 p2 bits output =
     setting (subcell a && subcell b && leb p1 padMost && leb p2 padMost)
@@ -44,6 +45,7 @@ send a b p1 p2 bits output =
     ∷ room (length (wave a b p1 p2 bits)) output
     ∷ []
 
+-- R43
 abbrev pub sendPlan : (a b n : ℕ) (leads trails bits output : List ℕ) → List Test
 sendPlan a b n leads trails bits output =
     setting (subcell a && subcell b && rowBits n && fitting n leads trails bits && padded leads && padded trails)
@@ -53,10 +55,11 @@ sendPlan a b n leads trails bits output =
     ∷ room (length (planWave a b (rowsOf n leads trails bits))) output
     ∷ []
 
--- the three passes: smooth takes levels, warp unknowns too, and settle searches the reads before the choices
+-- R44: the three passes: smooth takes levels, warp unknowns too, and settle searches the reads before the choices
 abbrev pub smooth : (levels output : List ℕ) → List Test
 smooth levels output = limit entriesMost levels ∷ entries 1 levels ∷ room (length (smoothing levels)) output ∷ []
 
+-- R45
 abbrev pub warp : (w r p : ℕ) (levels output : List ℕ) → List Test
 warp w r p levels output =
     setting (timed w r p)
@@ -66,6 +69,7 @@ warp w r p levels output =
     ∷ room (length (warping w r p levels)) output
     ∷ []
 
+-- R46, R23
 abbrev pub settle : (reads choices output : List ℕ) → List Test
 settle reads choices output =
     limit entriesMost reads
@@ -75,7 +79,7 @@ settle reads choices output =
     ∷ room (length (settling reads choices)) output
     ∷ []
 
--- the counted receiver asks room for n bits
+-- R47: the counted receiver asks room for n bits
 abbrev pub countBits : (k n level : ℕ) (reads output : List ℕ) → List Test
 countBits k n level reads output =
     setting (sampling k && leb n bitsMost && leb level 1)
@@ -84,13 +88,15 @@ countBits k n level reads output =
     ∷ room n output
     ∷ []
 
--- the row receiver; a list is refused for a read that is no level only where no event comes before it
+-- R48: the row receiver; a list is refused for a read that is no level only where no event comes before it
 abbrev pub fresh : (k n Q : ℕ) → List Test
 fresh k n Q = setting (settingsFit k n Q) ∷ []
 
+-- R50
 abbrev pub step : (x : Receiver) (read : ℕ) → List Test
 step x read = setting (wellFormed x) ∷ entry 1 read ∷ []
 
+-- R51
 abbrev pub beforeAnyEvent : (x : Receiver) (reads : List ℕ) → Test
 beforeAnyEvent x reads =
     record {
@@ -99,69 +105,83 @@ beforeAnyEvent x reads =
       failed = someAbove 1 reads && silent (reports (settingsOf x) (stateOf x) 0 (levelsOf reads));
     }
 
+-- R51
 abbrev pub listen : (x : Receiver) (reads : List ℕ) → List Test
 listen x reads = setting (wellFormed x) ∷ limit entriesMost reads ∷ beforeAnyEvent x reads ∷ []
 
--- from C: first the lent numbers have to make a receiver
+-- H8: from C: first the lent numbers have to make a receiver
 abbrev pub stepFromC : (lent : Lent) (read : ℕ) → List Test
-stepFromC lent read = setting (numbersFit (named (lent .numbers))) ∷ step (receiverLent (named (lent .numbers)) (lent .bytes)) read
+stepFromC lent read =
+    setting (numbersFit (named (lent .numbers)))
+    ∷ step (receiverLent (named (lent .numbers)) (lent .bytes)) read
 
+-- H8
 abbrev pub listenFromC : (lent : Lent) (reads : List ℕ) → List Test
-listenFromC lent reads = setting (numbersFit (named (lent .numbers))) ∷ listen (receiverLent (named (lent .numbers)) (lent .bytes)) reads
+listenFromC lent reads =
+    setting (numbersFit (named (lent .numbers)))
+    ∷ listen (receiverLent (named (lent .numbers)) (lent .bytes)) reads
 
--- what stands at a place of a capture: a number's value and how many bytes it has, 0 where there is none
+-- F21: what stands at a place of a capture: a number's value and how many bytes it has, 0 where there is none
 abbrev pub at : List ℕ → ℕ → Group
 at bytes place = group further (drop place bytes)
 
+-- F1
 abbrev pub valueOf : Group → ℕ
 valueOf (value v size) = v
 valueOf cut = 0
 valueOf long = 0
 
+-- F1
 abbrev pub sizeOf : Group → ℕ
 sizeOf (value v size) = size
 sizeOf cut = 0
 sizeOf long = 0
 
+-- R6
 abbrev pub isCut : Group → Bool
 isCut (value v size) = false
 isCut cut = true
 isCut long = false
 
+-- R7
 abbrev pub isLong : Group → Bool
 isLong (value v size) = false
 isLong cut = false
 isLong long = true
 
--- a number is there: 6 where the bytes end before it or in it, 7 where it is not in shortest form or too long
+-- R6, R7: a number is there: 6 where the bytes end before it or in it, 7 where it is not in shortest form or too long
 abbrev pub number : (bytes : List ℕ) (place : ℕ) → List Test
 number bytes place =
     record { number = 6; place = place; failed = isCut (at bytes place) }
     ∷ record { number = 7; place = place; failed = isLong (at bytes place) }
     ∷ []
 
--- and it is in range for its place: 8
+-- R8: and it is in range for its place: 8
 abbrev pub inRange : (ℕ → Bool) → (bytes : List ℕ) (place : ℕ) → List Test
 inRange fits bytes place =
     number bytes place ++ (record { number = 8; place = place; failed = not (fits (valueOf (at bytes place))) } ∷ [])
 
--- the place after a number, and those of the second, third and fourth number and of the first run
+-- F21: the place after a number, and those of the second, third and fourth number and of the first run
 abbrev pub next : (bytes : List ℕ) (place : ℕ) → ℕ
 next bytes place = place + sizeOf (at bytes place)
 
+-- F24
 abbrev pub second : List ℕ → ℕ
 second bytes = next bytes 0
 
+-- F24
 abbrev pub third : List ℕ → ℕ
 third bytes = next bytes (second bytes)
 
+-- F24
 abbrev pub fourth : List ℕ → ℕ
 fourth bytes = next bytes (third bytes)
 
+-- F24
 abbrev pub firstRun : List ℕ → ℕ
 firstRun bytes = next bytes (fourth bytes)
 
--- a capture's header: not too many bytes, then number by number from the left
+-- R53: a capture's header: not too many bytes, then number by number from the left
 abbrev pub header : (bytes : List ℕ) → List Test
 header bytes =
     limit captureMost bytes
@@ -170,7 +190,8 @@ header bytes =
     ++ (inRange quiet bytes (third bytes)
     ++ inRange (between 0 1) bytes (fourth bytes))))
 
--- its runs from a place on, so many at most, after runs with this total: each at least 1, and together not too many
+-- R8, F12: its runs from a place on, so many at most, after runs with this total: each at least 1, and together not too
+-- many
 unfoldable pub runs : (most total place : ℕ) (bytes : List ℕ) → List Test
 runs zero total place bytes = []
 runs (suc most) total place bytes =
@@ -178,7 +199,7 @@ runs (suc most) total place bytes =
     (inRange (λ run. leb 1 run && leb (total + run) totalMost) bytes place
     ++ runs most (total + valueOf (at bytes place)) (next bytes place) bytes)
 
--- no first level of 0 without a run
+-- R8, R28: no first level of 0 without a run
 abbrev pub someRun : (bytes : List ℕ) → Test
 someRun bytes =
     record {
@@ -187,17 +208,17 @@ someRun bytes =
       failed = eqb (valueOf (at bytes (fourth bytes))) 0 && leb (length bytes) (firstRun bytes);
     }
 
--- a capture
+-- R54, R21: a capture
 abbrev pub capture : (bytes : List ℕ) → List Test
 capture bytes = header bytes ++ (runs (length bytes) 0 (firstRun bytes) bytes ++ (someRun bytes ∷ []))
 
--- the runs that are there
+-- F10: the runs that are there
 unfoldable pub runsIn : (most place : ℕ) (bytes : List ℕ) → List ℕ
 runsIn zero place bytes = []
 runsIn (suc most) place bytes =
     choose (leb (length bytes) place) [] (valueOf (at bytes place) ∷ runsIn most (next bytes place) bytes)
 
--- what a header and a capture say: the numbers, one after another
+-- F24: what a header and a capture say: the numbers, one after another
 abbrev pub heading : (bytes : List ℕ) → Heading
 heading bytes =
     record {
@@ -209,6 +230,7 @@ heading bytes =
       after = firstRun bytes;
     }
 
+-- F10
 abbrev pub captured : (bytes : List ℕ) → Capture
 captured bytes =
     record {
@@ -219,14 +241,15 @@ captured bytes =
       runs = runsIn (length bytes) (firstRun bytes) bytes;
     }
 
+-- F11
 abbrev pub readsIn : (bytes : List ℕ) → List ℕ
 readsIn bytes = readsOfRuns (captured bytes .level) (captured bytes .runs)
 
--- reading a capture asks room for its reads, last
+-- R55: reading a capture asks room for its reads, last
 abbrev pub readCapture : (bytes output : List ℕ) → List Test
 readCapture bytes output = capture bytes ++ (room (length (readsIn bytes)) output ∷ [])
 
--- writing one
+-- R56: writing one
 abbrev pub writeCapture : (k n Q : ℕ) (reads output : List ℕ) → List Test
 writeCapture k n Q reads output =
     setting (settingsFit k n Q)

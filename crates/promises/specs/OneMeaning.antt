@@ -1,6 +1,6 @@
--- 01, "Holding the promises to one meaning": no contract leaves room for two results. Each line is about the contract
--- itself, as the function's crate passes it on: `Post` is its whole `ensures`, `Asked` its `requires`, and `ended` its
--- parameters. The gate fails for a public function that no line here names (.ci/one-meaning).
+-- Rules D30 and D31: no contract leaves room for two results. Each line is about the contract itself, as the function's
+-- crate passes it on: `Post` is its whole `ensures`, `Asked` its `requires`, and `ended` its parameters. The gate fails
+-- for a public function that no line here names (.ci/one-meaning).
 use mathlib.Core.Path.{_≡_}
 use mathlib.Core.List.{List}
 use Prim.Native.Nat.{ℕ}
@@ -24,18 +24,18 @@ use Rattle.text.proofs as Text
 use Rattle.page.proofs as Page
 use Rattle.siengulot.proofs as C
 
--- what a contract asks of a call's arguments
+-- D30: what a contract asks of a call's arguments
 abbrev pub Asking : Ended → Type 1
 Asking function = (κs : Lfts (function .signature .lifetimes)) → Args (function .signature) κs → Type 0
 
--- what a contract says of a call: of its arguments, its result, and what is left when it returns
+-- D30: what a contract says of a call: of its arguments, its result, and what is left when it returns
 abbrev pub Clause : Ended → Type 1
 Clause function =
     (κs : Lfts (function .signature .lifetimes)) → Args (function .signature) κs → Res (function .signature) κs
     → AtExit function κs → Type 0
 
--- One meaning, for all input: nothing is asked of the caller; and two ends of one call that both satisfy the contract
--- are the same, so the results are equal, and so is what is left behind each `&mut` that was passed.
+-- D31: One meaning, for all input: nothing is asked of the caller; and two ends of one call that both satisfy the
+-- contract are the same, so the results are equal, and so is what is left behind each `&mut` that was passed.
 pub record One (function : Ended) (asked : Asking function) (clause : Clause function) : Type 0 where
   pub always : (κs : Lfts (function .signature .lifetimes)) (a : Args (function .signature) κs) → asked κs a
   pub once : (κs : Lfts (function .signature .lifetimes)) (a : Args (function .signature) κs)
@@ -43,6 +43,7 @@ pub record One (function : Ended) (asked : Asking function) (clause : Clause fun
       → clause κs a x (atExit function κs a left) → clause κs a y (atExit function κs a right)
       → (x ≡ y) × (left ≡ right)
 
+-- D31
 pub record OneMeaning : Type 0 where
   -- measure
   pub number : One Measure.number.ended Measure.number.Reads.Asked Measure.number.Reads.Post

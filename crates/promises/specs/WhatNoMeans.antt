@@ -64,8 +64,8 @@ pub record HarmlessNo : Type 0 where
   pub refused : accepted 2 5 4 1 1 ≡ false
   pub returned : EveryMessageReturned 2 5 4 1 1
 
--- M22: the rules' limits change nothing: where the settings are in range and some message of one bit is within the limits,
--- one within the limits is lost
+-- M22: the rules' limits change nothing: where the settings are in range and some message of one bit is within the
+-- limits, one within the limits is lost
 abbrev pub LostWithinLimits : Type 0
 LostWithinLimits = (a b k w r : ℕ) → inRange a b k w r ≡ true → (m : OneBit w) → WithinLimits a b w r m
     → almostAccepted a b k w r ≡ false → (n : OneBit w) × WithinLimits a b w r n × Lost a b k w r n

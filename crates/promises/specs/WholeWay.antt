@@ -21,35 +21,36 @@ use Rattle.promises.specs.Promised.{good}
 use Rattle.promises.specs.GoodInput as Good
 use Rattle.promises.specs.Hearing.{Caller, hearing}
 
--- the quiet judge says yes
+-- M13: the quiet judge says yes
 abbrev pub SaysYes : Answer QuietJudgement → Type 0
 SaysYes (given judgement) = judgement .accepts ≡ true
 SaysYes (refused number place) = ⊥
 SaysYes (refusedAfter number place count) = ⊥
 
--- it does so for each of these lead pads
+-- D3: it does so for each of these lead pads
 abbrev pub YesForEach : Link → List ℕ → Type 0
 YesForEach x [] = Unit {0}
 YesForEach x (p1 ∷ leads) =
     SaysYes (quietJudgement (x .a) (x .b) (x .k) (x .w) (x .r) (x .Q) p1) × YesForEach x leads
 
--- each of these rows has n bits, 0 or 1
+-- D20: each of these rows has n bits, 0 or 1
 abbrev pub BitsFit : Link → List Row → Type 0
 BitsFit x [] = Unit {0}
 BitsFit x (row ∷ rows) = (length (row .bits) ≡ x .n) × Levels (row .bits) × BitsFit x rows
 
--- the rows' lead pads
+-- S23: the rows' lead pads
 abbrev pub leadsOf : List Row → List ℕ
 leadsOf [] = []
 leadsOf (row ∷ rows) = row .lead ∷ leadsOf rows
 
--- The judge joined to demand 3: a yes for the lead of each row, at least one, is what demand 3 asks of the settings.
--- The rest is asked of the phase, the bits and the choices.
+-- D3, D20: The judge joined to demand 3: a yes for the lead of each row, at least one, is what demand 3 asks of the
+-- settings. The rest is asked of the phase, the bits and the choices.
 abbrev pub AcceptedFits : Type 0
 AcceptedFits = (x : Link) → 1 ≤ length (x .rows) → YesForEach x (leadsOf (x .rows)) → x .p < x .w → 1 ≤ x .n
     → BitsFit x (x .rows) → Levels (x .choices) → Fitting x
 
--- a plan as it is lent, the settings of its link, the line's choices, and the outputs that are lent to the four calls
+-- D3: a plan as it is lent, the settings of its link, the line's choices, and the outputs that are lent to the four
+-- calls
 pub record Way : Type 0 where
   pub a : ℕ
   pub b : ℕ
@@ -68,7 +69,7 @@ pub record Way : Type 0 where
   pub forReads : List ℕ
   pub forSettled : List ℕ
 
--- its link, with the plan's rows
+-- D10: its link, with the plan's rows
 abbrev pub linkOf : Way → Link
 linkOf y =
     record {
@@ -84,34 +85,38 @@ linkOf y =
       choices = y .choices;
     }
 
--- the plan's wave, what smoothing makes of it, and its reads before they settle
+-- D10: the plan's wave, what smoothing makes of it, and its reads before they settle
 abbrev pub waveOf : Way → List ℕ
 waveOf y = planWave (y .a) (y .b) (rowsOf (y .n) (y .leads) (y .trails) (y .bits))
 
+-- D10
 abbrev pub warpedOf : Way → List ℕ
 warpedOf y = warp (y .w) (y .r) (y .p) (smooth (waveOf y))
 
--- the entries that a call has given: so many at the front of what it left
+-- R32: the entries that a call has given: so many at the front of what it left
 abbrev pub front : Answer ℕ × List ℕ → List ℕ
 front (given count, left) = take count left
 front (refused number place, left) = []
 front (refusedAfter number place count, left) = []
 
--- the four calls
+-- R43: the four calls
 abbrev pub sending : Way → Answer ℕ × List ℕ
 sending y = sentPlan (y .a) (y .b) (y .n) (y .leads) (y .trails) (y .bits) (y .forWave)
 
+-- R44
 abbrev pub smoothing : Way → Answer ℕ × List ℕ
 smoothing y = smoothed (front (sending y)) (y .forSmooth)
 
+-- R45
 abbrev pub warping : Way → Answer ℕ × List ℕ
 warping y = warped (y .w) (y .r) (y .p) (front (smoothing y)) (y .forReads)
 
+-- R46
 abbrev pub settling : Way → Answer ℕ × List ℕ
 settling y = settled (front (warping y)) (y .choices) (y .forSettled)
 
--- what is asked: a plan that is good input, a phase, choices that are such, reads and choices within their limits, room
--- in each output, and a yes of the quiet judge for each lead
+-- D20: what is asked: a plan that is good input, a phase, choices that are such, reads and choices within their limits,
+-- room in each output, and a yes of the quiet judge for each lead
 pub record Within (y : Way) : Type 0 where
   pub plan : good (Good.sendPlan (y .a) (y .b) (y .n) (y .leads) (y .trails) (y .bits) (y .forWave)) ≡ true
   pub phase : y .p < y .w
@@ -123,7 +128,7 @@ pub record Within (y : Way) : Type 0 where
   pub settled-room : length (warpedOf y) ≤ length (y .forSettled)
   pub accepted : YesForEach (linkOf y) (y .leads)
 
--- what holds then
+-- D3: what holds then
 pub record WholeWay (y : Way) : Type 0 where
   -- each call gives what the rules make, and leaves all else as it was
   pub sends : sending y ≡ (given (length (waveOf y)), onto (waveOf y) (y .forWave))
@@ -139,5 +144,6 @@ pub record WholeWay (y : Way) : Type 0 where
   -- and with any stretch of them replaced by any others
   pub recovers : (caller : Caller) → Demand3 (linkOf y) (hearing caller (receiverSettings (linkOf y)))
 
+-- D3
 abbrev pub WholeWayHolds : Type 0
 WholeWayHolds = (y : Way) → Within y → WholeWay y
