@@ -79,23 +79,36 @@ group-on (suc more) b l p h =
     let fewer : suc more - 1 ≡ more = omega arith in
     simp (le-ltb b 128 h, fewer)
 
--- a number has a byte at least
-abbrev pub Some : Group → Type 0
-Some (value v size) = 1 ≤ size
-Some cut = Unit {0}
-Some long = Unit {0}
+-- a number has a byte, and no more of them than there are
+abbrev pub Ends : ℕ → Group → Type 0
+Ends len (value v size) = (1 ≤ size) × (size ≤ len)
+Ends len cut = Unit {0}
+Ends len long = Unit {0}
 
-before-some : (b : ℕ) (found : Group) → Some (before b found)
-before-some b (value v size) = omega arith
-before-some b cut = tt
-before-some b long = tt
+ends-before : (len byte : ℕ) (g : Group) → Ends len g → Ends (suc len) (before byte g)
+ends-before len byte (value v size) e = (omega arith, omega arith)
+ends-before len byte cut e = tt
+ends-before len byte long e = tt
 
-pub group-some : (more : ℕ) (l : List ℕ) → Some (group more l)
+following-ends : (more : ℕ) (l : List ℕ) → Ends (length l) (following more l)
+unfolding following
+following-ends more [] = tt
+following-ends zero (byte ∷ l) =
+    either (Ends (suc (length l))) (eqb byte 0) (λ e. tt)
+    (λ e. either (Ends (suc (length l))) (leb byte lastMost) (λ f. (omega arith, omega arith)) (λ f. tt))
+following-ends (suc more) (byte ∷ l) =
+    either (Ends (suc (length l))) (eqb byte 0) (λ e. tt)
+    (λ e. either (Ends (suc (length l))) (ltb byte 128) (λ f. (omega arith, omega arith))
+    (λ f. ends-before (length l) byte (following more l) (following-ends more l)))
+
+pub group-ends : (more : ℕ) (l : List ℕ) → Ends (length l) (group more l)
 unfolding group
-group-some more [] = tt
-group-some zero (b ∷ l) = either Some (leb b lastMost) (λ e. omega arith) (λ e. tt)
-group-some (suc more) (b ∷ l) =
-    either Some (ltb b 128) (λ e. omega arith) (λ e. before-some b (following more l))
+group-ends more [] = tt
+group-ends zero (byte ∷ l) =
+    either (Ends (suc (length l))) (leb byte lastMost) (λ f. (omega arith, omega arith)) (λ f. tt)
+group-ends (suc more) (byte ∷ l) =
+    either (Ends (suc (length l))) (ltb byte 128) (λ f. (omega arith, omega arith))
+    (λ f. ends-before (length l) byte (following more l) (following-ends more l))
 
 -- entries that are bytes
 abbrev pub Bytes : List ℕ → Type 0

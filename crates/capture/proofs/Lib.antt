@@ -5,6 +5,7 @@ pub mod ByWalk
 pub mod TakenApart
 pub mod Headings
 pub mod Runs
+pub mod Judging
 pub mod Tally
 pub mod Captures
 pub mod Unrolling

@@ -11,7 +11,7 @@ use Rattle.capture.specs.Numbers.{numberAt}
 use Rattle.capture.specs.Answers.{frontSays}
 use Rattle.capture.specs.declared.Front.{Front}
 use Rattle.capture.specs.declared.Front.the-variants.{Value}
-use Rattle.capture.proofs.Groups.{Some, group-some, Bytes, Within, bound-le, following-within, group-within}
+use Rattle.capture.proofs.Groups.{Ends, group-ends, Bytes, Within, bound-le, following-within, group-within}
 
 pub bytes-from : (s : List ℕ) (at : ℕ) → Bytes s → Bytes (drop at s)
 bytes-from s at b i = rw getD-drop (b (at + i))
@@ -54,9 +54,9 @@ number-placed s at n b = go (group further (drop at s)) (group-within further (d
 -- whatever the entries are, a number ends after its place
 pub number-on : (s : List ℕ) (at : ℕ) (n : Numeral) → numberAt s at ≡ given n → at < n .after
 unfolding numberAt
-number-on s at n = go (group further (drop at s)) (group-some further (drop at s))
+number-on s at n = go (group further (drop at s)) (group-ends further (drop at s))
   where
-    go : (g : Group) → Some g → placed at g ≡ given n → at < n .after
-    go (value v size) some e = let h : at + size ≡ n .after = cc in omega arith
+    go : (g : Group) → Ends (length (drop at s)) g → placed at g ≡ given n → at < n .after
+    go (value v size) (some, most) e = let h : at + size ≡ n .after = cc in omega arith
     go cut some e = let z : _≡_ {A = ℕ} 0 1 = cc in absurd (omega arith)
     go long some e = let z : _≡_ {A = ℕ} 0 1 = cc in absurd (omega arith)

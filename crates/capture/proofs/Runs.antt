@@ -62,7 +62,7 @@ unfolding runsFrom
 runs-end total s at h = runs-done (length s) total s at h
 
 -- the runs from a place before the end: the number there as a run, and those from the place after it
-runs-here : (total : ℕ) (s : List ℕ) (at : ℕ) → at < length s
+pub runs-here : (total : ℕ) (s : List ℕ) (at : ℕ) → at < length s
     → runsFrom total s at
     ≡ then (fittingAt (fitsAfter total) s at)
     (λ run. joined (run .value) (runsFrom (total + run .value) s (run .after)))

@@ -30,8 +30,8 @@ use Rattle.board.specs.Packed.{settingsOf, stateOf}
 use Rattle.board.specs.WellFormed.{wellFormed}
 use Rattle.board.specs.Answers.{Outcome, reached, refusing, begun, stepped, levelsOf, silent, toEvent, listened}
 use Rattle.capture.specs.Numbers.{Group, value, cut, long, group, further, Numeral, placed, numberAt}
-use Rattle.capture.specs.Capture.{then, passing, fittingAt, Heading, heading, header, joined, run, runsFrom, Capture}
-use Rattle.capture.specs.Capture.{withRuns, capture, readsOf as unrolledReads, totalMost}
+use Rattle.capture.specs.Capture.{then, fittingAt, Heading, fourNumbers, header, fitsAfter, joined, someRunsFrom}
+use Rattle.capture.specs.Capture.{runsFrom, Capture, withRuns, capture, readsOfRuns as unrolledReads}
 use Rattle.capture.specs.Writing.{captureOf}
 use Rattle.capture.specs.Answers.{summary, unrolled, checked, readBack, written}
 use Rattle.capture.proofs.RoundTrips.{written-read-back, read-written-back}
@@ -90,8 +90,8 @@ fitting-refuses fits bytes at =
     λ n. either (RefusesBy inside) (fits (n .value)) (given n) (refused 8 at) (by-given inside n)
     (by-refused _ inside 8 at refl)
 
-heading-refuses : (bytes : List ℕ) → RefusesBy inside (heading bytes)
-unfolding heading
+heading-refuses : (bytes : List ℕ) → RefusesBy inside (fourNumbers bytes)
+unfolding fourNumbers
 heading-refuses bytes =
     then-refuses inside (fittingAt sampling bytes 0) _ (fitting-refuses sampling bytes 0) λ k.
     then-refuses inside (fittingAt rowBits bytes (k .after)) _ (fitting-refuses rowBits bytes (k .after)) λ n.
@@ -104,23 +104,17 @@ joined-refuses : (run : ℕ) (answer : Answer (List ℕ)) → RefusesBy inside a
 joined-refuses run answer this =
     then-refuses inside answer (λ runs. given (run ∷ runs)) this λ runs. by-given inside (run ∷ runs)
 
-run-refuses : (at total : ℕ) (found : Group) (go : ℕ → ℕ → Answer (List ℕ))
-    → ((skip sum : ℕ) → RefusesBy inside (go skip sum)) → RefusesBy inside (run at total found go)
-unfolding oneOf
-run-refuses at total (value v size) go further =
-    either (RefusesBy inside) (leb 1 v && leb (total + v) totalMost) (joined v (go (size - 1) (total + v)))
-    (refused 8 at)
-    (joined-refuses v (go (size - 1) (total + v)) (further (size - 1) (total + v))) (by-refused _ inside 8 at refl)
-run-refuses at total cut go further = by-refused _ inside 6 at refl
-run-refuses at total long go further = by-refused _ inside 7 at refl
+some-runs-refuse : (most total : ℕ) (bytes : List ℕ) (at : ℕ) → RefusesBy inside (someRunsFrom most total bytes at)
+unfolding someRunsFrom
+some-runs-refuse zero total bytes at = by-given inside []
+some-runs-refuse (suc most) total bytes at =
+    either (RefusesBy inside) (leb (length bytes) at) (given []) _ (by-given inside [])
+    (then-refuses inside (fittingAt (fitsAfter total) bytes at) _ (fitting-refuses (fitsAfter total) bytes at) λ run.
+    joined-refuses (run .value) _ (some-runs-refuse most (total + run .value) bytes (run .after)))
 
-runs-refuse : (skip total at : ℕ) (bytes : List ℕ) → RefusesBy inside (runsFrom skip total at bytes)
+runs-refuse : (total : ℕ) (bytes : List ℕ) (at : ℕ) → RefusesBy inside (runsFrom total bytes at)
 unfolding runsFrom
-runs-refuse skip total at [] = by-given inside []
-runs-refuse zero total at (byte ∷ bytes) =
-    run-refuses at total (group further (byte ∷ bytes))
-    (λ skip sum. runsFrom skip sum (suc at) bytes) λ skip sum. runs-refuse skip sum (suc at) bytes
-runs-refuse (suc skip) total at (byte ∷ bytes) = runs-refuse skip total (suc at) bytes
+runs-refuse total bytes at = some-runs-refuse (length bytes) total bytes at
 
 with-refuses : (h : Heading) (runs : List ℕ) → RefusesBy inside (withRuns h runs)
 unfolding oneOf
@@ -128,13 +122,17 @@ with-refuses h runs =
     either (RefusesBy inside) (eqb (h .level) 0 && eqb (length runs) 0) (refused 8 (h .level-at)) (given _)
     (by-refused _ inside 8 (h .level-at) refl) (by-given inside _)
 
+header-refuses : (bytes : List ℕ) → RefusesBy inside (header bytes)
+unfolding oneOf
+header-refuses bytes =
+    either (RefusesBy inside) (ltb captureMost (length bytes)) (refused 3 0) (fourNumbers bytes)
+    (by-refused _ inside 3 0 refl) (heading-refuses bytes)
+
 capture-refuses : (bytes : List ℕ) → RefusesBy inside (capture bytes)
-unfolding capture oneOf
+unfolding capture
 capture-refuses bytes =
-    either (RefusesBy inside) (ltb captureMost (length bytes)) (refused 3 0) _ (by-refused _ inside 3 0 refl)
-    (then-refuses inside (heading bytes) _ (heading-refuses bytes) λ h.
-    then-refuses inside (runsFrom 0 0 (h .after) (drop (h .after) bytes)) (withRuns h)
-    (runs-refuse 0 0 (h .after) (drop (h .after) bytes)) (with-refuses h))
+    then-refuses inside (header bytes) _ (header-refuses bytes) λ h.
+    then-refuses inside (runsFrom 0 bytes (h .after)) (withRuns h) (runs-refuse 0 bytes (h .after)) (with-refuses h)
 
 -- one of some numbers is one of them with another behind
 one-more : (test : Bool) (rest after : Bool) → (rest ≡ true → after ≡ true) → choose test true rest ≡ true
@@ -312,9 +310,7 @@ demand-1 = record {
       (gives (1 ∷ []) unstarted _ nothing) (leaves _ (1 ∷ []) unstarted 1 0 refl);
   step = step-refuses;
   listen = listen-refuses;
-  read-header =
-      λ bytes. either (RefusesBy inside) (ltb captureMost (length bytes)) (refused 3 0) (heading bytes)
-      (by-refused _ inside 3 0 refl) (heading-refuses bytes);
+  read-header = header-refuses;
   check = λ bytes. then-refuses inside (capture bytes) (λ c. given (summary c))
       (capture-refuses bytes) λ c. by-given inside (summary c);
   read-capture = λ bytes output. unrolled-refuses (capture bytes) output (capture-refuses bytes);

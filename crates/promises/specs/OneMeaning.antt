@@ -23,7 +23,7 @@ use Rattle.board.specs.Answers.{begun, startSays, stepped, steppedSays, listene
 use Rattle.capture.specs.Numbers.{numberAt}
 use Rattle.capture.specs.Capture.{header}
 use Rattle.capture.specs.declared.held.CaptureReader.{CaptureReader}
-use Rattle.capture.specs.Held.{begun as begunReader, advanced}
+use Rattle.capture.specs.Held.{begunReader, advanced}
 use Rattle.capture.specs.Answers.{numberSays, headSays, checked, readBack, checkedSays, written, writtenSays}
 use Rattle.page.specs.Lines.{headingLine, eventLine, endLine, refusedLine}
 use Rattle.page.specs.Answers.{putSays}
