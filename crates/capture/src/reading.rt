@@ -196,8 +196,8 @@ pub fn read_header(bytes: &[u8]) -> Head
 }
 
 // Walks the runs after a header to the end of the file and sums the capture up. Refuses with 6 or 7 where a run cannot
-// be read, with 8 for a run of 0 and for the first with which the total is too large, and with 8 at the level's
-// byte where the first level is 0 and there is no run.
+// be read, with 8 for a run of 0 and for the first with which the total is too large, and with 8 at the level's byte
+// where the first level is 0 and there is no run.
 fn check_runs(bytes: &[u8], head: Header) -> Checked
     ensures { λ x. ⌜ summedUp (then (runsFrom 0 (now (bytes .entry)) (head .after)) (withRuns (headed head)))
         ≡ checkedSays x ⌝ }
