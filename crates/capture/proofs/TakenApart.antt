@@ -106,8 +106,8 @@ module _ {M : Type 1} (𝓤 : URA M) (H : Heap 𝓤) (A : Atoms 𝓤) (W : Given
       (refl, fits) $ fjoin ! $ move ! (1 ∷ 0 ∷ []) $ fjoin ! $
       move ! (2 ∷ 0 ∷ []) $ use2 W (raw asked) gives $ frame ! $ done !)
 
--- The call of the function: once it has returned there are its result, of which it told something and which is one of
--- its type, and the token. The reader is kept.
+-- The call of the function: it leaves a result of its type, of which it says something, and the token. The reader is
+-- kept.
 module _ {M : Type 1} {𝓤 : URA M} {H : Heap 𝓤} {A : Atoms 𝓤} {K : Type 0} {W : Given 𝓤 H A} {Γ : List (Item 𝓤)}
     {E : Env 𝓤 H} {C : Calls 𝓤 H} {f : Name} {xs : List Operand} {Λ : Loops 𝓤 H} {post : Post 𝓤 H} {to : Place} where
   pub passes-on : K → FmC 𝓤 H (W .laws) C → (κ : Lft) (q : Share) (d : CaptureReader) → d .at < 2 ^ 64

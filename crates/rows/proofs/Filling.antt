@@ -67,10 +67,10 @@ rows-most all rows heard h = go (heard .0 .answer) (λ e. h .least (goes-brings 
     go (refused number place) least = omega arith
     go (refusedAfter number place count) least = omega arith
 
--- a line on a page behind so many bytes
-line-behind : (page line : List ℕ) (bytes : ℕ) → bytes ≤ length page
+-- a line on a page after so many bytes
+line-after : (page line : List ℕ) (bytes : ℕ) → bytes ≤ length page
     → take (bytes + length line) (take bytes page ++ onto line (drop bytes page)) ≡ take bytes page ++ line
-line-behind page line bytes h =
+line-after page line bytes h =
     let n : length (take bytes page) ≡ bytes = length-take-le bytes page h in
     ap (λ (k : ℕ). take (k + length line) (take bytes page ++ onto line (drop bytes page))) (sym n)
     ∙ take-append-add (take bytes page) (onto line (drop bytes page)) (length line)
@@ -81,7 +81,7 @@ abbrev pub back : List ℕ → ℕ → List ℕ → List ℕ
 back page bytes out = take bytes page ++ (out ++ drop (length page - bytes) (drop bytes page))
 
 -- what a turn makes of a page that is being filled
-pub record Turned (w : Walk) (reads page₀ page : List ℕ) (at : Walk) (bytes : ℕ) (after : Walk) (more : Bool) (n : ℕ)
+pub record TurnedPage (w : Walk) (reads page₀ page : List ℕ) (at : Walk) (bytes : ℕ) (after : Walk) (more : Bool) (n : ℕ)
     (out : List ℕ) : Type 0 where
   pub size : length (back page bytes out) ≡ length page₀
   pub most : bytes + n ≤ length page₀
@@ -114,7 +114,7 @@ module _ (w : Walk) (reads page₀ page : List ℕ) (at : Walk) (bytes : ℕ) (f
         lines =
             f .lines
             ∙ ap (λ (l : List ℕ). take bytes page ++ l) (turn-lines at left)
-            ∙ rw (passed, line-behind page (turnLine at left) bytes (f .room))
+            ∙ rw (passed, line-after page (turnLine at left) bytes (f .room))
             (sym (append-assoc (take bytes page) (turnLine at left)
             (choose (goesOn (heard .0 .answer))
             (linesOf (afterTurn at heard) (drop (at .place + heard .1) reads)) [])));
@@ -137,7 +137,7 @@ module _ (w : Walk) (reads page₀ page : List ℕ) (at : Walk) (bytes : ℕ) (f
   -- The turn as the code has it: the part of a list up to its end is lent by its length.
   pub turned-page : (after : Walk) (more : Bool) (n : ℕ) (out : List ℕ)
       → turned at (tail (at .place) reads) (tail bytes page) ≡ (after, more, n, out)
-      → length out ≡ length (tail bytes page) → Turned w reads page₀ page at bytes after more n out
+      → length out ≡ length (tail bytes page) → TurnedPage w reads page₀ page at bytes after more n out
   unfolding turned left heard
   turned-page after more n out e kept =
       let told : turned at (drop (at .place) reads) (drop bytes page) ≡ (after, more, n, out) =

@@ -1,5 +1,5 @@
-// Text as bytes: words, and numbers in decimal, put from a place of a lent output on. Each piece is put whole, and the
-// place after it given; where it has no room, the output is untouched and the place comes back as it was.
+// Text as bytes: words, and numbers in decimal, put from a place of a lent output on. A line is put piece by piece,
+// each where the one before it ends; whoever puts it asks first for the sizes, and so knows whether all of it has room.
 ghost use mathlib.Core.Path.{_≡_};
 ghost use mathlib.Core.Bool.{true};
 ghost use Prim.Native.Nat.{_+_, _≤_};
@@ -25,7 +25,8 @@ fn has_room(room: usize, at: usize, size: usize) -> bool
     size <= left
 }
 
-// Puts a text from a place on.
+// Puts a text into the lent output from a place on, and gives the place after it. Where it has no room the output is
+// untouched, and the place comes back as it was.
 pub fn put_text(out: &mut [u8], at: usize, text: &[u8]) -> usize
     ensures { λ r. ⌜ putAt (now (text .entry)) at (now (out .entry)) ≡ (r, now (out .exit)) ⌝ }
 {
@@ -41,7 +42,7 @@ pub fn put_text(out: &mut [u8], at: usize, text: &[u8]) -> usize
     at + i
 }
 
-// Gives how many digits a number has.
+// Gives how many bytes a number has in decimal.
 pub fn number_size(n: usize) -> usize
     ensures { λ r. ⌜ r ≡ length (decimal n) ⌝ }
 {
@@ -70,7 +71,8 @@ fn put_digits(out: &mut [u8], at: usize, size: usize, n: usize)
     out[at] = ZERO + left as u8;
 }
 
-// Puts a number in decimal from a place on.
+// Puts a number in decimal, with no zero before it, from a place on, and gives the place after it. Leaves the output as
+// `put_text` does where it has no room.
 pub fn put_number(out: &mut [u8], at: usize, n: usize) -> usize
     ensures { λ r. ⌜ putAt (decimal n) at (now (out .entry)) ≡ (r, now (out .exit)) ⌝ }
 {
@@ -93,7 +95,7 @@ fn distance(v: i64) -> usize
     others as usize + 1
 }
 
-// Gives how many bytes a signed number has: its digits, and the minus sign of one below 0.
+// Gives how many bytes a signed number has in decimal: its digits, and a minus sign where it is below 0.
 pub fn signed_size(v: i64) -> usize
     ensures { λ r. ⌜ r ≡ length (signedDecimal v) ⌝ }
 {
@@ -103,7 +105,8 @@ pub fn signed_size(v: i64) -> usize
     number_size(v as usize)
 }
 
-// Puts a signed number in decimal from a place on, with a minus sign where it is below 0.
+// Puts a signed number in decimal, with a minus sign where it is below 0, from a place on, and gives the place after
+// it. Leaves the output as `put_text` does where it has no room.
 pub fn put_signed(out: &mut [u8], at: usize, v: i64) -> usize
     ensures { λ r. ⌜ putAt (signedDecimal v) at (now (out .entry)) ≡ (r, now (out .exit)) ⌝ }
 {

@@ -6,7 +6,7 @@ use native.Mathlib.Omega.{arith}
 use borrow.Author.Tests.{not-true, not-false}
 use lib.ListN.{length, length-drop}
 use Rattle.rows.specs.Turns.{walkOf}
-use Rattle.rows.proofs.Filling.{Filling, filling-none, tail-all, ready-left, Turned, turned-page}
+use Rattle.rows.proofs.Filling.{Filling, filling-none, tail-all, ready-left, TurnedPage, turned-page}
 use Rattle.rows.proofs.fill.Statement.{statement}
 use Rattle.rows.proofs.fill.Tie as tie
 
@@ -60,7 +60,7 @@ abbrev start : tie.After-turn Inv-loop μ-loop → tie.Start Inv-loop μ-loop
 start c = c .before .before .before .before .before .before .before
 
 page-turned : (c : tie.After-turn Inv-loop μ-loop)
-    → Turned (walkOf (start c .args .start)) (now (start c .args .reads)) (now (start c .args .page))
+    → TurnedPage (walkOf (start c .args .start)) (now (start c .args .reads)) (now (start c .args .page))
     (c .before .before .before .before .loop .page) (walkOf (c .before .before .before .before .loop .walk))
     (c .before .before .before .before .loop .bytes) (walkOf (c .turn .result .walk)) (c .turn .result .more)
     (c .turn .result .bytes) (c .turn .last .1 .1 .0)

@@ -1,4 +1,4 @@
--- `print` is safe: a capture's reads are told only where they fit the lent list.
+-- `print` is safe: a capture's reads are given only where they fit the lent list.
 use mathlib.Core.Path.{sym}
 use native.Mathlib.Omega.{arith}
 use lib.Seq.{length-take-le}
