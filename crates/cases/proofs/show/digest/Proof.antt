@@ -2,8 +2,8 @@
 use Prim.Native.Nat.{_≤_, _-_}
 use borrow.Author.Needs.{needs}
 use lib.ListN.{length}
-use Rattle.line_cases.proofs.whole.digest.Statement.{statement}
-use Rattle.line_cases.proofs.whole.digest.Tie as tie
+use Rattle.cases.proofs.show.digest.Statement.{statement}
+use Rattle.cases.proofs.show.digest.Tie as tie
 
 abbrev Inv-loop : tie.InvT-loop
 Inv-loop list sum₀ i₀ sum i = i ≤ length list

@@ -1,11 +1,11 @@
--- `count` is safe and ends: no more entries are found than are passed.
+-- `times` is safe and ends: no more entries are found than are passed.
 use Prim.Native.Nat.{_≤_, _-_}
-use mathlib.Core.Logic.{⊎-elim}
-use native.Mathlib.Omega.{arith}
 use borrow.Author.Needs.{needs}
 use lib.ListN.{length}
-use Rattle.line_cases.proofs.whole.count.Statement.{statement}
-use Rattle.line_cases.proofs.whole.count.Tie as tie
+use mathlib.Core.Logic.{⊎-elim}
+use native.Mathlib.Omega.{arith}
+use Rattle.cases.proofs.show.times.Statement.{statement}
+use Rattle.cases.proofs.show.times.Tie as tie
 
 abbrev Inv-loop : tie.InvT-loop
 Inv-loop list entry found₀ i₀ found i = (i ≤ length list) × (found ≤ i)
@@ -34,8 +34,8 @@ loop-again c = ⊎-elim (λ w. omega arith) (λ w. omega arith) (c .if1 .came)
 returns : tie.Need-returns Inv-loop μ-loop
 returns c = search needs
 
-pub count-spec : {M : Type 1} → statement M
-count-spec =
+pub times-spec : {M : Type 1} → statement M
+times-spec =
     tie.close
     (tie.spec
     Inv-loop
