@@ -84,15 +84,24 @@ fn number(text: &[u8], from: usize) -> Found {
     while at < text.len() {
         let next = digit(text[at]);
         if 9 < next {
-            return Found { value: value, next: at };
+            return Found {
+                value: value,
+                next: at,
+            };
         }
         if 100000000000000000 <= value {
-            return Found { value: value, next: at };
+            return Found {
+                value: value,
+                next: at,
+            };
         }
         value = value * 10 + next;
         at += 1;
     }
-    Found { value: value, next: at }
+    Found {
+        value: value,
+        next: at,
+    }
 }
 
 // The first place from this one on that has a digit; no place of the text where none has.

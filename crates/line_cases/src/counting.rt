@@ -1,6 +1,6 @@
 // The counted receiver.
-use cases::reading::Numbers;
 use cases::reading;
+use cases::reading::Numbers;
 use cases::show;
 use counted::Counted;
 use measure::ReadCycles;
@@ -24,11 +24,5 @@ fn counted(answer: Counted) -> usize {
 
 // k n level, and the reads
 pub fn count_bits(n: Numbers, reads: &[u8], out: &mut [u8]) -> usize {
-    counted(counted::count_bits(
-        ReadCycles(n.n0),
-        n.n1,
-        reading::byte(n.n2),
-        reads,
-        out,
-    ))
+    counted(counted::count_bits(ReadCycles(n.n0), n.n1, reading::byte(n.n2), reads, out))
 }

@@ -66,7 +66,12 @@ fn line(text: &[u8], sizes: Sizes, one: &mut [u8], two: &mut [u8], out: &mut [u8
     let lists = reading::after(text, b'|');
     let first = reading::list_or_out(lists, out, sizes.out, one);
     let other = second(reading::after(lists, b'|'), sizes, out, two);
-    let made = run(text, reading::front(one, first), reading::front(two, other), out);
+    let made = run(
+        text,
+        reading::front(one, first),
+        reading::front(two, other),
+        out,
+    );
     Sizes {
         two: other,
         out: made,

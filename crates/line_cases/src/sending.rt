@@ -1,7 +1,7 @@
 // Sending a message, and a plan.
 ghost use Prim.Native.Nat.{_≤_};
-use cases::reading::Numbers;
 use cases::reading;
+use cases::reading::Numbers;
 use cases::show;
 use measure::ROWS_MOST;
 use measure::WriterCycles;
