@@ -1,7 +1,7 @@
 -- `by_lists` is safe and ends: each turn uses a read, and no more than are left.
 use Prim.Native.Nat.{_≤_, _-_}
-use lib.ListN.{length}
 use borrow.Author.Needs.{needs}
+use lib.ListN.{length}
 use Rattle.board_cases.proofs.hearing.by_lists.Statement.{statement}
 use Rattle.board_cases.proofs.hearing.by_lists.Tie as tie
 

@@ -1,7 +1,7 @@
 -- `by_steps` is safe and ends: the place stays within the reads.
 use Prim.Native.Nat.{_≤_, _-_}
-use lib.ListN.{length}
 use borrow.Author.Needs.{needs}
+use lib.ListN.{length}
 use Rattle.board_cases.proofs.hearing.by_steps.Statement.{statement}
 use Rattle.board_cases.proofs.hearing.by_steps.Tie as tie
 
