@@ -2,7 +2,7 @@
 use mathlib.Core.Path.{_≡_}
 use mathlib.Core.Bool.{true}
 use Prim.Native.Nat.{ℕ, _+_, _*_, _<_, _≤_}
-use native.Mathlib.Nat.{mul-le-mul, mul-le-mul-right, lt-of-mul-lt-mul-right}
+use native.Mathlib.Nat.{mul-le-mul, lt-of-mul-lt-mul-right}
 use native.Mathlib.Omega.{arith}
 use borrow.Author.Tests.{ltb-true, leb-true}
 use lib.Dec.{leb, ltb}
@@ -41,7 +41,3 @@ in-wave w n k t begun ends = lt-of-mul-lt-mul-right w (omega arith)
 -- each cycle starts a cycle's length after the one before
 pub next-start : (w i next : ℕ) → i + 1 ≡ next → next * w ≡ i * w + w
 next-start w i next e = rw (← e) (omega arith)
-
--- a cycle that starts before another ends by that one's start
-pub ends-by : (w i k next : ℕ) → i * w < k * w → i + 1 ≡ next → next * w ≤ k * w
-ends-by w i k next h e = rw (← e) (mul-le-mul-right w (omega (arith, lt-of-mul-lt-mul-right w h)))

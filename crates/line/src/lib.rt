@@ -9,9 +9,10 @@ ghost use Rattle.measure.specs.Choose.{choose};
 ghost use Rattle.measure.specs.Lists.{onto};
 ghost use Rattle.measure.specs.Ranges.{cycleLength, entriesMost};
 ghost use Rattle.line.specs.Smooth.{smooth as smoothing};
-ghost use Rattle.line.specs.Warp.{cycleStart, reconcile as agree, look, dropped, warp as warping};
+ghost use Rattle.line.specs.Warp.{cycleStart, reconcile as agree, look, warp as warping};
 ghost use Rattle.line.specs.Settle.{nextChoice, settle as settling};
 ghost use Rattle.line.specs.Sharing.{readCount};
+ghost use Rattle.line.specs.Looking.{readFrom, leftFrom, blockMost, GoesOn, Onward, Finds};
 ghost use Rattle.line.specs.Answers.{smoothed, timed as isTimed, warped, settled, smoothedSays, readSays};
 use measure::CYCLE_LEAST;
 use measure::CYCLE_MOST;
@@ -121,21 +122,26 @@ struct Looking {
     end: TimeUnits,
 }
 
-// What a read is, and the first cycle that it leaves for the next read.
+// What a read is, the first cycle that it leaves for the next read, and the end of that cycle.
 struct Looked {
     level: u8,
     left: WriterCycles,
+    end: TimeUnits,
 }
 
-// The read once it has looked at the cycles up to `last`, and found `level` in them.
-fn up_to(last: WriterCycles, level: u8, w: TimeUnits) -> Looking
-    requires { ⌜ (cycleLength (w .0) ≡ true) × (last .0 < entriesMost) ⌝ }
-    ensures { λ x. ⌜ (level ≡ x .level) × (last .0 + 1 ≡ x .next .0) × (x .next .0 * w .0 ≡ x .end .0) ⌝ }
+// Looks at one cycle more, which ends one cycle's length later.
+fn look_on(wave: &[u8], looking: Looking, w: TimeUnits) -> Looking
+    requires { ⌜ (cycleLength (w .0) ≡ true) × (length (now wave) ≤ entriesMost)
+        × (looking .next .0 < length (now wave)) × (looking .next .0 * w .0 ≡ looking .end .0) ⌝ }
+    ensures { λ x. ⌜ (agree (looking .level) (getD (now (wave .entry)) (looking .next .0) 0) ≡ x .level)
+        × (looking .next .0 + 1 ≡ x .next .0) × (x .next .0 * w .0 ≡ x .end .0) ⌝ }
 {
-    let i = last.0;
+    let i = looking.next.0;
+    let over = looking.end.0;
     let cycle = w.0;
+    let level = agreed(looking.level, wave[i]);
     let next = i + 1;
-    let end = next * cycle;
+    let end = over + cycle;
     Looking {
         level: level,
         next: WriterCycles(next),
@@ -143,61 +149,68 @@ fn up_to(last: WriterCycles, level: u8, w: TimeUnits) -> Looking
     }
 }
 
-// Looks at one cycle more.
-fn look_on(wave: &[u8], looking: Looking, w: TimeUnits) -> Looking
-    requires { ⌜ (cycleLength (w .0) ≡ true) × (length (now wave) ≤ entriesMost)
-        × (looking .next .0 < length (now wave)) ⌝ }
-    ensures { λ x. ⌜ (agree (looking .level) (getD (now (wave .entry)) (looking .next .0) 0) ≡ x .level)
-        × (looking .next .0 + 1 ≡ x .next .0) × (x .next .0 * w .0 ≡ x .end .0) ⌝ }
+// Ends a read before the last cycle looked at is over: that cycle is left for the next read.
+fn keep_last(looking: Looking) -> Looked
+    requires { ⌜ 0 < looking .next .0 ⌝ }
+    ensures { λ x. ⌜ (looking .level ≡ x .level) × (x .left .0 + 1 ≡ looking .next .0)
+        × (looking .end .0 ≡ x .end .0) ⌝ }
 {
-    let next = looking.next;
-    let i = next.0;
-    let level = agreed(looking.level, wave[i]);
-    up_to(next, level, w)
+    let next = looking.next.0;
+    let end = looking.end.0;
+    let last = next - 1;
+    Looked {
+        level: looking.level,
+        left: WriterCycles(last),
+        end: TimeUnits(end),
+    }
+}
+
+// Ends a read together with the last cycle looked at: that cycle is dropped, and the one after it is left.
+fn drop_last(looking: Looking, w: TimeUnits) -> Looked
+    requires { ⌜ (cycleLength (w .0) ≡ true) × (looking .next .0 ≤ entriesMost)
+        × (looking .next .0 * w .0 ≡ looking .end .0) ⌝ }
+    ensures { λ x. ⌜ (looking .level ≡ x .level) × (x .left .0 ≡ looking .next .0)
+        × ((x .left .0 + 1) * w .0 ≡ x .end .0) ⌝ }
+{
+    let next = looking.next.0;
+    let end = looking.end.0;
+    let cycle = w.0;
+    let later = end + cycle;
+    Looked {
+        level: looking.level,
+        left: WriterCycles(next),
+        end: TimeUnits(later),
+    }
 }
 
 // Ends a read at `t`, in the last cycle looked at: that one is dropped if it ends with the read, and otherwise left.
-fn leave(looking: Looking, t: TimeUnits) -> Looked
-    requires { ⌜ 0 < looking .next .0 ⌝ }
+fn leave(looking: Looking, w: TimeUnits, t: TimeUnits) -> Looked
+    requires { ⌜ (cycleLength (w .0) ≡ true) × (looking .next .0 ≤ entriesMost)
+        × (looking .next .0 * w .0 ≡ looking .end .0) × (0 < looking .next .0) ⌝ }
     ensures { λ x. ⌜ (looking .level ≡ x .level)
-        × (choose (ltb (t .0) (looking .end .0)) (looking .next .0 - 1) (looking .next .0) ≡ x .left .0) ⌝ }
+        × (choose (ltb (t .0) (looking .end .0)) (x .left .0 + 1) (x .left .0) ≡ looking .next .0)
+        × ((x .left .0 + 1) * w .0 ≡ x .end .0) ⌝ }
 {
-    let level = looking.level;
-    let next = looking.next.0;
     let end = looking.end.0;
     let until = t.0;
     if until < end {
-        let last = next - 1;
-        return Looked {
-            level: level,
-            left: WriterCycles(last),
-        };
+        return keep_last(looking);
     }
-    Looked {
-        level: level,
-        left: WriterCycles(next),
-    }
+    drop_last(looking, w)
 }
 
-// The most cycles that one call of reconcile looks at. A read looks at 65,535 at most, so at most 1,024 calls are open
-// at a time.
+// The most cycles of a block. A read looks at 65,535 at most, so at most 1,024 calls of reconcile are open at a time.
 const BLOCK: usize = 64;
 
-// Reconciles the level found so far with the cycles that the read, which ends at `t`, has yet to look at: with a block
-// of them here, and with the rest by a call of itself. The number of cycles left falls at each call.
-fn reconcile(wave: &[u8], looking: Looking, w: TimeUnits, t: TimeUnits) -> Looked
-    requires { ⌜ (cycleLength (w .0) ≡ true) × (length (now wave) ≤ entriesMost)
-        × (looking .next .0 * w .0 ≡ looking .end .0)
-        × (looking .end .0 < t .0) × (t .0 ≤ length (now wave) * w .0) ⌝ }
-    ensures { λ x. ⌜ (agree (looking .level) (look (cycleStart (w .0)) (t .0) (looking .next .0)
-        (drop (looking .next .0) (now (wave .entry)))) ≡ x .level)
-        × (looking .next .0 + dropped (cycleStart (w .0)) (t .0) (looking .next .0)
-        (drop (looking .next .0) (now (wave .entry))) ≡ x .left .0) ⌝ }
+// Looks at the cycles of one block, `span` time units long, or at those up to the read's end `t` where that is sooner.
+fn look_block(wave: &[u8], looking: Looking, w: TimeUnits, span: TimeUnits, t: TimeUnits) -> Looking
+    requires { ⌜ GoesOn (w .0) (span .0) (t .0) (now wave) looking ⌝ }
+    ensures { λ x. ⌜ Onward (w .0) (t .0) (now (wave .entry)) looking x ⌝ }
 {
-    let from = looking.next.0;
-    let cycle = w.0;
     let until = t.0;
-    let block = (from + BLOCK) * cycle;
+    let begun = looking.end.0;
+    let most = span.0;
+    let block = begun + most;
     let mut stop = until;
     if block < until {
         stop = block;
@@ -206,39 +219,84 @@ fn reconcile(wave: &[u8], looking: Looking, w: TimeUnits, t: TimeUnits) -> Looke
     while at.end.0 < stop {
         at = look_on(wave, at, w);
     }
-    if stop < until {
-        return reconcile(wave, at, w, t);
-    }
-    leave(at, t)
+    at
 }
 
-// One read, which ends at `t`: it looks at the cycles left over, one after another. A read of up to twice a cycle's
-// length looks at three at most, and those are taken here, without a call.
-fn one_read(wave: &[u8], first: WriterCycles, w: TimeUnits, t: TimeUnits) -> Looked
-    requires { ⌜ (cycleLength (w .0) ≡ true) × (length (now wave) ≤ entriesMost)
-        × (first .0 * w .0 < t .0) × (t .0 ≤ length (now wave) * w .0) ⌝ }
-    ensures { λ x. ⌜ (look (cycleStart (w .0)) (t .0) (first .0) (drop (first .0) (now (wave .entry))) ≡ x .level)
-        × (first .0 + dropped (cycleStart (w .0)) (t .0) (first .0) (drop (first .0) (now (wave .entry)))
-        ≡ x .left .0) ⌝ }
+// Reconciles the level found so far with the cycles that the read, which ends at `t`, has yet to look at: with a block
+// of them here, and with the rest by a call of itself. The number of cycles left falls at each call.
+fn reconcile(wave: &[u8], looking: Looking, w: TimeUnits, span: TimeUnits, t: TimeUnits) -> Looked
+    requires { ⌜ GoesOn (w .0) (span .0) (t .0) (now wave) looking ⌝ }
+    ensures { λ x. ⌜ Finds (w .0) (readFrom (w .0) (t .0) (now (wave .entry)) (looking .level) (looking .next .0))
+        (leftFrom (w .0) (t .0) (now (wave .entry)) (looking .next .0)) x ⌝ }
 {
     let until = t.0;
-    let i = first.0;
-    let level = wave[i];
-    let one = up_to(first, level, w);
-    if until <= one.end.0 {
-        return leave(one, t);
+    let at = look_block(wave, looking, w, span, t);
+    let over = at.end.0;
+    if over < until {
+        return reconcile(wave, at, w, span, t);
     }
-    let two = look_on(wave, one, w);
-    if until <= two.end.0 {
-        return leave(two, t);
-    }
-    let three = look_on(wave, two, w);
-    if until <= three.end.0 {
-        return leave(three, t);
-    }
-    reconcile(wave, three, w, t)
+    leave(at, w, t)
 }
 
+// One read, which ends at `t`: it looks at the cycles left over, one after another, of which the first ends at `end`. A
+// read of up to twice a cycle's length looks at three at most. Each of these has two ways out of its own, which is
+// quicker than to work out what is left, and a longer read has one block here before it takes a call.
+fn one_read(
+    wave: &[u8],
+    first: WriterCycles,
+    end: TimeUnits,
+    w: TimeUnits,
+    span: TimeUnits,
+    t: TimeUnits,
+) -> Looked
+    requires { ⌜ (cycleLength (w .0) ≡ true) × (length (now wave) ≤ entriesMost)
+        × (first .0 * w .0 < t .0) × (t .0 ≤ length (now wave) * w .0)
+        × ((first .0 + 1) * w .0 ≡ end .0) × (blockMost * w .0 ≡ span .0) ⌝ }
+    ensures { λ x. ⌜ Finds (w .0) (look (cycleStart (w .0)) (t .0) (first .0) (drop (first .0) (now (wave .entry))))
+        (leftFrom (w .0) (t .0) (now (wave .entry)) (first .0)) x ⌝ }
+{
+    let until = t.0;
+    let over = end.0;
+    let i = first.0;
+    let level = wave[i];
+    let next = i + 1;
+    let one = Looking {
+        level: level,
+        next: WriterCycles(next),
+        end: end,
+    };
+    if until < over {
+        return keep_last(one);
+    }
+    if until == over {
+        return drop_last(one, w);
+    }
+    let two = look_on(wave, one, w);
+    let over_two = two.end.0;
+    if until < over_two {
+        return keep_last(two);
+    }
+    if until == over_two {
+        return drop_last(two, w);
+    }
+    let three = look_on(wave, two, w);
+    let over_three = three.end.0;
+    if until < over_three {
+        return keep_last(three);
+    }
+    if until == over_three {
+        return drop_last(three, w);
+    }
+    let at = look_block(wave, three, w, span, t);
+    let over_block = at.end.0;
+    if over_block < until {
+        return reconcile(wave, at, w, span, t);
+    }
+    leave(at, w, t)
+}
+
+// Writes the reads one after another. The end of the current read and that of the first cycle left are carried along:
+// no end is a product.
 fn warp_into(wave: &[u8], w: TimeUnits, r: TimeUnits, p: TimeUnits, n: ReadCycles, out: &mut [u8])
     requires { ⌜ (isTimed (w .0) (r .0) (p .0) ≡ true) × (length (now wave) ≤ entriesMost)
         × (readCount (w .0) (r .0) (p .0) (length (now wave)) ≡ n .0) × (n .0 ≤ length (now out)) ⌝ }
@@ -246,14 +304,19 @@ fn warp_into(wave: &[u8], w: TimeUnits, r: TimeUnits, p: TimeUnits, n: ReadCycle
 {
     let all = n.0;
     let read = r.0;
-    let phase = p.0;
+    let cycle = w.0;
+    let block = BLOCK * cycle;
+    let span = TimeUnits(block);
+    let mut t = p.0;
     let mut first = WriterCycles(0);
+    let mut end = w;
     let mut j = 0;
     while j < all {
-        let t = phase + (j + 1) * read;
-        let looked = one_read(wave, first, w, TimeUnits(t));
+        t += read;
+        let looked = one_read(wave, first, end, w, span, TimeUnits(t));
         out[j] = looked.level;
         first = looked.left;
+        end = looked.end;
         j += 1;
     }
 }

@@ -1,8 +1,10 @@
 -- `warp_into` meets its contract: what is written, followed by the reads to come, is the warp of the wave.
+use mathlib.Core.Path.{_≡_}
 use Prim.Native.Nat.{ℕ, _≤_, _<_, _-_, _+_, _*_}
 use native.Mathlib.Omega.{arith}
 use lib.ListN.{length}
 use Rattle.line.specs.Warp.{cycleStart, readStart}
+use Rattle.line.specs.Looking.{blockMost}
 use Rattle.line.proofs.Clocks.{Clocks, even-clocks}
 use Rattle.line.proofs.Times.{timed-w, timed-r, timed-p, cycle-least, product-most}
 use Rattle.line.proofs.WarpLaws.{warp-by, counted-ends, uncounted-late}
@@ -11,11 +13,12 @@ use Rattle.line.proofs.warp_into.Statement.{statement}
 use Rattle.line.proofs.warp_into.Tie as tie
 
 abbrev Inv-loop : tie.InvT-loop
-Inv-loop wave w out₀ all read phase first₀ j₀ out first j =
-    (j ≤ all) × Run (cycleStart (w .0)) (readStart phase read) wave out₀ out (first .0) j
+Inv-loop wave w out₀ all read cycle block span t₀ first₀ end₀ j₀ out t first end j =
+    (j ≤ all) × Run (cycleStart (w .0)) (readStart t₀ read) wave out₀ out (first .0) j
+    × (readStart t₀ read j ≡ t) × ((first .0 + 1) * w .0 ≡ end .0)
 
 abbrev μ-loop : tie.MeasureT-loop
-μ-loop wave w out₀ all read phase first₀ j₀ out first j = all - j
+μ-loop wave w out₀ all read cycle block span t₀ first₀ end₀ j₀ out t first end j = all - j
 
 some-r : (s : tie.Start Inv-loop μ-loop) → 0 < s .args .r .0
 some-r s = cycle-least (s .args .r .0) (timed-r (s .args .w .0) (s .args .r .0) (s .args .p .0) (s .pre .0))
@@ -42,21 +45,22 @@ fits s =
     product-most (length (s .args .wave .now)) (s .args .w .0) (omega (arith, s .pre .1))
     (timed-w (s .args .w .0) (s .args .r .0) (s .args .p .0) (s .pre .0))
 
+mul-block : tie.Need-mul-block Inv-loop μ-loop
+mul-block c =
+    let s = c .before .before in
+    omega (
+      arith,
+      product-most blockMost (s .args .w .0) (omega arith)
+          (timed-w (s .args .w .0) (s .args .r .0) (s .args .p .0) (s .pre .0)),
+    )
+
 loop-holds : tie.Need-loop-holds Inv-loop μ-loop
-loop-holds c = (omega arith, run-none (clocks (c .before .before)) _ _)
+loop-holds c = (omega arith, run-none (clocks (c .before .before)) _ _, omega arith, omega arith)
 
 add-t : tie.Need-add-t Inv-loop μ-loop
-add-t c = omega arith
-
-mul-t : tie.Need-mul-t Inv-loop μ-loop
-mul-t c =
+add-t c =
     let s = c .before .before .before .before in
-    omega (arith, ends s (c .before .loop .j) (c .loop-test .taken), fits s)
-
-add-t-2 : tie.Need-add-t-2 Inv-loop μ-loop
-add-t-2 c =
-    let s = c .before .before .before .before in
-    omega (arith, ends s (c .before .loop .j) (c .loop-test .taken), fits s)
+    omega (arith, c .before .loop .inv .2, ends s (c .before .loop .j) (c .loop-test .taken), fits s)
 
 one-read-requires : tie.Need-one-read-requires Inv-loop μ-loop
 one-read-requires c κs =
@@ -64,8 +68,10 @@ one-read-requires c κs =
     let s = d .before .before .before in (
       timed-w (s .args .w .0) (s .args .r .0) (s .args .p .0) (s .pre .0),
       s .pre .1,
-      omega (arith, run-begun (clocks s) _ _ _ _ _ (d .loop .inv .1)),
-      ends s (d .loop .j) (c .loop-test .taken),
+      omega (arith, d .loop .inv .2, run-begun (clocks s) _ _ _ _ _ (d .loop .inv .1)),
+      omega (arith, d .loop .inv .2, ends s (d .loop .j) (c .loop-test .taken)),
+      d .loop .inv .3,
+      omega arith,
     )
 
 slice-write-out : tie.Need-slice-write-out Inv-loop μ-loop
@@ -79,12 +85,15 @@ loop-less c = omega arith
 
 loop-again : tie.Need-loop-again Inv-loop μ-loop
 loop-again c =
-    let d = c .before .before .before in
-    let s = d .before .before .before in (
+    let d = c .before .before .before .before in
+    let s = d .before .before .before in
+    let end = ends s (d .loop .j) (c .before .before .before .loop-test .taken) in (
       omega arith,
-      run-more (clocks s) _ _ _ _ _ _ _ _ (d .loop .inv .1) (omega arith) (omega arith)
-          (ends s (d .loop .j) (c .before .before .loop-test .taken)) (c .before .one-read .ensures .0)
-          (c .before .one-read .ensures .1),
+      run-more (clocks s) _ _ _ _ _ _ _ _ (d .loop .inv .1) (omega arith) (omega (arith, d .loop .inv .2))
+          (omega (arith, d .loop .inv .2, end)) (c .before .before .one-read .ensures .0)
+          (c .before .before .one-read .ensures .1),
+      omega (arith, d .loop .inv .2),
+      c .before .before .one-read .ensures .2,
     )
 
 same-length : tie.Need-same-length Inv-loop μ-loop
@@ -106,10 +115,9 @@ warp-into-spec =
     (tie.spec
     Inv-loop
     μ-loop
+    mul-block
     loop-holds
     add-t
-    mul-t
-    add-t-2
     one-read-requires
     slice-write-out
     add-j
