@@ -6,9 +6,9 @@
  * What holds of every function here:
  *
  * - It returns the number of its refusal, and 0 where it refuses nothing (enum siengulot_refusal). siengulot_well_formed alone returns a yes or no.
- * - Faults are looked for in the order 1, 3, 2, 4, 5, and the first that is there is returned. A capture has an order of its own, said with
+ * - Faults are looked for in the order 1, 3, 2, 4, 5, or 1 and then 9, and the first that is there is returned. A capture has an order of its own, said with
  *   siengulot_capture_check.
- * - Each single number that is lent (place, count, accepted, event, found, used) is written with every answer, a refusal included. `place` is 0 but
+ * - Each single number that is lent (k, place, count, accepted, event, found, used) is written with every answer, a refusal included. `place` is 0 but
  *   for refusals 2, 6, 7 and 8.
  * - A result stands at the front of its lent output, and the rest of the output is untouched. With every refusal but 5 the whole output is untouched;
  *   siengulot_fresh alone writes zeros where it refuses.
@@ -62,7 +62,8 @@ enum siengulot_refusal {
     SIENGULOT_RAN_OUT = 5, /* the counted receiver came to the end of the reads */
     SIENGULOT_CUT = 6,     /* a capture stops in the middle of a number, or with fewer than four */
     SIENGULOT_FORM = 7,    /* a capture's number has more bytes than it needs, or more than three */
-    SIENGULOT_RANGE = 8    /* a capture's number is one that its place does not allow */
+    SIENGULOT_RANGE = 8,   /* a capture's number is one that its place does not allow */
+    SIENGULOT_NO_COUNT = 9 /* no sampling count has three margins of zero or more */
 };
 
 /*
@@ -89,6 +90,16 @@ size_t siengulot_judge(size_t a, size_t b, size_t k, size_t w, size_t r, int64_t
  * Leaves with a refusal `margins` as they were, and 0 in `accepted`.
  */
 size_t siengulot_judge_quiet(size_t a, size_t b, size_t k, size_t w, size_t r, size_t q, size_t p1, int64_t margins[5], size_t *accepted);
+
+/*
+ * The picker. Gives in `k` the sampling count from 1 to 511 for which the least of M1, M2 and M3 is the greatest, and of equals the smallest. With
+ * that k the judge says yes.
+ * Refuses with
+ *   1  a or b out of 1 to 255, or w or r out of 1 to 65,535;
+ *   9  settings for which no k from 1 to 511 has three margins of zero or more.
+ * Leaves with a refusal 0 in `k`.
+ */
+size_t siengulot_pick(size_t a, size_t b, size_t w, size_t r, size_t *k);
 
 /*
  * Sending

@@ -150,7 +150,7 @@ pub struct Bench {
     scratch: Vec<u8>,
 }
 
-const REFUSALS: [&str; 9] = ["0", "1", "2", "3", "4", "5", "6", "7", "8"];
+const REFUSALS: [&str; 10] = ["0", "1", "2", "3", "4", "5", "6", "7", "8", "9"];
 
 impl Bench {
     pub fn new(seed: u64) -> Bench {
@@ -258,6 +258,45 @@ impl Bench {
                 expected.set(accepted, &[0]);
                 usize::from(refusal.number)
             }
+        }
+    }
+
+    pub fn pick(&mut self, [a, b, w, r]: [usize; 4]) {
+        let mut lent = Lent::new();
+        let k = lent.number("k", &mut self.rng);
+        let mut expected = lent.clone();
+        let answer = settings::pick(a, b, w as u64, r as u64);
+        expected.set(k, &[answer.unwrap_or(0)]);
+        let number = answer
+            .err()
+            .map_or(0, |refusal| usize::from(refusal.number));
+        let got = unsafe { siengulot_pick(a, b, w, r, lent.pointer(k)) };
+        self.compare("pick", (got, &lent), (number, &expected), || {
+            format!("{:?}", [a, b, w, r])
+        });
+        // What is easy to miss: the ends of the range and of the margins, and equals.
+        let least = |k| match settings::judge(a, b, k, w as u64, r as u64) {
+            Ok(verdict) => *verdict.margins.iter().min().expect("three margins"),
+            Err(_) => i64::MIN,
+        };
+        match answer {
+            Ok(best) => {
+                if best == settings::MAX_K {
+                    self.meets("pick", "the last k");
+                }
+                if least(best) == least(best + 1) {
+                    self.meets("pick", "equals");
+                }
+                if least(best) == 0 {
+                    self.meets("pick", "a least margin of 0");
+                }
+            }
+            Err(refusal) if refusal.number == 9 => {
+                if (1..=settings::MAX_K).any(|k| least(k) == -1) {
+                    self.meets("pick", "a least margin of -1");
+                }
+            }
+            Err(_) => {}
         }
     }
 

@@ -229,6 +229,17 @@ impl Rng {
         [a, b, k, w, r, q, p1]
     }
 
+    /// Settings to pick a sampling count for, near those for which there is one and near those for which it is the last.
+    pub fn clocks(&mut self) -> [usize; 4] {
+        if self.one_in(4) {
+            let a = self.within(200, MAX_SUBCELL);
+            let r = self.within(1, 300);
+            return [a, self.within(1, MAX_SUBCELL), (r * 511 / a).max(1), r];
+        }
+        let [a, b, _, w, r, _, _] = self.judged();
+        [a, b, w, r]
+    }
+
     /// The lists of a plan: leads, trails, bits.
     pub fn plan(&mut self, n: usize) -> (Vec<usize>, Vec<usize>, Vec<u8>) {
         let rows = match self.below(40) {

@@ -23,6 +23,8 @@ extern "C" {
         accepted: *mut usize,
     ) -> usize;
 
+    pub fn siengulot_pick(a: usize, b: usize, w: usize, r: usize, k: *mut usize) -> usize;
+
     pub fn siengulot_send(
         a: usize,
         b: usize,

@@ -23,9 +23,19 @@ const ROUNDS: u64 = 100_000;
 const TIME: Duration = Duration::from_secs(45);
 
 /// What each operation has to meet: the numbers it returns (of `well_formed`, 0 for no and 1 for yes), and cases that are easy to miss.
-const MUST: [(&str, &[&str], &[&str]); 15] = [
+const MUST: [(&str, &[&str], &[&str]); 16] = [
     ("judge", &["0", "1"], &["yes", "no", "a margin of 0"]),
     ("judge_quiet", &["0", "1"], &["yes", "no", "a margin of 0"]),
+    (
+        "pick",
+        &["0", "1", "9"],
+        &[
+            "the last k",
+            "equals",
+            "a least margin of 0",
+            "a least margin of -1",
+        ],
+    ),
     ("send", &["0", "1", "2", "3", "4"], &[]),
     ("plan", &["0", "1", "2", "3", "4"], &["3 by its wave"]),
     ("smooth", &["0", "2", "3", "4"], &[]),
@@ -80,6 +90,9 @@ fn main() {
     let mut rounds = 0;
     while rounds < LEAST_ROUNDS || (rounds < ROUNDS && started.elapsed() < TIME) {
         round(&mut bench);
+        if rounds == 0 {
+            pick_corners(&mut bench);
+        }
         if rounds == 200 {
             longest_rows(&mut bench);
             greatest_counts(&mut bench);
@@ -97,11 +110,26 @@ fn main() {
     report(&bench, rounds, started.elapsed());
 }
 
+/// The ends of all ranges that picking takes, and the numbers beside them, each with each.
+fn pick_corners(bench: &mut Bench) {
+    for a in [0, 1, 2, 3, 128, 254, 255, 256] {
+        for b in [0, 1, 2, 3, 128, 254, 255, 256] {
+            for w in [0, 1, 2, 3, 100, 32_768, 65_534, 65_535, 65_536] {
+                for r in [0, 1, 2, 3, 100, 32_768, 65_534, 65_535, 65_536] {
+                    bench.pick([a, b, w, r]);
+                }
+            }
+        }
+    }
+}
+
 /// Every operation on input of its own.
 fn round(bench: &mut Bench) {
     let [a, b, k, w, r, q, p1] = bench.rng.judged();
     bench.judge([a, b, k, w, r]);
     bench.judge_quiet([a, b, k, w, r, q, p1]);
+    let clocks = bench.rng.clocks();
+    bench.pick(clocks);
 
     let settings = [
         bench.rng.subcell(),

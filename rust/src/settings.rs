@@ -79,13 +79,39 @@ pub fn judge(a: usize, b: usize, k: usize, w: u64, r: u64) -> Result<Verdict<3>,
     need_setting(
         subcell_fits(a) && subcell_fits(b) && k_fits(k) && cycle_fits(w) && cycle_fits(r),
     )?;
+    Ok(Verdict::of(three(a, b, k, w, r)))
+}
+
+/// M1, M2 and M3 of settings in range.
+fn three(a: usize, b: usize, k: usize, w: u64, r: u64) -> [i64; 3] {
     let (a, b, k) = (a as i64, b as i64, k as i64);
     let (w, r) = (w as i64, r as i64);
-    Ok(Verdict::of([
+    [
         (a - 1) * w - 2 * r,
         (k - 1) * r - (a + 1) * w,
         (a + b - 1) * w - (k + 2) * r,
-    ]))
+    ]
+}
+
+/// The sampling count from 1 to 511 whose least margin among M1, M2 and M3 is the greatest; of
+/// equals, the smallest. Each of them is tried.
+///
+/// Refuses with 1 for a setting out of range, and with 9 if no sampling count has three margins
+/// of zero or more.
+pub fn pick(a: usize, b: usize, w: u64, r: u64) -> Result<usize, Refusal> {
+    need_setting(subcell_fits(a) && subcell_fits(b) && cycle_fits(w) && cycle_fits(r))?;
+    let mut best = (0, i64::MIN);
+    for k in 1..=MAX_K {
+        let [m1, m2, m3] = three(a, b, k, w, r);
+        let least = m1.min(m2).min(m3);
+        if least > best.1 {
+            best = (k, least);
+        }
+    }
+    if best.1 < 0 {
+        return Err(Refusal::NO_COUNT);
+    }
+    Ok(best.0)
 }
 
 /// "Margins": M4 and M5 alone, which do not depend on the sampling count.

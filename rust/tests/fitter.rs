@@ -25,6 +25,12 @@ impl Fit {
         (verdict.margins, verdict.accepted)
     }
 
+    /// The k that the picker gives, which looks at a, b, w and r alone.
+    fn picked(self) -> usize {
+        let picked = settings::pick(self.a, self.b, self.w as u64, self.r as u64);
+        picked.expect("settings with a sampling count")
+    }
+
     /// The page's bounds: for a, for k from below and from above, for Q and for p1.
     fn within_bounds(self) -> [bool; 5] {
         let Fit { a, b, w, r, .. } = self;
@@ -121,6 +127,8 @@ fn the_order_of_the_table_leads_to_a_yes() {
         }
         fits += 1;
         assert!(fit.judged().1, "{:?}", fit);
+        let k = fit.picked();
+        assert!(Fit { k, ..fit }.judged().1, "{:?}", fit);
         // One less of a, of Q or of p1 is a no, and so is one less of b whatever k is.
         let Fit { a, b, q, p1, .. } = fit;
         assert!(!Fit { a: a - 1, ..fit }.judged().1, "{:?}", fit);
@@ -139,6 +147,7 @@ fn the_shortest_settings_of_the_first_board() {
     let Fit { a, b, k, q, p1, .. } = fit;
     assert_eq!([a, b, k, q, p1], [4, 7, 5, 11, 18]);
     assert_eq!(fit.judged(), ([18, 64, 13, 69, 8], true));
+    assert_eq!(fit.picked(), 5);
     // Cells of 10 cycles are a no, however they are shared out and sampled.
     for a in 1..10 {
         for k in 1..=511 {
@@ -226,13 +235,15 @@ fn the_two_boards() {
         |fit: Fit| -> Vec<usize> { (1..=511).filter(|&k| Fit { k, ..fit }.judged().1).collect() };
     assert_eq!(bear(first), [6, 7, 8, 9, 10]);
     assert_eq!(bear(second), [6, 7, 8, 9]);
+    assert_eq!(first.picked(), 7);
     assert_eq!(
-        Fit { k: 8, ..first }.judged(),
-        ([118, 387, 290, 74, 103], true)
+        Fit { k: 7, ..first }.judged(),
+        ([118, 246, 431, 74, 103], true)
     );
+    assert_eq!(second.picked(), 7);
     assert_eq!(
-        Fit { k: 8, ..second }.judged(),
-        ([116, 394, 280, 88, 86], true)
+        Fit { k: 7, ..second }.judged(),
+        ([116, 252, 422, 88, 86], true)
     );
     // The least quiet and lead: one less of either is a no.
     assert!(!Fit { q: 15, ..first }.judged().1);
@@ -240,7 +251,7 @@ fn the_two_boards() {
     assert!(
         !Fit {
             p1: 25,
-            k: 8,
+            k: 7,
             ..second
         }
         .judged()

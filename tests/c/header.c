@@ -75,6 +75,17 @@ static void judging(void)
     expect(siengulot_judge_quiet(5, 13, 10, 100, 100, SIENGULOT_QUIET_LEAST - 1, 22, five, &accepted) == SIENGULOT_SETTING, "quiet judge takes Q 1");
 }
 
+static void picking(void)
+{
+    size_t k = 99;
+
+    expect(siengulot_pick(5, 13, 100, 142, &k) == SIENGULOT_NO_REFUSAL && k == 7, "pick for r 142");
+    expect(siengulot_pick(2, 3, 4, 1, &k) == SIENGULOT_NO_REFUSAL && k == 13, "pick of equals");
+    expect(siengulot_pick(5, 13, 65535, 1, &k) == SIENGULOT_NO_COUNT && k == 0, "pick where no k will do");
+    k = 99;
+    expect(siengulot_pick(SIENGULOT_SUBCELL_MOST + 1, 13, 100, 142, &k) == SIENGULOT_SETTING && k == 0, "pick takes a 256");
+}
+
 static void sending(void)
 {
     static const uint8_t bits[2] = {1, 0}, bad[2] = {1, 2};
@@ -261,6 +272,7 @@ static void receiving(void)
 int main(void)
 {
     judging();
+    picking();
     sending();
     line();
     counting();

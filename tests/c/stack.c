@@ -16,7 +16,7 @@
 enum { STACK = 2 * 1024 * 1024, PAGE = 65536, LIST = SIENGULOT_ENTRIES_MOST, ROWS = SIENGULOT_ROWS_MOST };
 
 static uint8_t high[LIST + 1], turns[LIST], unknown[LIST], mixed[LIST], bad[LIST], out[SIENGULOT_CAPTURE_MOST], bytes[SIENGULOT_CAPTURE_MOST];
-static size_t pads[ROWS], summary[SIENGULOT_SUMMARY_NUMBERS], place, count, accepted, event, found, used;
+static size_t pads[ROWS], summary[SIENGULOT_SUMMARY_NUMBERS], k, place, count, accepted, event, found, used;
 static int64_t margins[5];
 static siengulot_receiver receiver;
 /* A receiver by its numbers; those that are not named are 0, and so are all bits. */
@@ -45,6 +45,10 @@ CALL(judge_refused, 1, siengulot_judge(0, 13, 10, 100, 142, margins, &accepted))
 CALL(quiet_yes, 0, siengulot_judge_quiet(5, 13, 10, 100, 141, 16, 26, margins, &accepted))
 CALL(quiet_no, 0, siengulot_judge_quiet(5, 13, 10, 100, 142, 16, 26, margins, &accepted))
 CALL(quiet_refused, 1, siengulot_judge_quiet(5, 13, 10, 100, 142, 1, 26, margins, &accepted))
+CALL(pick_given, 0, siengulot_pick(255, 255, 7, 5, &k))
+CALL(pick_equals, 0, siengulot_pick(2, 3, 4, 1, &k))
+CALL(pick_setting, 1, siengulot_pick(5, 13, 100, 65536, &k))
+CALL(pick_none, 9, siengulot_pick(255, 255, 65535, 1, &k))
 
 CALL(send_most, 0, siengulot_send(255, 255, 65535, 65535, turns, 1024, out, sizeof out, &place, &count))
 CALL(send_least, 0, siengulot_send(1, 1, 0, 0, turns, 0, out, 0, &place, &count))
@@ -132,6 +136,7 @@ static const struct {
 } points[] = {
     {"siengulot_judge", {judge_yes, judge_no, judge_refused}},
     {"siengulot_judge_quiet", {quiet_yes, quiet_no, quiet_refused}},
+    {"siengulot_pick", {pick_given, pick_equals, pick_setting, pick_none}},
     {"siengulot_send", {send_most, send_least, send_setting, send_entry, send_limit, send_room}},
     {"siengulot_plan", {plan_most, plan_setting, plan_entry, plan_limit, plan_room}},
     {"siengulot_smooth", {smooth_most, smooth_entry, smooth_limit, smooth_room}},

@@ -6,6 +6,7 @@ use Rattle.promises.specs.Demand3.{receiverSettings}
 use Rattle.promises.specs.Hearing.{hearing}
 use Rattle.promises.specs.Demands.{Demands}
 use Rattle.promises.proofs.CountedReturns.{operation-returns}
+use Rattle.promises.proofs.Picked.{picked-counts}
 use Rattle.promises.proofs.Demand3.{demand-3, grounds}
 use Rattle.promises.proofs.HearingFromC.{every-caller}
 use Rattle.promises.proofs.AnyHearing.{any-hearing}
@@ -21,6 +22,7 @@ demands = record {
   demand-2 = record {
     line = warp-laws-hold;
     counts = operation-returns;
+    picks = picked-counts;
     well-formed = every-step;
     hears = every-caller;
     reads-back = written-read-back;

@@ -22,6 +22,7 @@ pub mod Sent
 pub mod SignedMargins
 pub mod Received
 pub mod CountedReturns
+pub mod Picked
 pub mod Need
 pub mod Witness
 pub mod Exact

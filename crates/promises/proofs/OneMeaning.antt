@@ -7,12 +7,16 @@ use lib.IntN.{ℤ}
 use Rattle.measure.specs.Choose.{choose}
 use Rattle.measure.specs.Refusals.{Answer, given, refused, refusedAfter, numberOf, placeOf}
 use Rattle.measure.specs.declared.Refusal.{Refusal}
-use Rattle.measure.specs.declared.Refusal.the-variants.{Setting, Entry, Limit, Room, Cut, Form, Range}
+use Rattle.measure.specs.declared.Refusal.the-variants.{Setting, Entry, Limit, Room, Cut, Form, Range, NoCount}
 use Rattle.settings.specs.declared.Judged.{Judged}
 use Rattle.settings.specs.declared.Judged.the-variants as J
 use Rattle.settings.specs.declared.QuietJudged.{QuietJudged}
 use Rattle.settings.specs.declared.QuietJudged.the-variants as Q
 use Rattle.settings.specs.Answers.{Judgement, QuietJudgement, judgedSays, quietJudgedSays}
+use Rattle.settings.specs.declared.picking.Picked.{Picked}
+use Rattle.settings.specs.declared.picking.Picked.the-variants as U
+use Rattle.settings.specs.Pick.{pickedSays}
+use Rattle.settings.proofs.PickHolds.{only-one}
 use Rattle.sender.specs.declared.Sent.{Sent}
 use Rattle.sender.specs.declared.Sent.the-variants as S
 use Rattle.sender.specs.Answers.{sentSays}
@@ -50,6 +54,7 @@ use Rattle.page.specs.declared.Put.{Put}
 use Rattle.page.specs.declared.Put.the-variants as P
 use Rattle.page.specs.Answers.{putSays}
 use Rattle.siengulot.specs.Receivers.{Reply, Lent}
+use Rattle.siengulot.specs.Picking.{pickedOver}
 use Rattle.promises.specs.OneMeaning.{OneMeaning}
 
 -- an answer can be recovered from what it says
@@ -85,7 +90,8 @@ refusal number place =
     (choose (eqb number 4) Room
     (choose (eqb number 6) (Cut place)
     (choose (eqb number 7) (Form place)
-    (Range place))))))
+    (choose (eqb number 9) NoCount
+    (Range place)))))))
 
 refusal-back : (f : Refusal) → refusal (numberOf f) (placeOf f) ≡ f
 unfolding refusal
@@ -96,6 +102,7 @@ refusal-back Room = refl
 refusal-back (Cut at) = refl
 refusal-back (Form at) = refl
 refusal-back (Range at) = refl
+refusal-back NoCount = refl
 
 -- an answer, back from what it says: from a result, from a refusal, and from one that says how much was found
 answer : {A X : Type 0} → (A → X) → (Refusal → X) → (ℕ → X) → Answer A → X
@@ -151,6 +158,11 @@ one-meaning = record {
   first-above = record { always = λ κs a. tt; once = λ κs a x y left right h h′. (h ∙ sym h′, refl) };
   judge = record { always = λ κs a. tt; once = λ κs a x y left right h h′. (same judge-said h h′, refl) };
   judge-quiet = record { always = λ κs a. tt; once = λ κs a x y left right h h′. (same quiet-said h h′, refl) };
+  pick = record {
+    always = λ κs a. tt;
+    once = λ κs a x y left right h h′.
+        (same pick-said refl (only-one _ _ _ _ (pickedSays x) (pickedSays y) h h′), refl);
+  };
   send = record {
     always = λ κs a. tt;
     once = λ κs a x y left right h h′. leaves sent (λ l. (tt, (tt, (tt, (tt, (tt, (l, tt))))))) h h′;
@@ -231,6 +243,13 @@ one-meaning = record {
     once = λ κs a x y left right h h′.
         crosses (λ (p : ℕ × ℕ × List ℤ). p .0)
         (λ p. (tt, (tt, (tt, (tt, (tt, (tt, (tt, (p .2, (p .1, tt)))))))))) h h′;
+  };
+  siengulot-pick = record {
+    always = λ κs a. tt;
+    once = λ κs a x y left right h h′.
+        crosses (λ (p : ℕ × ℕ). p .0)
+        (λ p. (tt, (tt, (tt, (tt, (p .1, tt)))))) (h .crosses)
+        (ap pickedOver (only-one _ _ _ _ (h .answer) (h′ .answer) (h .fits) (h′ .fits)) ∙ h′ .crosses);
   };
   siengulot-send = record {
     always = λ κs a. tt;
@@ -333,6 +352,10 @@ one-meaning = record {
     quiet-back (Q.No m) = refl
     quiet-back (Q.Refused f) = ap Q.Refused (refusal-back f)
 
+    pick-back : (x : Picked) → plain (λ n. U.K (record { 0 = n })) U.Refused (pickedSays x) ≡ x
+    pick-back (U.K k) = refl
+    pick-back (U.Refused f) = ap U.Refused (refusal-back f)
+
     send-back : (x : Sent) → plain (λ n. S.Wave (record { 0 = n })) S.Refused (sentSays x) ≡ x
     send-back (S.Wave cycles) = refl
     send-back (S.Refused f) = ap S.Refused (refusal-back f)
@@ -401,6 +424,9 @@ one-meaning = record {
 
     quiet-said : Said QuietJudged (Answer QuietJudgement)
     quiet-said = record { says = quietJudgedSays; back = plain quiet-judged Q.Refused; turns = quiet-back }
+
+    pick-said : Said Picked (Answer ℕ)
+    pick-said = record { says = pickedSays; back = plain (λ n. U.K (record { 0 = n })) U.Refused; turns = pick-back }
 
     sent : Said Sent (Answer ℕ)
     sent = record { says = sentSays; back = plain (λ n. S.Wave (record { 0 = n })) S.Refused; turns = send-back }

@@ -1,13 +1,18 @@
 -- Each operation makes its tests in the order of the table, so each line of demand 1 is read off its definition.
-use mathlib.Core.Path.{refl, sym}
+use Prim.Native.Nat.{ℕ}
+use mathlib.Core.Path.{_≡_, refl, sym}
 use mathlib.Core.Bool.{Bool, true, false, _&&_, false≢true}
 use mathlib.Core.List.{[], _∷_}
 use denote.Ref.{now}
 use lib.Dec.{leb}
+use Rattle.measure.specs.Choose.{choose}
 use Rattle.measure.specs.Ranges.{subcell, sampling, quiet, padMost, bitsMost, rowBits, rowsMost, entriesMost}
 use Rattle.measure.specs.Ranges.{settingsFit}
-use Rattle.measure.specs.Refusals.{given, lent}
+use Rattle.measure.specs.Refusals.{Answer, given, refused, lent}
 use Rattle.settings.specs.Answers.{inRange, judgement, quietJudgement}
+use Rattle.settings.specs.Margins.{zeroOrMore}
+use Rattle.settings.specs.Pick.{least, pickable, Best, Picks, out-of-range}
+use Rattle.settings.proofs.PickHolds.{only-one, best-fits}
 use Rattle.sender.specs.Sending.{wave, planWave, rowsOf}
 use Rattle.sender.specs.Answers.{sentMessage, sentPlan, fitting, padded}
 use Rattle.line.specs.Smooth.{smooth as smoothing}
@@ -25,12 +30,25 @@ use Rattle.capture.specs.Answers.{summary, checked, readBack, written}
 use Rattle.siengulot.specs.Crossing.{crossed, crossing, flag, judgedThree, judgedFive, summed}
 use Rattle.siengulot.specs.Receivers.{named, numbersFit, receiverLent, brought, broughtBy, begunLent, steppedLent}
 use Rattle.siengulot.specs.Receivers.{listenedLent, wellFormedLent}
-use Rattle.promises.specs.Promised.{good, first, Answered, setting, limit, entries, room}
+use Rattle.siengulot.specs.Picking.{pickedOver}
+use Rattle.promises.specs.Promised.{good, first, Answered, Tells, setting, limit, entries, room}
 use Rattle.promises.specs.GoodInput as Good
 use Rattle.promises.specs.FromC.{Demand1FromC}
 use Rattle.promises.specs.Demands.{Demand1}
-use Rattle.promises.proofs.Promised.{done, past, within, across, laid}
+use Rattle.promises.proofs.Promised.{done, past, within, same, across, laid}
 use Rattle.promises.proofs.GoodCaptures.{number-answered, header-answered, capture-answered, read-answered}
+
+-- what the picker answers, told of the best k: one answer alone fits, and this one does
+picked : (a b k w r : ℕ) (answer : Answer ℕ) → Picks a b w r answer → Best a b k w r
+    → Tells (Good.pick a b k w r) k answer
+picked a b k w r answer p h =
+    same (only-one a b w r answer _ p (go (pickable a b w r) refl))
+    (within (pickable a b w r) 1 0 (within (zeroOrMore (least a b k w r)) 9 0 (done refl)))
+  where
+    go : (t : Bool) → pickable a b w r ≡ t
+        → Picks a b w r (choose t (choose (zeroOrMore (least a b k w r)) (given k) (refused 9 0)) (refused 1 0))
+    go true e = best-fits a b w r e k h
+    go false e = out-of-range e
 
 pub answered : Demand1
 unfolding judgement quietJudgement sentMessage sentPlan smoothed warped settled countedBits begun stepped
@@ -38,6 +56,7 @@ unfolding judgement quietJudgement sentMessage sentPlan smoothed warped settled 
 answered = record {
   judge = λ a b k w r. within (inRange a b k w r) 1 0 (done refl);
   judge-quiet = λ a b k w r Q p1. within (inRange a b k w r && quiet Q && leb p1 padMost) 1 0 (done refl);
+  pick = picked;
   send = λ a b p1 p2 bits output.
       within (subcell a && subcell b && leb p1 padMost && leb p2 padMost) 1 0
       (past (limit bitsMost bits)
@@ -96,6 +115,8 @@ answered-from-c = record {
   judge = λ a b k w r margins. across (λ answer. judgedThree answer margins) (answered .judge a b k w r);
   judge-quiet = λ a b k w r Q p1 margins.
       across (λ answer. judgedFive answer margins) (answered .judge-quiet a b k w r Q p1);
+  pick = λ a b k w r number picked so h.
+      same (sym (so .crosses)) (across pickedOver (answered .pick a b k w r (so .answer) (so .fits) h));
   send = λ a b p1 p2 bits output. across (crossing crossed) (answered .send a b p1 p2 bits output);
   plan = λ a b n leads trails bits output.
       across (crossing crossed) (answered .send-plan a b n leads trails bits output);

@@ -1,5 +1,6 @@
 -- What the contracts say: each is the equation between the definition that the demands speak of and what the call
--- answers and leaves. A call's arguments stand in their order; primed, what is left behind a `&mut`.
+-- answers and leaves; the picker's is a relation, which one answer alone fits. A call's arguments stand in their order;
+-- primed, what is left behind a `&mut`.
 use mathlib.Core.Path.{_≡_}
 use contract.Lifetimes.{Lfts}
 use denote.Ref.{now}
@@ -11,6 +12,7 @@ use Rattle.measure.specs.Ranges.{settingsFit}
 use Rattle.measure.specs.Lists.{firstAbove}
 use Rattle.measure.specs.Refusals.{lent, numberOf, placeOf}
 use Rattle.settings.specs.Answers.{judgement, judgedSays, quietJudgement, quietJudgedSays}
+use Rattle.settings.specs.Pick.{Picks, pickedSays}
 use Rattle.sender.specs.Answers.{sentMessage, sentPlan, sentSays}
 use Rattle.line.specs.Answers.{smoothed, smoothedSays, warped, settled, readSays}
 use Rattle.counted.specs.Answers.{countedBits, countedSays}
@@ -26,6 +28,7 @@ use Rattle.page.specs.Lines.{headingLine, eventLine, endLine, refusedLine}
 use Rattle.page.specs.Answers.{putSays}
 use Rattle.siengulot.specs.Crossing.{crossed, crossing, judgedThree, judgedFive, summed}
 use Rattle.siengulot.specs.Receivers.{begunLent, steppedLent, listenedLent, wellFormedLent}
+use Rattle.siengulot.specs.Picking.{PickCrosses}
 use Rattle.measure.proofs as Measure
 use Rattle.settings.proofs as Settings
 use Rattle.sender.proofs as Sender
@@ -71,6 +74,9 @@ pub record ByContract : Type 0 where
   pub judge-quiet : Says Settings.judge_quiet.ended Settings.judge_quiet.Reads.Post
       λ κs (a, (b, (k, (w, (r, (Q, (p1, _))))))) x _.
       quietJudgement (a .0) (b .0) (k .0) (w .0) (r .0) (Q .0) (p1 .0) ≡ quietJudgedSays x
+  pub pick : Says Settings.pick.ended Settings.pick.Reads.Post
+      λ κs (a, (b, (w, (r, _)))) x _.
+      Picks (a .0) (b .0) (w .0) (r .0) (pickedSays x)
   -- sender
   pub send : Says Sender.send.ended Sender.send.Reads.Post
       λ κs (a, (b, (p1, (p2, (bits, (out, _)))))) x (_, (_, (_, (_, (_, (out′, _)))))).
@@ -158,6 +164,9 @@ pub record ByContract : Type 0 where
       λ κs (a, (b, (k, (w, (r, (Q, (p1, (margins, (accepted, _))))))))) x
       (_, (_, (_, (_, (_, (_, (_, (margins′, (accepted′, _))))))))).
       judgedFive (quietJudgement a b k w r Q p1) (now margins) ≡ (x, accepted′, margins′)
+  pub siengulot-pick : Says C.siengulot_pick.ended C.siengulot_pick.Reads.Post
+      λ κs (a, (b, (w, (r, (k, _))))) x (_, (_, (_, (_, (k′, _))))).
+      PickCrosses a b w r x k′
   pub siengulot-send : Says C.siengulot_send.ended C.siengulot_send.Reads.Post
       λ κs (a, (b, (p1, (p2, (bits, (out, (place, (count, _)))))))) x
       (_, (_, (_, (_, (_, (out′, (place′, (count′, _)))))))).

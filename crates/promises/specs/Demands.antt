@@ -8,8 +8,9 @@ use denote.Ref.{RefT, now}
 use lib.ListN.{length}
 use Rattle.measure.specs.Ranges.{settingsFit}
 use Rattle.measure.specs.Lists.{onto}
-use Rattle.measure.specs.Refusals.{given, refused, lent}
+use Rattle.measure.specs.Refusals.{Answer, given, refused, lent}
 use Rattle.settings.specs.Answers.{judgement, quietJudgement}
+use Rattle.settings.specs.Pick.{Best, Picks}
 use Rattle.sender.specs.Sending.{wave, planWave, rowsOf}
 use Rattle.sender.specs.Answers.{sentMessage, sentPlan}
 use Rattle.line.specs.Smooth.{smooth as smoothing}
@@ -38,6 +39,7 @@ use Rattle.promises.specs.Promised.{room}
 use Rattle.promises.specs.ByContract.{ByContract}
 use Rattle.promises.specs.FromC.{Demand1FromC}
 use Rattle.promises.specs.CountedReturns.{OperationReturns}
+use Rattle.promises.specs.Picked.{PickedCounts}
 use Rattle.promises.specs.Places.{Link}
 use Rattle.promises.specs.Demand3.{Fitting, receiverSettings, Demand3, Demand3Holds, GroundsHold}
 use Rattle.promises.specs.Hearing.{Caller, hearing, Hears}
@@ -50,6 +52,9 @@ pub record Demand1 : Type 0 where
   pub judge : (a b k w r : ℕ) → Tells (Good.judge a b k w r) (judgedSettings a b k w r) (judgement a b k w r)
   pub judge-quiet : (a b k w r Q p1 : ℕ)
       → Tells (Good.judgeQuiet a b k w r Q p1) (quietJudged a b k w r Q p1) (quietJudgement a b k w r Q p1)
+  -- the answer that the picker's contract allows, told of the best k
+  pub pick : (a b k w r : ℕ) (answer : Answer ℕ) → Picks a b w r answer → Best a b k w r
+      → Tells (Good.pick a b k w r) k answer
   pub send : (a b p1 p2 : ℕ) (bits output : List ℕ)
       → Fills (Good.send a b p1 p2 bits output) (wave a b p1 p2 bits) output (sentMessage a b p1 p2 bits output)
   pub send-plan : (a b n : ℕ) (leads trails bits output : List ℕ)
@@ -102,6 +107,8 @@ pub record Demand2 : Type 0 where
   pub line : WarpLawsHold
   -- accepted settings return every message
   pub counts : OperationReturns
+  -- a picked sampling count is the best
+  pub picks : PickedCounts
   -- every step gives a well formed state; and the row receiver hears what the rules hear, whatever comes in, one read a
   -- call or a list a call, in Rust and from C
   pub well-formed : EveryStep
@@ -123,7 +130,7 @@ pub record Demand3Met : Type 0 where
   pub judged : AcceptedFits
   pub whole-way : WholeWayHolds
 
--- D1, D2, D3: what the contracts say, and the three demands, the first also of the fifteen entry points for C
+-- D1, D2, D3: what the contracts say, and the three demands, the first also of the sixteen entry points for C
 pub record Demands : Type 0 where
   pub contracts : ByContract
   pub demand-1 : Demand1

@@ -1,4 +1,4 @@
--- Demand 1 of the fifteen entry points for C. The tests are those of the operations. What crosses is a number, 0 for no
+-- Demand 1 of the sixteen entry points for C. The tests are those of the operations. What crosses is a number, 0 for no
 -- refusal, and what is left behind each pointer.
 use Prim.Native.Nat.{ℕ}
 use mathlib.Core.List.{List, [], _∷_}
@@ -7,6 +7,7 @@ use lib.ListN.{length, replicate}
 use Rattle.measure.specs.Lists.{onto}
 use Rattle.settings.specs.Margins.{m1, m2, m3, m4, m5, accepted, quietAccepted}
 use Rattle.settings.specs.Answers.{judgement, quietJudgement}
+use Rattle.settings.specs.Pick.{Best}
 use Rattle.sender.specs.Sending.{wave, planWave, rowsOf}
 use Rattle.sender.specs.Answers.{sentMessage, sentPlan}
 use Rattle.line.specs.Smooth.{smooth as smoothing}
@@ -25,6 +26,7 @@ use Rattle.capture.specs.Answers.{checked, readBack, written}
 use Rattle.siengulot.specs.Crossing.{crossed, crossing, flag, judgedThree, judgedFive, summed}
 use Rattle.siengulot.specs.Receivers.{Lent, Reply, named, numbersFit, receiverLent, brought, broughtBy, begunLent}
 use Rattle.siengulot.specs.Receivers.{steppedLent, listenedLent, wellFormedLent}
+use Rattle.siengulot.specs.Picking.{PickCrosses}
 use Rattle.promises.specs.GoodInput as Good
 use Rattle.promises.specs.Promised.{Answered, FillsFromC, setting}
 
@@ -49,6 +51,9 @@ pub record Demand1FromC : Type 0 where
         flag (quietAccepted a b k w r Q p1),
         m1 a w r ∷ m2 a k w r ∷ m3 a b k w r ∷ m4 a b w r Q ∷ m5 w r Q p1 ∷ [],
       ) (λ number place. (number, 0, margins))
+  -- H11: picking: the number, and k, which is 0 with a refusal
+  pub pick : (a b k w r number picked : ℕ) → PickCrosses a b w r number picked → Best a b k w r
+      → Answered {O = ℕ × ℕ} (Good.pick a b k w r) (number, picked) (0, k) (λ number place. (number, 0))
   pub send : (a b p1 p2 : ℕ) (bits output : List ℕ)
       → FillsFromC (Good.send a b p1 p2 bits output) (wave a b p1 p2 bits) output
       (crossing crossed (sentMessage a b p1 p2 bits output))

@@ -9,6 +9,8 @@ use Rattle.measure.specs.Choose.{choose, between}
 use Rattle.measure.specs.Ranges.{subcell, sampling, cycleLength, quiet, padMost, bitsMost, rowBits, rowsMost}
 use Rattle.measure.specs.Ranges.{entriesMost, captureMost, settingsFit}
 use Rattle.measure.specs.Lists.{firstAbove, someAbove}
+use Rattle.settings.specs.Margins.{zeroOrMore}
+use Rattle.settings.specs.Pick.{least, pickable}
 use Rattle.sender.specs.Sending.{wave, planWave, rowsOf}
 use Rattle.sender.specs.Answers.{fitting, padded}
 use Rattle.line.specs.Smooth.{smooth as smoothing}
@@ -34,6 +36,13 @@ judge a b k w r = setting (subcell a && subcell b && sampling k && cycleLength w
 abbrev pub judgeQuiet : (a b k w r Q p1 : ℕ) → List Test
 judgeQuiet a b k w r Q p1 =
     setting ((subcell a && subcell b && sampling k && cycleLength w && cycleLength r) && quiet Q && leb p1 padMost) ∷ []
+
+-- R58, M31: the picker, where k is the best sampling count: refusal 9, unless its least margin is zero or more
+abbrev pub pick : (a b k w r : ℕ) → List Test
+pick a b k w r =
+    setting (pickable a b w r)
+    ∷ record { number = 9; place = 0; failed = not (zeroOrMore (least a b k w r)) }
+    ∷ []
 
 -- R42: sending; a plan is lent as its lead pads, its trail pads and the bits of all rows
 abbrev pub send : (a b p1 p2 : ℕ) (bits output : List ℕ) → List Test

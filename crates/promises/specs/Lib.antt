@@ -10,6 +10,7 @@ pub mod Tried
 pub mod Useless
 pub mod Worked
 pub mod CountedReturns
+pub mod Picked
 pub mod WhatNoMeans
 pub mod OneMeaning
 pub mod Demands

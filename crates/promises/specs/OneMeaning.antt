@@ -54,6 +54,7 @@ pub record OneMeaning : Type 0 where
   -- settings
   pub judge : One Settings.judge.ended Settings.judge.Reads.Asked Settings.judge.Reads.Post
   pub judge-quiet : One Settings.judge_quiet.ended Settings.judge_quiet.Reads.Asked Settings.judge_quiet.Reads.Post
+  pub pick : One Settings.pick.ended Settings.pick.Reads.Asked Settings.pick.Reads.Post
   -- sender
   pub send : One Sender.send.ended Sender.send.Reads.Asked Sender.send.Reads.Post
   pub send-plan : One Sender.send_plan.ended Sender.send_plan.Reads.Asked Sender.send_plan.Reads.Post
@@ -90,6 +91,7 @@ pub record OneMeaning : Type 0 where
   pub siengulot-judge : One C.siengulot_judge.ended C.siengulot_judge.Reads.Asked C.siengulot_judge.Reads.Post
   pub siengulot-judge-quiet :
       One C.siengulot_judge_quiet.ended C.siengulot_judge_quiet.Reads.Asked C.siengulot_judge_quiet.Reads.Post
+  pub siengulot-pick : One C.siengulot_pick.ended C.siengulot_pick.Reads.Asked C.siengulot_pick.Reads.Post
   pub siengulot-send : One C.siengulot_send.ended C.siengulot_send.Reads.Asked C.siengulot_send.Reads.Post
   pub siengulot-plan : One C.siengulot_plan.ended C.siengulot_plan.Reads.Asked C.siengulot_plan.Reads.Post
   pub siengulot-smooth : One C.siengulot_smooth.ended C.siengulot_smooth.Reads.Asked C.siengulot_smooth.Reads.Post

@@ -20,7 +20,7 @@ difference-met p (suc q) = go (decLe (suc q) p)
     go (yes h) = rw (le-ltb p (suc q) h, le-leb (suc q) p h)
     go (no h) = rw (lt-ltb p (suc q) (omega arith), lt-leb (suc q) p (omega arith))
 
-less-less : (z : ℤ) (a b : ℕ) → z -ℤ pos a -ℤ pos b ≡ z -ℤ pos (a + b)
+pub less-less : (z : ℤ) (a b : ℕ) → z -ℤ pos a -ℤ pos b ≡ z -ℤ pos (a + b)
 less-less z a b = +ℤ-assoc z (negℤ (pos a)) (negℤ (pos b)) ∙ ap (λ (y : ℤ). z +ℤ y) (sym (negℤ-+ℤ (pos a) (pos b)))
 
 times-less : (x c u : ℕ) → (pos x -ℤ pos c) *ℤ pos u ≡ pos (x * u) -ℤ pos (c * u)

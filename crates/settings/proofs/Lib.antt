@@ -6,3 +6,9 @@ pub mod Judging
 pub mod Inequalities
 pub mod BothEnds
 pub mod NearlyMet
+pub mod Peak
+pub mod Slopes
+pub mod Shifted
+pub mod PickRanges
+pub mod BestCount
+pub mod PickHolds

@@ -1,4 +1,6 @@
 // Judging settings: the margins of the rules as signed numbers, and yes or no.
+mod picking;
+
 ghost use mathlib.Core.Path.{_≡_};
 ghost use mathlib.Core.Bool.{true, _&&_};
 ghost use Prim.Native.Nat.{_≤_};
@@ -19,6 +21,8 @@ use measure::SUBCELL_LEAST;
 use measure::SUBCELL_MOST;
 use measure::TimeUnits;
 use measure::WriterCycles;
+pub use picking::Picked;
+pub use picking::pick;
 
 // M1, M2 and M3, in time units.
 pub struct Margins {

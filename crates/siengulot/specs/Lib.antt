@@ -1,2 +1,3 @@
 pub mod Crossing
+pub mod Picking
 pub mod Receivers

@@ -4,6 +4,7 @@ mod answers;
 mod captures;
 mod judging;
 mod link;
+mod picking;
 mod receiver;
 mod state;
 
@@ -18,6 +19,7 @@ pub use link::siengulot_send;
 pub use link::siengulot_settle;
 pub use link::siengulot_smooth;
 pub use link::siengulot_warp;
+pub use picking::siengulot_pick;
 pub use receiver::siengulot_fresh;
 pub use receiver::siengulot_listen;
 pub use receiver::siengulot_step;

@@ -3,6 +3,7 @@
 use crate::inputs::{self, A, B, K, LEAD, N, Q};
 use crate::library::*;
 use crate::numbers::{at, numbers_of, NUMBERS};
+use crate::picking;
 use siengulot_plain::board::{Event, Listener, Receiver, Report};
 use siengulot_plain::{capture, counted, line, sender, settings};
 
@@ -51,7 +52,7 @@ fn case(
 }
 
 /// A work of two sides.
-fn two(
+pub fn two(
     units: usize,
     room: usize,
     rattle: impl FnMut(&mut Lent) + 'static,
@@ -66,6 +67,20 @@ pub fn all() -> Vec<Case> {
     vec![
         case("judge", "call", "1.5", SIZES, judge),
         case("judge quiet", "call", "1.5", SIZES, judge_quiet),
+        case(
+            "pick, Rust tries all 511",
+            "call",
+            "0.2",
+            [1_000, 10_000],
+            picking::beside_all_tried,
+        ),
+        case(
+            "pick, Rust divides too",
+            "call",
+            "1.2",
+            SIZES,
+            picking::beside_divisions,
+        ),
         case("send, 5/13 cells", "cycle", "1.5", [100, 1_000], send),
         case("plan, 5/13 cells, n 80", "cycle", "1.5", [66, 660], plan),
         case("smooth", "cycle", "1.1", SIZES, smooth),

@@ -11,6 +11,7 @@ mod inputs;
 mod library;
 #[path = "../../differential/numbers.rs"]
 mod numbers;
+mod picking;
 
 use cases::{Lent, Work};
 use std::os::unix::process::parent_id;

@@ -1,0 +1,10 @@
+-- A picked sampling count is accepted, and accepted settings return every message.
+use Rattle.settings.proofs.PickHolds.{pick-shown}
+use Rattle.promises.specs.Picked.{PickedCounts}
+use Rattle.promises.proofs.CountedReturns.{accepted-return}
+
+pub picked-counts : PickedCounts
+picked-counts = record {
+  shown = pick-shown;
+  returns = λ a b k w r p. accepted-return a b k w r (pick-shown .accepts a b k w r p);
+}

@@ -1,0 +1,106 @@
+-- Exactly one answer fits: two best sampling counts would each have to be the smaller, and where the best one's least
+-- margin is negative, so is that of every other.
+use Prim.Native.Nat.{ℕ, _+_, _≤_}
+use mathlib.Core.Path.{_≡_, refl, sym, ap, subst, _∙_}
+use mathlib.Core.Bool.{Bool, true, false, _&&_}
+use native.Mathlib.Decide.{decLe}
+use native.Mathlib.Omega.{arith}
+use lib.Dec.{T}
+use lib.Signed.{ltZ, clashℤ}
+use Rattle.measure.specs.Choose.{choose}
+use Rattle.measure.specs.Refusals.{Answer, given, refused}
+use Rattle.settings.specs.Margins.{m1, m2, m3, zeroOrMore, accepted}
+use Rattle.settings.specs.Pick.{lower, least, pickable, NoneAccepted, Best, Picks, out-of-range, none, best}
+use Rattle.settings.specs.PickShown.{OneFits, PickShown}
+use Rattle.settings.specs.Turning.{Turning}
+use Rattle.settings.proofs.Shifted.{lower-met, negative-below}
+use Rattle.settings.proofs.BestCount.{turning, best-turning}
+use Rattle.settings.proofs.PickRanges.{rising}
+
+-- three margins are zero or more exactly if the least is
+pub accepted-least : (a b k w r : ℕ) → accepted a b k w r ≡ zeroOrMore (least a b k w r)
+unfolding accepted least
+accepted-least a b k w r = sym
+    (lower-met (m1 a w r) (lower (m2 a k w r) (m3 a b k w r))
+    ∙ ap (λ (t : Bool). zeroOrMore (m1 a w r) && t) (lower-met (m2 a k w r) (m3 a b k w r))
+    ∙ joined (zeroOrMore (m1 a w r)) (zeroOrMore (m2 a k w r)) (zeroOrMore (m3 a b k w r)))
+  where
+    joined : (x y z : Bool) → x && (y && z) ≡ x && y && z
+    joined true y z = refl
+    joined false y z = refl
+
+pub none-with-m1 : (a b w r : ℕ) → zeroOrMore (m1 a w r) ≡ false → NoneAccepted a b w r
+unfolding accepted
+none-with-m1 a b w r e k s = rw e
+
+pub none-with-best : (a b k w r : ℕ) → Best a b k w r → zeroOrMore (least a b k w r) ≡ false → NoneAccepted a b w r
+none-with-best a b k w r h e other s =
+    accepted-least a b other w r ∙ negative-below _ _ (h .none-better other s) e
+
+same-best : (a b j k w r : ℕ) → Best a b j w r → Best a b k w r → j ≤ k
+same-best a b j k w r one other = go (decLe j k)
+  where
+    go : Dec (j ≤ k) → j ≤ k
+    go (yes h) = h
+    go (no h) = clashℤ (one .smaller-worse k (other .in-range) (omega arith)) (other .none-better j (one .in-range))
+
+differ : {X : Type 0} {t : Bool} → t ≡ true → t ≡ false → X
+differ e f = absurd (subst T (sym e ∙ f) tt)
+
+pub only-one : (a b w r : ℕ) (x y : Answer ℕ) → Picks a b w r x → Picks a b w r y → x ≡ y
+only-one a b w r x y (out-of-range e) (out-of-range f) = refl
+only-one a b w r x y (out-of-range e) (none f h) = differ f e
+only-one a b w r x y (out-of-range e) (best f h l) = differ f e
+only-one a b w r x y (none e h) (out-of-range f) = differ e f
+only-one a b w r x y (none e h) (none f l) = refl
+only-one a b w r x y (none e h) (best {k} f l z) =
+    differ (accepted-least a b k w r ∙ z) (h k (l .in-range))
+only-one a b w r x y (best e h z) (out-of-range f) = differ e f
+only-one a b w r x y (best {k} e h z) (none f l) =
+    differ (accepted-least a b k w r ∙ z) (l k (h .in-range))
+only-one a b w r x y (best {k = j} e h z) (best {k} f l y′) =
+    let one = same-best a b j k w r h l in
+    let other = same-best a b k j w r l h in
+    ap given (omega arith)
+
+fitting : (a b w r : ℕ) (x : Answer ℕ) → Picks a b w r x → OneFits a b w r
+fitting a b w r x p = record { answer = x; fits = p; only = λ y q. only-one a b w r y x q p }
+
+-- settings in range are answered: by M1's sign, by which of the two is the best, and by its sign
+module _ (a b w r : ℕ) (fits : pickable a b w r ≡ true) where
+  -- a best count is given, or shows that none is accepted
+  pub best-fits : (k : ℕ) → Best a b k w r
+      → Picks a b w r (choose (zeroOrMore (least a b k w r)) (given k) (refused 9 0))
+  best-fits k h = go _ refl
+    where
+      go : (t : Bool) → zeroOrMore (least a b k w r) ≡ t → Picks a b w r (choose t (given k) (refused 9 0))
+      go true e = best fits h e
+      go false e = none fits (none-with-best a b k w r h e)
+
+  by-turning : (k : ℕ) → Turning a b k w r → (t : Bool) → ltZ (least a b k w r) (least a b (k + 1) w r) ≡ t
+      → OneFits a b w r
+  by-turning k h true e = fitting a b w r _ (best-fits (k + 1) (h .next e))
+  by-turning k h false e = fitting a b w r _ (best-fits k (h .here e))
+
+  by-m1 : (t : Bool) → zeroOrMore (m1 a w r) ≡ t → OneFits a b w r
+  by-m1 true e = by-turning (turning a b w r) (best-turning a b w r (rising a b w r (fits, e))) _ refl
+  by-m1 false e = fitting a b w r (refused 9 0) (none fits (none-with-m1 a b w r e))
+
+by-range : (a b w r : ℕ) (t : Bool) → pickable a b w r ≡ t → OneFits a b w r
+by-range a b w r true e = by-m1 a b w r e _ refl
+by-range a b w r false e = fitting a b w r (refused 1 0) (out-of-range e)
+
+given-best : (a b k w r : ℕ) → Picks a b w r (given k) → Best a b k w r × (zeroOrMore (least a b k w r) ≡ true)
+given-best a b k w r (best e h z) = (h, z)
+
+refused-none : (a b w r : ℕ) → Picks a b w r (refused 9 0) → NoneAccepted a b w r
+refused-none a b w r (none e h) = h
+
+pub pick-shown : PickShown
+pick-shown = record {
+  one-fits = λ a b w r. by-range a b w r _ refl;
+  accepts = λ a b k w r p. accepted-least a b k w r ∙ given-best a b k w r p .1;
+  none-better = λ a b k w r p. given-best a b k w r p .0 .none-better;
+  refused-none = refused-none;
+  none-refused = λ a b w r e h. none e h;
+}

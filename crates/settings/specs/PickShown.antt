@@ -1,0 +1,26 @@
+-- What is shown of the picked sampling count.
+use Prim.Native.Nat.{ℕ}
+use mathlib.Core.Path.{_≡_}
+use mathlib.Core.Bool.{true, false}
+use lib.Signed.{_≤ℤ_}
+use Rattle.measure.specs.Ranges.{sampling}
+use Rattle.measure.specs.Refusals.{Answer, given, refused}
+use Rattle.settings.specs.Margins.{accepted}
+use Rattle.settings.specs.Pick.{least, pickable, NoneAccepted, Picks}
+
+-- one answer fits, and no other
+pub record OneFits (a b w r : ℕ) : Type 0 where
+  pub answer : Answer ℕ
+  pub fits : Picks a b w r answer
+  pub only : (other : Answer ℕ) → Picks a b w r other → other ≡ answer
+
+pub record PickShown : Type 0 where
+  -- whatever comes in, exactly one answer fits
+  pub one-fits : (a b w r : ℕ) → OneFits a b w r
+  -- the k that is given is accepted, and no other in range does better
+  pub accepts : (a b k w r : ℕ) → Picks a b w r (given k) → accepted a b k w r ≡ true
+  pub none-better : (a b k w r : ℕ) → Picks a b w r (given k)
+      → (other : ℕ) → sampling other ≡ true → least a b other w r ≤ℤ least a b k w r
+  -- refusal 9 is given exactly if no k in range has three margins of zero or more
+  pub refused-none : (a b w r : ℕ) → Picks a b w r (refused 9 0) → NoneAccepted a b w r
+  pub none-refused : (a b w r : ℕ) → pickable a b w r ≡ true → NoneAccepted a b w r → Picks a b w r (refused 9 0)
