@@ -1,4 +1,4 @@
-//! Document 01, "The row receiver": a state machine that takes one read at a time.
+//! The rules of docs/RULES.md on "The row receiver": a state machine that takes one read at a time.
 
 use crate::refusal::{need_setting, need_size, Refusal};
 use crate::settings::{k_fits, quiet_fits, row_bits_fit, MAX_LIST};

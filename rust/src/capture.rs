@@ -1,4 +1,4 @@
-//! Document 01, "Capture file": settings and reads as run lengths.
+//! The rules of docs/RULES.md on "Capture file": settings and reads as run lengths.
 
 use crate::refusal::{need_entries, need_output, need_setting, need_size, Refusal};
 use crate::settings::{

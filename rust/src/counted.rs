@@ -1,4 +1,4 @@
-//! Document 01, "The counted receiver": a known number of bits out of a stream of reads.
+//! The rules of docs/RULES.md on "The counted receiver": a known number of bits out of a stream of reads.
 
 use crate::refusal::{need_entries, need_output, need_setting, need_size, Refusal};
 use crate::settings::{k_fits, MAX_BITS, MAX_LIST};

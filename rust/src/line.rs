@@ -1,4 +1,4 @@
-//! Document 01, "The line, three passes": smooth, warp, settle.
+//! The rules of docs/RULES.md on "The line, three passes": smooth, warp, settle.
 
 use crate::refusal::{need_entries, need_output, need_setting, need_size, Refusal};
 use crate::settings::{cycle_fits, MAX_LIST};

@@ -1,4 +1,4 @@
-//! Document 01, "Refusal numbers": the refusals, and the checks that lead to 1 to 4.
+//! The rules of docs/RULES.md on "Refusal numbers": the refusals, and the checks that lead to 1 to 4.
 
 use std::fmt;
 

@@ -1,4 +1,4 @@
-//! Document 01, "Rows program": from the bytes of a capture to what the program prints.
+//! The rules of docs/RULES.md on "Rows program": from the bytes of a capture to what the program prints.
 
 use crate::board::{Listener, Report};
 use crate::capture::{self, Checked};

@@ -1,4 +1,4 @@
-//! Document 01, "Sending": from bits to the levels of the writer's cycles.
+//! The rules of docs/RULES.md on "Sending": from bits to the levels of the writer's cycles.
 
 use crate::refusal::{need_entries, need_output, need_setting, need_size, Refusal};
 use crate::settings::{pad_fits, row_bits_fit, subcell_fits, MAX_BITS, MAX_LIST, MAX_ROWS};

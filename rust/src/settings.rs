@@ -1,4 +1,4 @@
-//! Document 01, "Numbers and their ranges" and "Margins": the limits of every number, and
+//! The rules of docs/RULES.md on "Numbers and their ranges" and "Margins": the limits of every number, and
 //! whether settings are accepted.
 
 use crate::refusal::{need_setting, Refusal};

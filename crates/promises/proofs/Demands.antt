@@ -11,12 +11,14 @@ use Rattle.promises.proofs.Demand3.{demand-3, grounds}
 use Rattle.promises.proofs.HearingFromC.{every-caller}
 use Rattle.promises.proofs.AnyHearing.{any-hearing}
 use Rattle.promises.proofs.ByContract.{by-contract}
+use Rattle.promises.proofs.OneMeaning.{one-meaning}
 use Rattle.promises.proofs.SingleCalls.{answered, answered-from-c}
 use Rattle.promises.proofs.WholeWay.{accepted-fits, whole-way}
 
 pub demands : Demands
 demands = record {
   contracts = by-contract;
+  one-meaning = one-meaning;
   demand-1 = answered;
   demand-1-from-c = answered-from-c;
   demand-2 = record {

@@ -38,6 +38,7 @@ use Rattle.promises.specs.Promised.{Answered, Tells, Fills, judged as ju
 use Rattle.promises.specs.Promised.{room}
 use Rattle.promises.specs.ByContract.{ByContract}
 use Rattle.promises.specs.FromC.{Demand1FromC}
+use Rattle.promises.specs.OneMeaning.{OneMeaning}
 use Rattle.promises.specs.CountedReturns.{OperationReturns}
 use Rattle.promises.specs.Picked.{PickedCounts}
 use Rattle.promises.specs.Places.{Link}
@@ -133,6 +134,7 @@ pub record Demand3Met : Type 0 where
 -- D1, D2, D3: what the contracts say, and the three demands, the first also of the sixteen entry points for C
 pub record Demands : Type 0 where
   pub contracts : ByContract
+  pub one-meaning : OneMeaning
   pub demand-1 : Demand1
   pub demand-1-from-c : Demand1FromC
   pub demand-2 : Demand2
