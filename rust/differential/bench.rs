@@ -146,6 +146,8 @@ pub struct Bench {
     pub cases: u64,
     /// How often each operation met each thing that is worth counting.
     pub met: BTreeMap<(&'static str, &'static str), u64>,
+    /// The operation that is tried alone, if one is; of the others the plain side answers only.
+    only: Option<String>,
     edges: [Edge; 3],
     scratch: Vec<u8>,
 }
@@ -153,14 +155,24 @@ pub struct Bench {
 const REFUSALS: [&str; 10] = ["0", "1", "2", "3", "4", "5", "6", "7", "8", "9"];
 
 impl Bench {
-    pub fn new(seed: u64) -> Bench {
+    pub fn new(seed: u64, only: Option<String>) -> Bench {
         Bench {
             rng: Rng::new(seed),
             cases: 0,
             met: BTreeMap::new(),
+            only,
             edges: [Edge::new(), Edge::new(), Edge::new()],
             scratch: vec![0; LONGEST],
         }
+    }
+
+    /// Whether all operations are tried.
+    pub fn tries_all(&self) -> bool {
+        self.only.is_none()
+    }
+
+    pub fn tries(&self, operation: &str) -> bool {
+        self.only.as_deref().map_or(true, |only| only == operation)
     }
 
     fn meets(&mut self, operation: &'static str, thing: &'static str) {
@@ -197,6 +209,9 @@ impl Bench {
     }
 
     pub fn judge(&mut self, [a, b, k, w, r]: [usize; 5]) {
+        if !self.tries("judge") {
+            return;
+        }
         let mut lent = Lent::new();
         let margins = lent.numbers("margins", 3, &mut self.rng);
         let accepted = lent.number("accepted", &mut self.rng);
@@ -212,6 +227,9 @@ impl Bench {
     }
 
     pub fn judge_quiet(&mut self, [a, b, k, w, r, q, p1]: [usize; 7]) {
+        if !self.tries("judge_quiet") {
+            return;
+        }
         let mut lent = Lent::new();
         let margins = lent.numbers("margins", 5, &mut self.rng);
         let accepted = lent.number("accepted", &mut self.rng);
@@ -262,6 +280,9 @@ impl Bench {
     }
 
     pub fn pick(&mut self, [a, b, w, r]: [usize; 4]) {
+        if !self.tries("pick") {
+            return;
+        }
         let mut lent = Lent::new();
         let k = lent.number("k", &mut self.rng);
         let mut expected = lent.clone();
@@ -301,6 +322,9 @@ impl Bench {
     }
 
     pub fn send(&mut self, [a, b, p1, p2]: [usize; 4], bits: &[u8], room: Room) {
+        if !self.tries("send") {
+            return;
+        }
         let result = sender::message(a, b, p1, p2, bits, &mut self.scratch);
         let room = room.of(result.unwrap_or(0));
         let (mut lent, out, [place, count]) = self.lend(room);
@@ -335,6 +359,9 @@ impl Bench {
         bits: &[u8],
         room: Room,
     ) {
+        if !self.tries("plan") {
+            return;
+        }
         let result = sender::plan(a, b, n, leads, trails, bits, &mut self.scratch);
         let room = room.of(result.unwrap_or(0));
         let (mut lent, out, [place, count]) = self.lend(room);
@@ -377,6 +404,9 @@ impl Bench {
     }
 
     pub fn smooth(&mut self, wave: &[u8], room: Room) {
+        if !self.tries("smooth") {
+            return;
+        }
         let result = line::smooth(wave, &mut self.scratch);
         let room = room.of(result.unwrap_or(0));
         let (mut lent, out, [place, count]) = self.lend(room);
@@ -400,6 +430,9 @@ impl Bench {
     }
 
     pub fn warp(&mut self, [w, r, p]: [usize; 3], wave: &[u8], room: Room) {
+        if !self.tries("warp") {
+            return;
+        }
         let times = [w as u64, r as u64, p as u64];
         let result = line::warp(times[0], times[1], times[2], wave, &mut self.scratch);
         let room = room.of(result.unwrap_or(0));
@@ -430,6 +463,9 @@ impl Bench {
     }
 
     pub fn settle(&mut self, reads: &[u8], choices: &[u8], room: Room) {
+        if !self.tries("settle") {
+            return;
+        }
         let result = line::settle(reads, choices, &mut self.scratch);
         let room = room.of(result.unwrap_or(0));
         let (mut lent, out, [place, count]) = self.lend(room);
@@ -459,6 +495,9 @@ impl Bench {
     }
 
     pub fn counted(&mut self, [k, n, level]: [usize; 3], reads: &[u8], room: Room) {
+        if !self.tries("counted") {
+            return;
+        }
         let room = room.of(n.min(2_000));
         let (mut lent, out, [place, count]) = self.lend(room);
         let mut expected = lent.clone();
@@ -504,6 +543,9 @@ impl Bench {
             Err(refusal) => (usize::from(refusal.number), Receiver::REFUSED),
         };
         let state = State::of(&receiver);
+        if !self.tries("fresh") {
+            return state;
+        }
         expected.set(numbers, &state.numbers);
         expected.write(bits, &state.bits);
         let got =
@@ -515,6 +557,9 @@ impl Bench {
     }
 
     pub fn well_formed(&mut self, state: &State) {
+        if !self.tries("well_formed") {
+            return;
+        }
         let mut lent = Lent::new();
         let numbers = lent.numbers("numbers", NUMBERS, &mut self.rng);
         let bits = lent.bytes("bits", &state.bits, &mut self.rng);
@@ -550,6 +595,9 @@ impl Bench {
             None => Err(NO_RECEIVER),
         };
         let brought = at.tell(&mut expected, state, receiver, answer);
+        if !self.tries("step") {
+            return brought;
+        }
         let got = unsafe {
             siengulot_step(
                 lent.pointer(at.numbers),
@@ -579,6 +627,9 @@ impl Bench {
             None => Err(NO_RECEIVER),
         };
         let brought = at.tell(&mut expected, state, receiver, answer);
+        if !self.tries("listen") {
+            return brought;
+        }
         expected.set(used, &[brought.used]);
         let list = self.edges[0].lend(reads, &mut self.rng);
         let got = unsafe {
@@ -632,6 +683,9 @@ impl Bench {
     }
 
     pub fn capture_check(&mut self, bytes: &[u8]) {
+        if !self.tries("capture_check") {
+            return;
+        }
         let mut lent = Lent::new();
         let summary = lent.numbers("summary", 5, &mut self.rng);
         let place = lent.number("place", &mut self.rng);
@@ -653,6 +707,9 @@ impl Bench {
     }
 
     pub fn capture_read(&mut self, bytes: &[u8], room: Room) {
+        if !self.tries("capture_read") {
+            return;
+        }
         let result = capture::check(bytes).map(|summary| summary.reads);
         let room = room.of(result.unwrap_or(0));
         let mut lent = Lent::new();
@@ -679,6 +736,9 @@ impl Bench {
     }
 
     pub fn capture_write(&mut self, [k, n, q]: [usize; 3], reads: &[u8], room: Room) {
+        if !self.tries("capture_write") {
+            return;
+        }
         let result = capture::write(k, n, q, reads, &mut self.scratch);
         let room = room.of(result.unwrap_or(0));
         let (mut lent, out, [place, count]) = self.lend(room);

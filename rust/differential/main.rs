@@ -2,8 +2,8 @@
 //! done, so that what they cover is the same on every machine; then come more, until all rounds are done or the time is up. It ends with status 1 at
 //! the first difference, and with status 2 if something that can be met never was.
 //!
-//! `.ci/differential` builds it and runs it, and then runs it against copies of the plain implementation with a fault in each, all of which it has to
-//! find.
+//! With the name of an operation it tries that one alone, and not the whole link. So `.ci/differential`, which builds it and runs it, runs it against
+//! copies of the plain implementation with faults in them, each of which it has to find in the fault's own operation.
 
 mod bench;
 mod inputs;
@@ -86,7 +86,14 @@ const MUST: [(&str, &[&str], &[&str]); 16] = [
 
 fn main() {
     let started = Instant::now();
-    let mut bench = Bench::new(20_261_115);
+    let only = std::env::args().nth(1);
+    if let Some(name) = &only {
+        if !MUST.iter().any(|&(operation, ..)| operation == name) {
+            println!("{} is no operation", name);
+            std::process::exit(3);
+        }
+    }
+    let mut bench = Bench::new(20_261_115, only);
     let mut rounds = 0;
     while rounds < LEAST_ROUNDS || (rounds < ROUNDS && started.elapsed() < TIME) {
         round(&mut bench);
@@ -102,7 +109,7 @@ fn main() {
             longest_lists(&mut bench);
             vast(&mut bench);
         }
-        if rounds % 100 == 0 {
+        if rounds % 100 == 0 && bench.tries_all() {
             hallway(&mut bench);
         }
         rounds += 1;
@@ -371,7 +378,7 @@ fn longest_rows(bench: &mut Bench) {
             reads.extend([mark, mark ^ bit]);
         }
         let row = heard_both_ways(bench, &reads);
-        if row != Some(packed(&bits)) {
+        if bench.tries_all() && row != Some(packed(&bits)) {
             println!("differs: the longest row sent and delivered, {:?}", bits);
             std::process::exit(1);
         }
@@ -495,6 +502,9 @@ fn report(bench: &Bench, rounds: u64, time: Duration) {
     let met = |operation, thing| bench.met.get(&(operation, thing)).copied().unwrap_or(0);
     let mut missing = Vec::new();
     for (operation, numbers, things) in MUST {
+        if !bench.tries(operation) {
+            continue;
+        }
         let counted = |thing: &&&'static str| format!("{} {}", thing, met(operation, **thing));
         let line: Vec<String> = numbers
             .iter()

@@ -23,7 +23,7 @@ pub enum Mode {
 /// A report of the row receiver.
 #[derive(Clone, Debug, PartialEq, Eq)]
 pub enum Event {
-    /// A whole row. Bit i is in byte i / 8 at weight 2^(i mod 8); places behind the row's
+    /// A whole row. Bit i is in byte i / 8 at weight 2^(i mod 8); places after the row's
     /// last bit are 0.
     Row([u8; ROW_BYTES]),
     /// A row in progress was given up; this many of its bits had been found.
@@ -179,10 +179,10 @@ impl Receiver {
 
     /// Whether all bit places from `found` on are 0; `found` is below the greatest n.
     fn unused_places_clear(&self) -> bool {
-        // In words of 128 places: the one with the first unused place, and those behind it.
-        let (word, behind) = self.bits[self.found / 128 * 16..].split_at(16);
+        // In words of 128 places: the one with the first unused place, and those after it.
+        let (word, after) = self.bits[self.found / 128 * 16..].split_at(16);
         let first = little_endian(word) >> (self.found % 128);
-        let words = behind.chunks_exact(16).map(little_endian);
+        let words = after.chunks_exact(16).map(little_endian);
         words.fold(first, |all, word| all | word) == 0
     }
 }

@@ -170,9 +170,9 @@ pub fn read(bytes: &[u8], out: &mut [u8]) -> Result<Summary, Refusal> {
     let Checked { summary, runs } = checked(bytes)?;
     let mut rest = need_output(out, summary.reads)?;
     for (level, length) in runs {
-        let (run, behind) = rest.split_at_mut(length);
+        let (run, after) = rest.split_at_mut(length);
         run.fill(level);
-        rest = behind;
+        rest = after;
     }
     Ok(summary)
 }

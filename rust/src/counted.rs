@@ -41,7 +41,7 @@ pub fn receive(n: usize, level: u8, k: usize, reads: &[u8], out: &mut [u8]) -> R
     let mut level = level;
     let mut rest = reads;
     for (found, bit) in out.iter_mut().enumerate() {
-        // The mark is the first read off the level; the sample stands k behind it, gives the
+        // The mark is the first read off the level; the sample stands k after it, gives the
         // new level, and is where the search goes on.
         let sample = rest.iter().position(|&read| read != level).map(|at| at + k);
         match sample.filter(|&sample| sample < rest.len()) {

@@ -59,9 +59,9 @@ pub fn plan(
     need_entries(bits, 1)?;
     let mut rest = need_output(out, length)?;
     for ((&lead, &trail), row) in leads.iter().zip(trails).zip(bits.chunks_exact(n)) {
-        let (wave, behind) = rest.split_at_mut(lead + cells + trail);
+        let (wave, after) = rest.split_at_mut(lead + cells + trail);
         put_wave(a, b, lead, row, wave);
-        rest = behind;
+        rest = after;
     }
     Ok(length)
 }

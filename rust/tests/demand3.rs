@@ -5,7 +5,7 @@
 //!
 //! * Up to the stretch, the events are exactly the deliveries of the rows whose last sample
 //!   is read there, each with the bits sent and with that sample's read.
-//! * Let a row be the first whose lead quiet is read wholly after the stretch. Behind the
+//! * Let a row be the first whose lead quiet is read wholly after the stretch. After the
 //!   read with which that quiet has been heard, the events are exactly the deliveries of
 //!   this row and of all later ones, again each with its bits and its last sample's read.
 //!
@@ -25,7 +25,7 @@ struct Row {
     quiet_starts: usize,
     /// The read with which the lead pad's quiet has been heard.
     heard: usize,
-    /// The read of the last sample, by the counted rule from behind `heard`.
+    /// The read of the last sample, by the counted rule from after `heard`.
     last_sample: usize,
 }
 
@@ -128,7 +128,7 @@ fn one_stretch_replaced() {
             reads,
             rows,
         } = send(&mut rng);
-        // Anywhere, or right behind a last sample, or right up to a row's quiet.
+        // Anywhere, or right after a last sample, or right up to a row's quiet.
         let row = &rows[rng.below(rows.len())];
         let kind = rng.below(3);
         let start = match kind {

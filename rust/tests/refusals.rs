@@ -152,7 +152,7 @@ fn plan_refuses_settings_and_lists_that_do_not_fit() {
 fn plan_refuses_in_order() {
     let many = vec![0; 1_025];
     let bits = vec![2; 1_025];
-    // 1 before 3, also for what stands behind the rows that are too many.
+    // 1 before 3, also for what stands after the rows that are too many.
     let mut pads = many.clone();
     pads[1_024] = 65_536;
     refuses(0, 1, 0, |out| {

@@ -75,7 +75,7 @@ fn bad_captures_give_one_line() {
         (&[2, 2, 6, 0], "refused 8 at 3\n"),
         (&[2, 2, 6, 1, 0], "refused 8 at 4\n"),
         (&[0], "refused 8 at 0\n"),
-        // A fault behind a whole row still comes first.
+        // A fault after a whole row still comes first.
         (
             &[2, 2, 6, 1, 6, 2, 1, 3, 6, 2, 6, 0x81, 0x80, 0x40],
             "refused 8 at 11\n",

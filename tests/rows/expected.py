@@ -17,7 +17,7 @@ class Refused(Exception):
 
 
 def number_at(data, at):
-    """The number that begins at byte `at`, and the place behind it. Byte i has bits 7 i to 7 i + 6 of it, and is above 127 if another follows."""
+    """The number that begins at byte `at`, and the place after it. Byte i has bits 7 i to 7 i + 6 of it, and is above 127 if another follows."""
     value = 0
     for i in range(3):
         if at + i >= len(data):

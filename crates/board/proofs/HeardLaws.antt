@@ -11,7 +11,7 @@ use lib.Dec.{ltb}
 use lib.ListN.{length, take, drop, length-take}
 use lib.Seq.{take-length}
 use Rattle.measure.specs.Choose.{choose}
-use Rattle.measure.specs.Ranges.{entriesMost, settingsFit}
+use Rattle.measure.specs.Ranges.{entriesMost, rowSettingsFit}
 use Rattle.measure.specs.Lists.{firstAbove, someAbove}
 use Rattle.measure.specs.Refusals.{Answer, given, refused, refusedAfter}
 use Rattle.board.specs.declared.Receiver.{Receiver}
@@ -160,7 +160,7 @@ heard-all x reads =
     (heard-refused (length reads) x 1 0)
 
 -- settings that fit start a fresh receiver
-pub begun-fresh : (k n Q : ℕ) → settingsFit k n Q ≡ true
+pub begun-fresh : (k n Q : ℕ) → rowSettingsFit k n Q ≡ true
     → begun k n Q ≡ (given nothing, receiverOf (record { k = k; n = n; Q = Q }) fresh)
 unfolding begun
 begun-fresh k n Q e = rw e

@@ -12,7 +12,8 @@ use lib.Pow.{pow-pos}
 use lib.Seq.{drop-at, drop-append-le, getD-drop, take-all, take-nil}
 use Rattle.board.specs.Packed.{number, digits, packed, unpacked}
 
--- every entry is 0 or 1
+-- every entry is a level: by places, those past the last with them, since a bit is looked up by its place in a word.
+-- measure's `most-at` and `most-by-places` lead from `Levels` to this and back.
 abbrev pub Binary : List ℕ → Type 0
 Binary bits = (i : ℕ) → getD bits i 0 ≤ 1
 

@@ -7,12 +7,10 @@ use mathlib.Core.Bool.{true, _&&_}
 use native.Mathlib.Omega.{arith}
 use native.Mathlib.Decide.{decLt}
 use borrow.Author.Tests.{lt-ltb, le-leb, eq-eqb, ltb-true, leb-true, eqb-true}
-use lib.Dec.{leb}
 use lib.ListN.{length, getD, take, drop, set, replicate, length-take, List·getD-eq-default}
 use lib.Seq.{getD-take, getD-drop, take-at}
-use Rattle.measure.specs.Choose.{between}
-use Rattle.measure.specs.Ranges.{sampling, rowBits, quiet, settingsFit}
-use Rattle.measure.proofs.Both.{both, both-3}
+use Rattle.measure.specs.Ranges.{sampling, rowBits, quiet, rowSettingsFit}
+use Rattle.measure.proofs.Both.{both, both-3, range-ends, ends-range}
 use Rattle.board.specs.declared.Mode.{Mode}
 use Rattle.board.specs.declared.Mode.the-variants.{Hunting, Ready, Counting, Waiting}
 use Rattle.board.specs.declared.Receiver.{Receiver}
@@ -26,28 +24,20 @@ use Rattle.board.proofs.RowRules.{Ranged, Fitting, Valid}
 
 -- the tests and what they say
 
-between-both : (least most x : ℕ) → between least most x ≡ true → (least ≤ x) × (x ≤ most)
-between-both least most x h =
-    let ends = both (leb least x) (leb x most) h in
-    (leb-true least x (ends .0), leb-true x most (ends .1))
-
-pub both-between : (least most x : ℕ) → least ≤ x → x ≤ most → between least most x ≡ true
-both-between least most x l m = simp (le-leb least x l, le-leb x most m)
-
-pub ranged-of : (g : Settings) → settingsFit (g .k) (g .n) (g .Q) ≡ true → Ranged g
+pub ranged-of : (g : Settings) → rowSettingsFit (g .k) (g .n) (g .Q) ≡ true → Ranged g
 ranged-of g h =
     let each = both-3 (sampling (g .k)) (rowBits (g .n)) (quiet (g .Q)) h in
-    let k = between-both 1 511 (g .k) (each .0) in
-    let n = between-both 1 1024 (g .n) (each .1) in
-    let q = between-both 2 8191 (g .Q) (each .2) in
+    let k = range-ends 1 511 (g .k) (each .0) in
+    let n = range-ends 1 1024 (g .n) (each .1) in
+    let q = range-ends 2 8191 (g .Q) (each .2) in
     record { k-least = k .0; k-most = k .1; n-least = n .0; n-most = n .1; Q-least = q .0; Q-most = q .1 }
 
-pub of-ranged : (g : Settings) → Ranged g → settingsFit (g .k) (g .n) (g .Q) ≡ true
+pub of-ranged : (g : Settings) → Ranged g → rowSettingsFit (g .k) (g .n) (g .Q) ≡ true
 of-ranged g r =
     simp (
-      both-between 1 511 (g .k) (r .k-least) (r .k-most),
-      both-between 1 1024 (g .n) (r .n-least) (r .n-most),
-      both-between 2 8191 (g .Q) (r .Q-least) (r .Q-most),
+      ends-range 1 511 (g .k) (r .k-least) (r .k-most),
+      ends-range 1 1024 (g .n) (r .n-least) (r .n-most),
+      ends-range 2 8191 (g .Q) (r .Q-least) (r .Q-most),
     )
 
 -- the four tests of the numbers, in the order of the definition
@@ -63,7 +53,7 @@ fitting-of Hunting g run left found level h =
 fitting-of Ready g run left found level h =
     (eqb-true run (g .Q) (h .0), eqb-true left 0 (h .1), eqb-true found 0 (h .2), eqb-true level 1 (h .3))
 fitting-of Counting g run left found level h =
-    let b = between-both 1 (g .k) left (h .1) in
+    let b = range-ends 1 (g .k) left (h .1) in
     (ltb-true run (g .Q) (h .0), b .0, b .1, ltb-true found (g .n) (h .2), leb-true level 1 (h .3))
 fitting-of Waiting g run left found level h =
     (ltb-true run (g .Q) (h .0), eqb-true left 0 (h .1), ltb-true found (g .n) (h .2), leb-true level 1 (h .3))
@@ -76,7 +66,7 @@ of-fitting Ready g run left found level h =
     (eq-eqb run (g .Q) (h .0), eq-eqb left 0 (h .1), eq-eqb found 0 (h .2), eq-eqb level 1 (h .3))
 of-fitting Counting g run left found level h = (
   lt-ltb run (g .Q) (h .0),
-  both-between 1 (g .k) left (h .1) (h .2),
+  ends-range 1 (g .k) left (h .1) (h .2),
   lt-ltb found (g .n) (h .3),
   le-leb level 1 (h .4),
 )
@@ -100,7 +90,7 @@ found-most Counting g run left found level r h = omega (arith, r .n-most)
 found-most Waiting g run left found level r h = omega (arith, r .n-most)
 
 -- by the tests alone
-pub found-fits-most : (m : Mode) (k n Q found : ℕ) → settingsFit k n Q ≡ true → foundFits m found n ≡ true
+pub found-fits-most : (m : Mode) (k n Q found : ℕ) → rowSettingsFit k n Q ≡ true → foundFits m found n ≡ true
     → found < 1024
 found-fits-most m k n Q found s f = go m f
   where
@@ -122,7 +112,7 @@ pub record Facts (x : Receiver) : Type 0 where
 pub facts : (x : Receiver) → wellFormed x ≡ true → Facts x
 unfolding wellFormed
 facts x h =
-    let s = settingsFit (x .k .0) (x .n) (x .q .0) in
+    let s = rowSettingsFit (x .k .0) (x .n) (x .q .0) in
     let r = runFits (x .mode) (x .run .0) (x .q .0) in
     let l = leftFits (x .mode) (x .left .0) (x .k .0) in
     let f = foundFits (x .mode) (x .found) (x .n) in

@@ -10,7 +10,7 @@ use borrow.Author.Tests.{le-leb, lt-leb}
 use lib.Dec.{ltb}
 use lib.ListN.{length, getD}
 use Rattle.measure.specs.Choose.{choose}
-use Rattle.measure.specs.Ranges.{entriesMost, settingsFit}
+use Rattle.measure.specs.Ranges.{entriesMost, rowSettingsFit}
 use Rattle.board.specs.declared.Receiver.{Receiver}
 use Rattle.board.specs.Rows.{Settings, State, Event, nothing, row, broken, fresh, next}
 use Rattle.board.specs.Feeding.{after}
@@ -26,7 +26,7 @@ use Rattle.board.proofs.ListenedLaws.{listened-is}
 
 -- the definitions
 
-pub fresh-well-formed : (g : Settings) → settingsFit (g .k) (g .n) (g .Q) ≡ true
+pub fresh-well-formed : (g : Settings) → rowSettingsFit (g .k) (g .n) (g .Q) ≡ true
     → wellFormed (receiverOf g fresh) ≡ true
 fresh-well-formed g h = well-formed-of g fresh (valid-fresh g (ranged-of g h))
 
@@ -45,7 +45,7 @@ after-well-formed x reads h levels =
 
 -- the operations
 
-pub begun-well-formed : (k n Q : ℕ) → settingsFit k n Q ≡ true → wellFormed (begun k n Q .1) ≡ true
+pub begun-well-formed : (k n Q : ℕ) → rowSettingsFit k n Q ≡ true → wellFormed (begun k n Q .1) ≡ true
 unfolding begun
 begun-well-formed k n Q h = rw h (fresh-well-formed (record { k = k; n = n; Q = Q }) h)
 

@@ -6,7 +6,7 @@ use mathlib.Core.Bool.{Bool, true, false, _&&_}
 use lib.ListN.{length, take}
 use lib.Dec.{leb, ltb}
 use Rattle.measure.specs.Choose.{choose}
-use Rattle.measure.specs.Ranges.{entriesMost, settingsFit}
+use Rattle.measure.specs.Ranges.{entriesMost, rowSettingsFit}
 use Rattle.measure.specs.Lists.{firstAbove, someAbove}
 use Rattle.measure.specs.Refusals.{Answer, given, refused, denied}
 use Rattle.board.specs.Rows.{Settings, State, Event, nothing, row, broken, next, fresh}
@@ -61,7 +61,7 @@ refusedFresh =
 -- R48, R33: starting: a fresh receiver, or refusal 1 for k, n or Q out of range
 unfoldable pub begun : (k n Q : ℕ) → Answer Event × Receiver
 begun k n Q =
-    choose (settingsFit k n Q) (given nothing, receiverOf (record { k = k; n = n; Q = Q }) fresh)
+    choose (rowSettingsFit k n Q) (given nothing, receiverOf (record { k = k; n = n; Q = Q }) fresh)
     (refused 1 0, refusedFresh)
 
 -- R50: one read: refusal 1 for a state that is not well formed, 2 for a read above 1

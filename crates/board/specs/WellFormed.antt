@@ -5,7 +5,7 @@ use mathlib.Core.Bool.{Bool, true, _&&_}
 use lib.ListN.{drop}
 use lib.Dec.{eqb, leb, ltb}
 use Rattle.measure.specs.Choose.{between}
-use Rattle.measure.specs.Ranges.{settingsFit}
+use Rattle.measure.specs.Ranges.{rowSettingsFit}
 use Rattle.board.specs.Packed.{unpacked}
 use Rattle.board.specs.declared.Mode.{Mode}
 use Rattle.board.specs.declared.Mode.the-variants.{Hunting, Ready, Counting, Waiting}
@@ -51,7 +51,7 @@ unusedZero found bytes = allZero (drop found (unpacked 8 bytes))
 -- B20 to B25, R49: all of these
 unfoldable pub wellFormed : Receiver → Bool
 wellFormed x =
-    settingsFit (x .k .0) (x .n) (x .q .0)
+    rowSettingsFit (x .k .0) (x .n) (x .q .0)
     && runFits (x .mode) (x .run .0) (x .q .0)
     && leftFits (x .mode) (x .left .0) (x .k .0)
     && foundFits (x .mode) (x .found) (x .n)

@@ -106,7 +106,7 @@ impl Receiver {
     pub fn fresh(k: ReadCycles, n: usize, q: ReadCycles) -> Started
         ensures { λ x. ⌜ begun (k .0) n (q .0) ≡ (startSays (x .start), x .receiver) ⌝ }
     {
-        if measure::settings_fit(k, n, q) {
+        if measure::row_settings_fit(k, n, q) {
             let receiver = idle(Mode::Hunting, 0, k.0, n, q.0);
             return Started {
                 receiver: receiver,

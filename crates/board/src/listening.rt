@@ -8,7 +8,7 @@ ghost use lib.ListN.{length};
 ghost use Rattle.board.specs.Rows.{hunting, ready, counting, waiting, collected, marked};
 ghost use Rattle.board.specs.Packed.{kept, stateOf};
 ghost use Rattle.board.specs.Listening.{settingsFrom, keeping, Keeps, longer as longerRun, Seeks, Hears};
-ghost use Rattle.measure.specs.Ranges.{settingsFit};
+ghost use Rattle.measure.specs.Ranges.{rowSettingsFit};
 ghost use Rattle.measure.specs.Cells.{bitOf};
 use crate::Mode;
 use crate::state::Numbers;
@@ -211,7 +211,7 @@ fn from_ready(
     n: usize,
     q: usize,
 ) -> Heard
-    requires { ⌜ (settingsFit k n q ≡ true) × (kept [] ≡ now bits) × (from ≤ length (now reads)) ⌝ }
+    requires { ⌜ (rowSettingsFit k n q ≡ true) × (kept [] ≡ now bits) × (from ≤ length (now reads)) ⌝ }
     ensures { λ x. ⌜ Hears (settingsFrom k n q) (ready q) from (now (reads .entry)) (now (bits .exit)) x ⌝ }
 {
     let mut i = from;
@@ -250,7 +250,7 @@ fn from_hunting(
     n: usize,
     q: usize,
 ) -> Heard
-    requires { ⌜ (settingsFit k n q ≡ true) × (kept [] ≡ now bits) × (run < q) ⌝ }
+    requires { ⌜ (rowSettingsFit k n q ≡ true) × (kept [] ≡ now bits) × (run < q) ⌝ }
     ensures { λ x. ⌜ Hears (settingsFrom k n q) (hunting run) 0 (now (reads .entry)) (now (bits .exit)) x ⌝ }
 {
     let mut i = 0;

@@ -137,7 +137,7 @@ pub fn fits(numbers: Numbers, bits: &[u8; 128], k: usize, n: usize, q: usize) ->
 {
     let mode = numbers.mode;
     let found = numbers.found;
-    if !measure::settings_fit(ReadCycles(k), n, ReadCycles(q)) {
+    if !measure::row_settings_fit(ReadCycles(k), n, ReadCycles(q)) {
         return false;
     }
     if !run_fits(mode, numbers.run, q) {

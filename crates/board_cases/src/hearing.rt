@@ -127,8 +127,8 @@ fn formed(state: Receiver) {
     }
 }
 
-// k n Q run left level found of a state in this mode, and reads and the state's bytes: it takes the first read, if there
-// is one, and listens to all.
+// k n Q run left level found of a state in this mode, and reads and the state's bytes: it takes the first read, if
+// there is one, and listens to all.
 pub fn tried(mode: Mode, n: Numbers, case: &[u8], reads: &[u8]) -> usize {
     let state = Receiver {
         k: ReadCycles(n.n0),

@@ -1,37 +1,25 @@
 -- What a capture that is accepted has: settings in range, a first level that is one, and reads that are levels and no
 -- more than a stream may have.
-use Prim.Native.Nat.{ℕ, zero, suc, _-_, _≤_}
+use Prim.Native.Nat.{ℕ, _≤_}
 use mathlib.Core.Path.{_≡_}
 use mathlib.Core.Bool.{true}
-use mathlib.Core.List.{List, [], _∷_, _++_}
+use mathlib.Core.List.{List}
 use native.Mathlib.Omega.{arith}
-use lib.ListN.{length, getD, replicate}
-use Rattle.measure.specs.Ranges.{sampling, rowBits, quiet, entriesMost, settingsFit}
+use lib.ListN.{length}
+use Rattle.measure.specs.Levels.{Levels}
+use Rattle.measure.specs.Ranges.{sampling, rowBits, quiet, entriesMost, rowSettingsFit}
 use Rattle.measure.specs.Refusals.{given}
 use Rattle.capture.specs.Capture.{Heading, Capture, fourNumbers, runsFrom, withRuns, capture, readsOfRuns}
 use Rattle.capture.proofs.Headings.{then-given, fitting-given, heading-given, heading-level}
 use Rattle.capture.proofs.Captures.{capture-given}
 use Rattle.capture.proofs.ReadLaws.{captured, with-given}
-use Rattle.capture.proofs.Runs.{length-reads, runs-total}
+use Rattle.capture.proofs.Runs.{length-reads, reads-levels, runs-total}
 
 pub record Good (c : Capture) : Type 0 where
-  pub fit : settingsFit (c .k) (c .n) (c .Q) ≡ true
+  pub fit : rowSettingsFit (c .k) (c .n) (c .Q) ≡ true
   pub low : c .level ≤ 1
-  pub levels : (i : ℕ) → getD (readsOfRuns (c .level) (c .runs)) i 0 ≤ 1
+  pub levels : Levels (readsOfRuns (c .level) (c .runs))
   pub few : length (readsOfRuns (c .level) (c .runs)) ≤ entriesMost
-
--- reads are levels
-run-levels : (times level : ℕ) (l : List ℕ) → level ≤ 1 → ((i : ℕ) → getD l i 0 ≤ 1)
-    → (i : ℕ) → getD (replicate times level ++ l) i 0 ≤ 1
-run-levels zero level l h rest i = rest i
-run-levels (suc times) level l h rest zero = h
-run-levels (suc times) level l h rest (suc i) = run-levels times level l h rest i
-
-reads-levels : (level : ℕ) (runs : List ℕ) → level ≤ 1 → (i : ℕ) → getD (readsOfRuns level runs) i 0 ≤ 1
-unfolding readsOfRuns
-reads-levels level [] h i = omega arith
-reads-levels level (run ∷ runs) h i =
-    run-levels run level (readsOfRuns (1 - level) runs) h (reads-levels (1 - level) runs (omega arith)) i
 
 -- a capture by its heading and its runs
 good-runs : (s : List ℕ) (h : Heading) (runs : List ℕ) → fourNumbers s ≡ given h → runsFrom 0 s (h .after) ≡ given runs

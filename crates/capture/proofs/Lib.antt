@@ -1,6 +1,7 @@
 pub mod CasesHold
 pub mod Groups
 pub mod Places
+pub mod Reaching
 pub mod ByWalk
 pub mod TakenApart
 pub mod Headings

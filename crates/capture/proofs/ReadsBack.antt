@@ -11,6 +11,7 @@ use lib.Seq.{drop-at, drop-drop}
 use borrow.Author.Tests.{eqb-true, eqb-false, le-leb}
 use Rattle.measure.specs.Choose.{choose, between}
 use Rattle.measure.specs.Ranges.{sampling, rowBits, quiet, entriesMost, captureMost}
+use Rattle.measure.specs.Levels.{Levels}
 use Rattle.measure.specs.Refusals.{given, refused}
 use Rattle.capture.specs.Numbers.{further, bound, spelled}
 use Rattle.capture.specs.Capture.{Heading, fourNumbers, fittingAt, joined, runsFrom, totalMost, withRuns, capture}
@@ -29,11 +30,6 @@ use Rattle.capture.proofs.WriteLaws.{InRange, all-in, capture-length}
 abbrev pub Some : List ℕ → Type 0
 Some [] = Unit {0}
 Some (run ∷ runs) = (1 ≤ run) × Some runs
-
--- levels
-abbrev pub Levels : List ℕ → Type 0
-Levels [] = Unit {0}
-Levels (read ∷ reads) = (read ≤ 1) × Levels reads
 
 -- runs that are spelled from a place to the end are read back
 pub runs-back : (runs : List ℕ) (total : ℕ) (s : List ℕ) (at : ℕ) → drop at s ≡ numbers runs → Some runs

@@ -1,76 +1,46 @@
 -- The two round trips: a capture's numbers and its bytes determine one another, and so do its runs and its reads.
-use Prim.Native.Nat.{ℕ, zero, suc, _-_, _≤_, _<_}
+use Prim.Native.Nat.{ℕ, _≤_}
 use mathlib.Core.Path.{_≡_, refl, sym, ap, _∙_}
-use mathlib.Core.List.{List, [], _∷_, _++_}
+use mathlib.Core.List.{List}
 use mathlib.Core.Bool.{Bool, true, false}
 use native.Mathlib.Omega.{arith}
-use native.Mathlib.Decide.{decLe}
 use lib.Dec.{ltb}
-use lib.ListN.{length, take, drop, getD, replicate, List·getD-eq-default}
+use lib.ListN.{length, take, drop}
 use lib.Seq.{take-at}
-use borrow.Author.Tests.{le-ltb, ltb-false, le-leb}
+use borrow.Author.Tests.{le-ltb, ltb-false}
 use Rattle.measure.specs.Choose.{choose}
-use Rattle.measure.specs.Ranges.{entriesMost, settingsFit}
+use Rattle.measure.specs.Ranges.{entriesMost, rowSettingsFit}
+use Rattle.measure.specs.Levels.{AtMost, Levels}
 use Rattle.measure.specs.Lists.{firstAbove, someAbove, onto}
 use Rattle.measure.specs.Refusals.{Answer, given, refused, refusedAfter}
-use Rattle.measure.proofs.Above.{above-none}
+use Rattle.measure.proofs.LevelLaws.{most-at, most-none-some, none-above}
 use Rattle.capture.specs.Capture.{Capture, capture, readsOfRuns}
 use Rattle.capture.specs.Writing.{runsOf, firstLevel, captureOf}
 use Rattle.capture.specs.Answers.{summary, unrolled, readBack, written}
 use Rattle.capture.specs.RoundTrips.{ReadsBack, WritesBack, WrittenReadsBack, ReadWritesBack}
 use Rattle.capture.specs.declared.Summary.{Summary}
 use Rattle.capture.proofs.Groups.{Bytes}
-use Rattle.capture.proofs.Runs.{length-reads}
-use Rattle.capture.proofs.ReadsBack.{Levels, reads-back, capture-back}
+use Rattle.capture.proofs.Runs.{length-reads, reads-levels}
+use Rattle.capture.proofs.ReadsBack.{reads-back, capture-back}
 use Rattle.capture.proofs.WritesBack.{accepted, capture-again}
 use Rattle.capture.proofs.WriteLaws.{InRange, write-whole}
 
--- a list none of whose entries is above 255 has bytes, and one none of whose entries is above 1 has levels
-all-bytes : (l : List ℕ) → someAbove 255 l ≡ false → Bytes l
-all-bytes l e i = go (decLe (length l) i)
-  where
-    go : Dec (length l ≤ i) → getD l i 0 < 256
-    go (yes h) = rw (List·getD-eq-default l 0 h) (omega arith)
-    go (no h) = omega (arith, above-none 255 l (ltb-false (firstAbove 255 l) (length l) e) i (omega arith))
-
-all-levels : (l : List ℕ) → ((i : ℕ) → i < length l → getD l i 0 ≤ 1) → Levels l
-all-levels [] h = tt
-all-levels (x ∷ l) h = (h 0 (omega arith), all-levels l (λ i k. h (suc i) (omega arith)))
-
-levels : (l : List ℕ) → length l ≤ firstAbove 1 l → Levels l
-levels l h = all-levels l (above-none 1 l h)
+-- a list none of whose entries is above 255 has bytes
+all-bytes : (l : List ℕ) → AtMost 255 l → Bytes l
+all-bytes l all i = omega (arith, most-at 255 l all i)
 
 pub reads-written-back : ReadsBack
-reads-written-back k n Q reads r h e =
-    let l = levels reads (ltb-false (firstAbove 1 reads) (length reads) e) in
-    record {
-      is = record { k = k; n = n; Q = Q; level = firstLevel reads; runs = runsOf reads };
-      accepted = capture-back k n Q reads r h l;
-      same-k = refl;
-      same-n = refl;
-      same-Q = refl;
-      same-reads = reads-back reads l;
-    }
+reads-written-back k n Q reads r h l = record {
+  is = record { k = k; n = n; Q = Q; level = firstLevel reads; runs = runsOf reads };
+  accepted = capture-back k n Q reads r h l;
+  same-k = refl;
+  same-n = refl;
+  same-Q = refl;
+  same-reads = reads-back reads l;
+}
 
 pub bytes-read-back : WritesBack
 bytes-read-back bytes e c g = capture-again bytes c (all-bytes bytes e) g
-
--- reads of levels that runs stand for
-no-higher : (x : ℕ) (l : List ℕ) → x ≤ 1 → length l ≤ firstAbove 1 l → length (x ∷ l) ≤ firstAbove 1 (x ∷ l)
-unfolding firstAbove
-no-higher x l h k = rw (le-leb x 1 h) (omega arith)
-
-no-higher-run : (level times : ℕ) (l : List ℕ) → level ≤ 1 → length l ≤ firstAbove 1 l
-    → length (replicate times level ++ l) ≤ firstAbove 1 (replicate times level ++ l)
-no-higher-run level zero l h k = k
-no-higher-run level (suc times) l h k = no-higher level (replicate times level ++ l) h (no-higher-run level times l h k)
-
-no-higher-reads : (level : ℕ) (runs : List ℕ) → level ≤ 1
-    → length (readsOfRuns level runs) ≤ firstAbove 1 (readsOfRuns level runs)
-unfolding readsOfRuns firstAbove
-no-higher-reads level [] h = omega arith
-no-higher-reads level (run ∷ runs) h =
-    no-higher-run level run (readsOfRuns (1 - level) runs) h (no-higher-reads (1 - level) runs (omega arith))
 
 -- an answer that was given was not refused: a test that refuses where it fails held, and one that refuses where it
 -- holds failed
@@ -96,7 +66,7 @@ module _ {A : Type 0} (number place : ℕ) (out out′ : List ℕ) (x : A) where
 record Wrote (k n Q : ℕ) (reads out out′ : List ℕ) (size : ℕ) : Type 0 where
   in-range : InRange k n Q
   few : length reads ≤ entriesMost
-  low : length reads ≤ firstAbove 1 reads
+  low : Levels reads
   sized : length (captureOf k n Q reads) ≡ size
   laid : onto (captureOf k n Q reads) out ≡ out′
 
@@ -104,7 +74,7 @@ wrote : (k n Q : ℕ) (reads out out′ : List ℕ) (size : ℕ) → written k n
     → Wrote k n Q reads out out′ size
 unfolding written
 wrote k n Q reads out out′ size e =
-    let fit = held 1 0 out out′ size (settingsFit k n Q) _ e in
+    let fit = held 1 0 out out′ size (rowSettingsFit k n Q) _ e in
     let few = failed 3 0 out out′ size (ltb entriesMost (length reads)) _ (fit .1) in
     let low = failed 2 (firstAbove 1 reads) out out′ size (someAbove 1 reads) _ (few .1) in
     let room = failed 4 0 out out′ size (ltb (length out) (length (captureOf k n Q reads))) _ (low .1) in
@@ -112,7 +82,7 @@ wrote k n Q reads out out′ size e =
     record {
       in-range = fit .0;
       few = ltb-false entriesMost (length reads) (few .0);
-      low = ltb-false (firstAbove 1 reads) (length reads) (low .0);
+      low = most-none-some 1 reads (low .0);
       sized = cc;
       laid = ap (λ (p : Answer ℕ × List ℕ). p .1) (room .1);
     }
@@ -121,11 +91,10 @@ pub written-read-back : WrittenReadsBack
 unfolding readBack
 written-read-back k n Q reads out out′ room size e h =
     let w = wrote k n Q reads out out′ size e in
-    let l = levels reads (w .low) in
-    let same : readsOfRuns (firstLevel reads) (runsOf reads) ≡ reads = reads-back reads l in
+    let same : readsOfRuns (firstLevel reads) (runsOf reads) ≡ reads = reads-back reads (w .low) in
     let bytes : take size out′ ≡ captureOf k n Q reads = ap (take size) (sym (w .laid))
     ∙ take-at (captureOf k n Q reads) (drop (length (captureOf k n Q reads)) out) size (w .sized) in
-    rw (bytes, capture-back k n Q reads (w .in-range) (w .few) l, same, le-ltb (length room) (length reads) h)
+    rw (bytes, capture-back k n Q reads (w .in-range) (w .few) (w .low), same, le-ltb (length room) (length reads) h)
 
 -- what reading did, where it gave a summary
 record Read (bytes room room′ : List ℕ) (s : Summary) : Type 0 where
@@ -177,5 +146,5 @@ read-written-back bytes room room′ out s e f h =
     ∙ take-at reads (drop (length reads) room) (length reads) refl in
     rw (← r .summed-up, front)
     (write-whole (c .k) (c .n) (c .Q) reads out (a .in-range)
-    (omega (arith, a .few, length-reads (c .level) (c .runs))) (no-higher-reads (c .level) (c .runs) (a .low))
-    (rw same h) ∙ rw same)
+    (omega (arith, a .few, length-reads (c .level) (c .runs)))
+    (omega (arith, none-above 1 reads (reads-levels (c .level) (c .runs) (a .low)))) (rw same h) ∙ rw same)

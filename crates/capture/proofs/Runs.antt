@@ -8,8 +8,10 @@ use native.Mathlib.Decide.{decLe}
 use lib.Dec.{leb}
 use lib.ListN.{length, replicate, length-append, length-replicate}
 use borrow.Author.Tests.{le-leb, lt-leb, leb-true}
+use Rattle.measure.specs.Levels.{Levels}
 use Rattle.measure.specs.Refusals.{Answer, given, refused, refusedAfter}
 use Rattle.measure.proofs.Both.{both}
+use Rattle.measure.proofs.LevelLaws.{most-append, most-replicate}
 use Rattle.capture.specs.Numbers.{Numeral, numberAt}
 use Rattle.capture.specs.Capture.{then, fittingAt, joined, fitsAfter, someRunsFrom, runsFrom, totalMost}
 use Rattle.capture.specs.Capture.{readsOfRuns}
@@ -150,6 +152,14 @@ length-reads level (run ∷ runs) =
       length-replicate run level,
       length-reads (1 - level) runs,
     )
+
+-- they are levels
+pub reads-levels : (level : ℕ) (runs : List ℕ) → level ≤ 1 → Levels (readsOfRuns level runs)
+unfolding readsOfRuns
+reads-levels level [] h = tt
+reads-levels level (run ∷ runs) h =
+    most-append 1 (replicate run level) (readsOfRuns (1 - level) runs) (most-replicate 1 run level h)
+    (reads-levels (1 - level) runs (omega arith))
 
 -- the runs' total, since each is judged with the total before it
 some-total : (most total : ℕ) (s : List ℕ) (at : ℕ) (runs : List ℕ) → total ≤ totalMost

@@ -7,7 +7,7 @@ use mathlib.Core.Bool.{Bool, true, false, _&&_}
 use native.Mathlib.Omega.{arith}
 use lib.ListN.{length, length-append}
 use borrow.Author.Tests.{lt-ltb, le-ltb}
-use Rattle.measure.specs.Ranges.{sampling, rowBits, quiet, entriesMost, settingsFit}
+use Rattle.measure.specs.Ranges.{sampling, rowBits, quiet, entriesMost, rowSettingsFit}
 use Rattle.measure.specs.Lists.{firstAbove, onto}
 use Rattle.measure.specs.Refusals.{given, refused}
 use Rattle.capture.specs.Numbers.{further, bound, spelled}
@@ -18,7 +18,7 @@ use Rattle.measure.proofs.Stores.{Stored, stored-none}
 
 -- settings that are in range
 abbrev pub InRange : ℕ → ℕ → ℕ → Type 0
-InRange k n Q = settingsFit k n Q ≡ true
+InRange k n Q = rowSettingsFit k n Q ≡ true
 
 pub all-in : (a b c : Bool) → (a && b && c) ≡ true → (a ≡ true) × ((b ≡ true) × (c ≡ true))
 all-in true true true e = (refl, (refl, refl))
@@ -53,7 +53,7 @@ module _ (k n Q : ℕ) (reads : List ℕ) (level : ℕ) (e : level ≡ firstLeve
 
 -- what writing answers at each way out
 module _ (k n Q : ℕ) (reads out : List ℕ) where
-  pub write-setting : settingsFit k n Q ≡ false → written k n Q reads out ≡ (refused 1 0, out)
+  pub write-setting : rowSettingsFit k n Q ≡ false → written k n Q reads out ≡ (refused 1 0, out)
   unfolding written
   write-setting e = rw e
 

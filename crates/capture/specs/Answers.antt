@@ -5,7 +5,7 @@ use mathlib.Core.List.{List}
 use lib.ListN.{length}
 use lib.Dec.{ltb}
 use Rattle.measure.specs.Choose.{choose}
-use Rattle.measure.specs.Ranges.{entriesMost, settingsFit}
+use Rattle.measure.specs.Ranges.{entriesMost, rowSettingsFit}
 use Rattle.measure.specs.Lists.{onto}
 use Rattle.measure.specs.Refusals.{Answer, given, refused, refusedAfter, denied, ranged, limited, entered, lent}
 use Rattle.capture.specs.Numbers.{Group, value, cut, long, Numeral}
@@ -58,7 +58,7 @@ readBack bytes output = unrolled (capture bytes) output
 -- R56: writing: refusal 1 for k, n or Q out of range, 3 for reads over their limit, 2 for an entry that is no level, 4
 unfoldable pub written : (k n Q : ℕ) (reads output : List ℕ) → Answer ℕ × List ℕ
 written k n Q reads output =
-    ranged (settingsFit k n Q) output
+    ranged (rowSettingsFit k n Q) output
     (limited entriesMost (length reads) output
     (entered 1 reads output
     (lent (captureOf k n Q reads) output)))

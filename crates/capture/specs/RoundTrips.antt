@@ -2,11 +2,12 @@
 -- capture that is read is written back. Statements only; proofs/RoundTrips has their proofs.
 use Prim.Native.Nat.{ℕ, _≤_}
 use mathlib.Core.Path.{_≡_}
-use mathlib.Core.Bool.{true, false}
+use mathlib.Core.Bool.{true}
 use mathlib.Core.List.{List}
 use lib.ListN.{length, take}
-use Rattle.measure.specs.Ranges.{entriesMost, settingsFit}
-use Rattle.measure.specs.Lists.{someAbove, onto}
+use Rattle.measure.specs.Ranges.{entriesMost, rowSettingsFit}
+use Rattle.measure.specs.Levels.{AtMost, Levels}
+use Rattle.measure.specs.Lists.{onto}
 use Rattle.measure.specs.Refusals.{given}
 use Rattle.capture.specs.Capture.{Capture, capture, readsOfRuns}
 use Rattle.capture.specs.Writing.{runsOf, captureOf}
@@ -25,13 +26,13 @@ pub record ReadsAs (k n Q : ℕ) (reads bytes : List ℕ) : Type 0 where
 -- F31: settings in range and levels within their limit, written, read back to the same settings and levels
 abbrev pub ReadsBack : Type 0
 ReadsBack =
-    (k n Q : ℕ) (reads : List ℕ) → settingsFit k n Q ≡ true → length reads ≤ entriesMost → someAbove 1 reads ≡ false
+    (k n Q : ℕ) (reads : List ℕ) → rowSettingsFit k n Q ≡ true → length reads ≤ entriesMost → Levels reads
     → ReadsAs k n Q reads (captureOf k n Q reads)
 
 -- F32: an accepted capture, read and written again, is the same bytes
 abbrev pub WritesBack : Type 0
 WritesBack =
-    (bytes : List ℕ) → someAbove 255 bytes ≡ false → (c : Capture) → capture bytes ≡ given c
+    (bytes : List ℕ) → AtMost 255 bytes → (c : Capture) → capture bytes ≡ given c
     → captureOf (c .k) (c .n) (c .Q) (readsOfRuns (c .level) (c .runs)) ≡ bytes
 
 -- F31: The same of the operations. What `write_capture` put at the front of an output, `read_capture` answers with the
@@ -57,6 +58,6 @@ WrittenReadsBack =
 -- F32: What `read_capture` read, `write_capture` puts as the same bytes at the front of an output that has room.
 abbrev pub ReadWritesBack : Type 0
 ReadWritesBack =
-    (bytes room room′ out : List ℕ) (s : Summary) → someAbove 255 bytes ≡ false
+    (bytes room room′ out : List ℕ) (s : Summary) → AtMost 255 bytes
     → readBack bytes room ≡ (given s, room′) → length bytes ≤ length out
     → written (s .k .0) (s .n) (s .q .0) (take (s .reads .0) room′) out ≡ (given (length bytes), onto bytes out)

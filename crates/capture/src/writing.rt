@@ -14,7 +14,7 @@ ghost use Prim.Native.Nat.{_+_, _-_, _≤_, _<_};
 ghost use lib.ListN.{drop, length};
 ghost use lib.Seq.{sets};
 ghost use Rattle.measure.specs.Lists.{onto};
-ghost use Rattle.measure.specs.Ranges.{entriesMost, settingsFit};
+ghost use Rattle.measure.specs.Ranges.{entriesMost, rowSettingsFit};
 ghost use Rattle.capture.specs.Numbers.{bound, further, spelled};
 ghost use Rattle.capture.specs.Writing.{captureOf, firstLevel, numbers, runsOf};
 ghost use Rattle.capture.specs.Answers.{written, writtenSays};
@@ -113,7 +113,7 @@ fn first_level(reads: &[u8]) -> usize
 
 // How many bytes the capture of settings and reads has.
 fn capture_size(k: usize, n: usize, q: usize, reads: &[u8]) -> usize
-    requires { ⌜ (settingsFit k n q ≡ true) × (length (now reads) ≤ entriesMost) ⌝ }
+    requires { ⌜ (rowSettingsFit k n q ≡ true) × (length (now reads) ≤ entriesMost) ⌝ }
     ensures { λ x. ⌜ x ≡ length (captureOf k n q (now (reads .entry))) ⌝ }
 {
     let level = first_level(reads);
@@ -127,7 +127,7 @@ fn capture_size(k: usize, n: usize, q: usize, reads: &[u8]) -> usize
 
 // Writes the capture of settings and reads at the front of an output that has room for it.
 fn write_into(k: usize, n: usize, q: usize, reads: &[u8], out: &mut [u8])
-    requires { ⌜ (settingsFit k n q ≡ true) × (length (now reads) ≤ entriesMost) ⌝ }
+    requires { ⌜ (rowSettingsFit k n q ≡ true) × (length (now reads) ≤ entriesMost) ⌝ }
     requires { ⌜ length (captureOf k n q (now reads)) ≤ length (now out) ⌝ }
     ensures { λ _. ⌜ now (out .exit) ≡ onto (captureOf k n q (now (reads .entry))) (now (out .entry)) ⌝ }
 {
@@ -155,7 +155,7 @@ pub fn write_capture(
 {
     let sampling = k.0;
     let quiet = q.0;
-    if !measure::settings_fit(k, n, q) {
+    if !measure::row_settings_fit(k, n, q) {
         return Written::Refused(Refusal::Setting(0));
     }
     if ENTRIES_MOST < reads.len() {

@@ -13,7 +13,7 @@ pub fn number(n: usize) {
     io::print_decimal(STDOUT_FILENO, n as u64);
 }
 
-// A number behind its name.
+// A number after its name.
 pub fn named(name: &[u8], n: usize) {
     text(name);
     number(n);
@@ -79,12 +79,12 @@ fn left(list: &[u8]) {
     }
 }
 
-// A count behind a space.
+// A count after a space.
 pub fn count(n: usize) {
     named(b" ", n);
 }
 
-// A number behind a space, with a minus sign where it is below zero.
+// A number after a space, with a minus sign where it is below zero.
 pub fn signed(n: i64) {
     if n < 0 {
         named(b" -", (-1 - n) as usize + 1);

@@ -1,5 +1,5 @@
--- Two clocks that a wave is warped by: what their starts must satisfy for every law of the line, and that the rules' clocks
--- do.
+-- Two clocks that a wave is warped by: what their starts must satisfy for every law of the line, and that the rules'
+-- clocks do.
 use Prim.Native.Nat.{ℕ, zero, suc, _+_, _-_, _<_, _≤_}
 use native.Mathlib.Nat.{add-zero, add-suc, add-sub-of-le}
 use native.Mathlib.Omega.{arith}

@@ -1,5 +1,5 @@
--- The laws of warp that the rules ask for: those of any two clocks, at cycles of w units and reads of r units from p on. The
--- number of reads is the quotient, since read j is there exactly if its end, p + (j + 1)·r, is at most L·w.
+-- The laws of warp that the rules ask for: those of any two clocks, at cycles of w units and reads of r units from p
+-- on. The number of reads is the quotient, since read j is there exactly if its end, p + (j + 1)·r, is at most L·w.
 use mathlib.Core.Path.{_≡_, refl}
 use mathlib.Core.Logic.{dite}
 use mathlib.Core.List.{List}

@@ -1,6 +1,6 @@
-// Runs the cases of the file `stdin` through settings, sender, line and counted, and prints each with what it gives; the
-// file `stdout` has what that is to be. The crate `cases` says how a case is written. The list `kept` is the second list
-// of the case before.
+// Runs the cases of the file `stdin` through settings, sender, line and counted, and prints each with what it gives;
+// the file `stdout` has what that is to be. The crate `cases` says how a case is written. The list `kept` is the second
+// list of the case before.
 mod counting;
 mod judging;
 mod passing;

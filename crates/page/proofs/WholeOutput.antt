@@ -11,6 +11,7 @@ use lib.Seq.{take-append-seam}
 use Rattle.measure.specs.Choose.{choose}
 use Rattle.measure.specs.Ranges.{entriesMost, inputMost}
 use Rattle.measure.specs.Refusals.{Answer, given, refused, refusedAfter}
+use Rattle.measure.proofs.LevelLaws.{most-at}
 use Rattle.capture.specs.Capture.{Capture, capture}
 use Rattle.capture.specs.Answers.{summary, readBack}
 use Rattle.capture.proofs.Good.{Good, capture-good}
@@ -37,7 +38,8 @@ module _ (c : Capture) (good : Good c) where
   page-lines =
       rw begin-fresh
       (report-lines (captureSettings c) (length (captureReads c) + 1) fresh 0 0 (captureReads c)
-      (valid-fresh (captureSettings c) (ranged-of (captureSettings c) (good .fit))) (good .levels) (good .few)
+      (valid-fresh (captureSettings c) (ranged-of (captureSettings c) (good .fit)))
+      (most-at 1 (captureReads c) (good .levels)) (good .few)
       (omega arith)
       ∙ rw (
         zero-add (length (captureReads c)),

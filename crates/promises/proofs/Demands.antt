@@ -2,6 +2,7 @@
 use Rattle.line.proofs.WarpLaws.{warp-laws-hold}
 use Rattle.board.proofs.WellFormedStays.{every-step}
 use Rattle.capture.proofs.RoundTrips.{written-read-back, read-written-back}
+use Rattle.page.proofs.WholeOutput.{whole}
 use Rattle.promises.specs.Demand3.{receiverSettings}
 use Rattle.promises.specs.Hearing.{hearing}
 use Rattle.promises.specs.Demands.{Demands}
@@ -29,6 +30,7 @@ demands = record {
     hears = every-caller;
     reads-back = written-read-back;
     writes-back = read-written-back;
+    writes-rows = whole;
   };
   demand-3 = record {
     of-the-rules = demand-3;

@@ -12,7 +12,7 @@ use native.Mathlib.Decide.{decLe}
 use borrow.Author.Tests.{le-leb, lt-leb}
 use lib.ListN.{length, getD, take, drop, length-take, length-drop, take-append-drop}
 use lib.Seq.{take-append-le, take-length, getD-take, drop-cons}
-use Rattle.measure.specs.Ranges.{entriesMost, settingsFit}
+use Rattle.measure.specs.Ranges.{entriesMost, rowSettingsFit}
 use Rattle.measure.specs.Refusals.{Answer, given, refused}
 use Rattle.board.specs.Rows.{Settings, State, Event, nothing, fresh, next}
 use Rattle.board.specs.Feeding.{Report, noted, afterBy, reportsBy, after, reports}
@@ -241,7 +241,7 @@ module _ (g : Settings) where
     stops = λ s x reads v is place e. rw (is, e);
   }
 
-module _ (g : Settings) (range : settingsFit (g .k) (g .n) (g .Q) ≡ true) where
+module _ (g : Settings) (range : rowSettingsFit (g .k) (g .n) (g .Q) ≡ true) where
   valid : Valid g fresh
   valid = valid-fresh g (ranged-of g range)
 

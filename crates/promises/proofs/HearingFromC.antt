@@ -6,7 +6,7 @@ use mathlib.Core.Bool.{true}
 use mathlib.Core.List.{List}
 use native.Mathlib.Omega.{arith}
 use lib.ListN.{length}
-use Rattle.measure.specs.Ranges.{entriesMost, settingsFit}
+use Rattle.measure.specs.Ranges.{entriesMost, rowSettingsFit}
 use Rattle.measure.specs.Refusals.{given, refused}
 use Rattle.board.specs.declared.Mode.{Mode}
 use Rattle.board.specs.declared.Mode.the-variants.{Hunting, Ready, Counting, Waiting}
@@ -103,7 +103,7 @@ module _ (g : Settings) where
       stops s lent reads v (room, is) place e =
           rw (is, listen-crosses s v room reads (refusing (receiverOf g s) 2 place) 0 e)
 
-module _ (g : Settings) (range : settingsFit (g .k) (g .n) (g .Q) ≡ true) (room : List ℕ) where
+module _ (g : Settings) (range : rowSettingsFit (g .k) (g .n) (g .Q) ≡ true) (room : List ℕ) where
   valid : Valid g fresh
   valid = valid-fresh g (ranged-of g range)
 
@@ -122,7 +122,7 @@ module _ (g : Settings) (range : settingsFit (g .k) (g .n) (g .Q) ≡ true) (roo
       by-lists g (Holds g) listenFromC (c-listens g) part some few (length reads) fresh (startedFromC g room) 0 reads
       valid (room, started) (omega arith)
 
-pub every-caller : (g : Settings) → settingsFit (g .k) (g .n) (g .Q) ≡ true → (caller : Caller)
+pub every-caller : (g : Settings) → rowSettingsFit (g .k) (g .n) (g .Q) ≡ true → (caller : Caller)
     → Hears g (hearing caller g)
 every-caller g range steps = step-hears g range
 every-caller g range (listens part some few) = listen-hears g range part some few

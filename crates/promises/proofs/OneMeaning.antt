@@ -154,7 +154,7 @@ one-meaning = record {
   number = record { always = λ κs a. tt; once = λ κs a x y left right h h′. (h ∙ sym h′, refl) };
   place = record { always = λ κs a. tt; once = λ κs a x y left right h h′. (h ∙ sym h′, refl) };
   between = record { always = λ κs a. tt; once = λ κs a x y left right h h′. (h ∙ sym h′, refl) };
-  settings-fit = record { always = λ κs a. tt; once = λ κs a x y left right h h′. (h ∙ sym h′, refl) };
+  row-settings-fit = record { always = λ κs a. tt; once = λ κs a x y left right h h′. (h ∙ sym h′, refl) };
   first-above = record { always = λ κs a. tt; once = λ κs a x y left right h h′. (h ∙ sym h′, refl) };
   judge = record { always = λ κs a. tt; once = λ κs a x y left right h h′. (same judge-said h h′, refl) };
   judge-quiet = record { always = λ κs a. tt; once = λ κs a x y left right h h′. (same quiet-said h h′, refl) };

@@ -6,7 +6,7 @@ use mathlib.Core.List.{List, [], _∷_, _++_}
 use lib.ListN.{length}
 use Rattle.measure.specs.Choose.{choose}
 use Rattle.measure.specs.Refusals.{lent}
-use Rattle.promises.specs.Promised.{Test, good, first, Answered, room, Fills}
+use Rattle.promises.specs.Promised.{Test, good, first, Answered, setting, room, Fills}
 
 module _ {O : Type 0} {result : O} {refusal : ℕ → ℕ → O} where
   -- no test is left
@@ -99,6 +99,16 @@ followed {tests = tests} {more = more} {outcome = outcome} {end = end} {denied =
       refuses = λ h. ap on (one .refuses e) ∙ handed (first tests .0) (first tests .1)
           ∙ ap (λ (p : ℕ × ℕ). denied (p .0) (p .1)) (sym (first-bad tests more e));
     }
+
+-- a yes or no that is made of clauses: of one, and of one more
+pub clause : (fits : Bool) → Answered (setting fits ∷ []) fits true (λ number place. false)
+unfolding good first
+clause true = record { gives = λ e. refl; refuses = λ e. absurd (false≢true (sym e)) }
+clause false = record { gives = λ e. absurd (false≢true e); refuses = λ e. refl }
+
+pub also : (fits : Bool) {tests : List Test} {before : Bool} → Answered tests before true (λ number place. false)
+    → Answered (tests ++ setting fits ∷ []) (before && fits) true (λ number place. false)
+also fits so = followed (λ before. before && fits) so (λ number place. refl) (λ e. clause fits)
 
 -- good input passes each test, and input that passes each is good
 pub passes : (test : Test) (tests : List Test) → good (test ∷ tests) ≡ true

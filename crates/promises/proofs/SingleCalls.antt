@@ -5,10 +5,11 @@ use mathlib.Core.Bool.{Bool, true, false, _&&_, false≢true}
 use mathlib.Core.List.{[], _∷_}
 use denote.Ref.{now}
 use lib.Dec.{leb}
+use lib.ListN.{take}
 use Rattle.measure.specs.Choose.{choose}
 use Rattle.measure.specs.Ranges.{subcell, sampling, quiet, padMost, bitsMost, rowBits, rowsMost, entriesMost}
-use Rattle.measure.specs.Ranges.{settingsFit}
-use Rattle.measure.specs.Refusals.{Answer, given, refused, lent}
+use Rattle.measure.specs.Ranges.{inputMost, rowSettingsFit}
+use Rattle.measure.specs.Refusals.{Answer, given, refused, numberOf, placeOf}
 use Rattle.settings.specs.Answers.{inRange, judgement, quietJudgement}
 use Rattle.settings.specs.Margins.{zeroOrMore}
 use Rattle.settings.specs.Pick.{least, pickable, Best, Picks, out-of-range}
@@ -20,13 +21,16 @@ use Rattle.line.specs.Warp.{warp as warping}
 use Rattle.line.specs.Settle.{settle as settling}
 use Rattle.line.specs.Answers.{smoothed, warped, settled, timed}
 use Rattle.counted.specs.Answers.{countedBits}
-use Rattle.board.specs.Packed.{number, packed}
-use Rattle.board.specs.WellFormed.{wellFormed}
+use Rattle.board.specs.Rows.{row, broken}
+use Rattle.board.specs.Packed.{number, packed, unpacked}
+use Rattle.board.specs.WellFormed.{runFits, leftFits, foundFits, levelFits, unusedZero, wellFormed}
 use Rattle.board.specs.Answers.{begun, stepped, listened}
 use Rattle.capture.specs.Writing.{captureOf}
 use Rattle.capture.specs.Capture.{then}
 use Rattle.capture.specs.Held.{placeAfter}
 use Rattle.capture.specs.Answers.{summary, checked, readBack, written}
+use Rattle.capture.proofs.Reaching.{reached-stands}
+use Rattle.page.specs.Lines.{headingLine, eventLine, endLine, refusedLine, printed, output}
 use Rattle.siengulot.specs.Crossing.{crossed, crossing, flag, judgedThree, judgedFive, summed}
 use Rattle.siengulot.specs.Receivers.{named, numbersFit, receiverLent, brought, broughtBy, begunLent, steppedLent}
 use Rattle.siengulot.specs.Receivers.{listenedLent, wellFormedLent}
@@ -35,7 +39,7 @@ use Rattle.promises.specs.Promised.{good, first, Answered, Tells, settin
 use Rattle.promises.specs.GoodInput as Good
 use Rattle.promises.specs.FromC.{Demand1FromC}
 use Rattle.promises.specs.Demands.{Demand1}
-use Rattle.promises.proofs.Promised.{done, past, within, same, across, laid}
+use Rattle.promises.proofs.Promised.{done, past, within, same, across, laid, clause, also}
 use Rattle.promises.proofs.GoodCaptures.{number-answered, header-answered, capture-answered, read-answered}
 
 -- what the picker answers, told of the best k: one answer alone fits, and this one does
@@ -51,8 +55,8 @@ picked a b k w r answer p h =
     go false e = out-of-range e
 
 pub answered : Demand1
-unfolding judgement quietJudgement sentMessage sentPlan smoothed warped settled countedBits begun stepped
-    listened checked readBack written number packed
+unfolding judgement quietJudgement sentMessage sentPlan smoothed warped settled countedBits begun wellFormed stepped
+    listened checked readBack written output number packed
 answered = record {
   judge = λ a b k w r. within (inRange a b k w r) 1 0 (done refl);
   judge-quiet = λ a b k w r Q p1. within (inRange a b k w r && quiet Q && leb p1 padMost) 1 0 (done refl);
@@ -88,12 +92,20 @@ answered = record {
       (past (limit entriesMost reads)
       (past (entries 1 reads)
       (past (room n output) (done refl))));
-  fresh = λ k n Q. within (settingsFit k n Q) 1 0 (done refl);
+  fresh = λ k n Q. within (rowSettingsFit k n Q) 1 0 (done refl);
+  well-formed = λ x.
+      also (unusedZero (x .found) (x .bits))
+      (also (levelFits (x .mode) (x .level))
+      (also (foundFits (x .mode) (x .found) (x .n))
+      (also (leftFits (x .mode) (x .left .0) (x .k .0))
+      (also (runFits (x .mode) (x .run .0) (x .q .0))
+      (clause (rowSettingsFit (x .k .0) (x .n) (x .q .0)))))));
   step = λ x read. within (wellFormed x) 1 0 (within (leb read 1) 2 0 (done refl));
   listen = λ x reads.
       within (wellFormed x) 1 0
       (past (limit entriesMost reads) (past (Good.beforeAnyEvent x reads) (done refl)));
   held-new = λ bytes. refl;
+  held-place = reached-stands;
   held-next = λ x. number-answered (now (x .src)) (x .at);
   held-advance = λ x.
       across (λ answer. record { src = x .src; at = placeAfter (x .at) answer })
@@ -102,11 +114,16 @@ answered = record {
   check = λ bytes. across (λ c. then c (λ c. given (summary c))) (capture-answered bytes);
   read-capture = read-answered;
   write-capture = λ k n Q reads output.
-      within (settingsFit k n Q) 1 0
+      within (rowSettingsFit k n Q) 1 0
       (past (limit entriesMost reads)
       (past (entries 1 reads)
       (laid (captureOf k n Q reads) output)));
-  put-line = laid;
+  put-heading = laid headingLine;
+  put-row = λ place n bits. laid (eventLine place (row (take n (unpacked 8 bits))));
+  put-broken = λ place found. laid (eventLine place (broken found));
+  put-end = λ reads rows. laid (endLine reads rows);
+  put-refused = λ refusal. laid (refusedLine (numberOf refusal) (placeOf refusal));
+  rows = λ input. past (limit inputMost input) (across printed (capture-answered input));
 }
 
 pub answered-from-c : Demand1FromC

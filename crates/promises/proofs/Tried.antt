@@ -1,10 +1,14 @@
 -- P10's two rows: the hypotheses are met by computation, and what demand 3 says of the replaced stretch is computed
 -- beside it. For that the rooms' definitions are unfolded.
-use mathlib.Core.Path.{refl}
-use mathlib.Core.List.{[], _∷_}
+use Prim.Native.Nat.{ℕ, _≤_}
+use mathlib.Core.Path.{_≡_, refl}
+use mathlib.Core.List.{List, [], _∷_}
 use native.Mathlib.Omega.{arith}
-use Rattle.settings.specs.Margins.{m1, m2, m3, m4, m5}
-use Rattle.sender.specs.Sending.{cells, wave, planWave}
+use lib.ListN.{length}
+use Rattle.measure.specs.Lists.{firstAbove}
+use Rattle.settings.specs.Margins.{m1, m2, m3, m4, m5, accepted, quietAccepted}
+use Rattle.settings.specs.Answers.{quietJudgement}
+use Rattle.sender.specs.Sending.{cells, wave, planWave, rowsOf}
 use Rattle.line.specs.Smooth.{smoothFrom}
 use Rattle.line.specs.Warp.{look, dropped, warpFrom, warp}
 use Rattle.line.specs.Settle.{settle}
@@ -16,8 +20,11 @@ use Rattle.promises.specs.Places.{planReads, cyclesOf, placesWhere, numb
 use Rattle.promises.specs.Places.{samplePlace, lastSample, deliveries}
 use Rattle.promises.specs.Replaced.{WhollyAfter, reportsAt, moved}
 use Rattle.promises.specs.Demand3.{Fitting}
-use Rattle.promises.specs.Tried.{first, second, p10, false-quiet, Tried}
+use Rattle.promises.specs.Promised.{good}
+use Rattle.promises.specs.WholeWay.{waveOf, warpedOf, Within}
+use Rattle.promises.specs.Tried.{first, second, p10, p10Lent, false-quiet, Tried}
 use Rattle.promises.proofs.Demand3.{demand-3}
+use Rattle.promises.proofs.WholeWay.{whole-way}
 
 fitting : Fitting p10
 unfolding m1 m2 m3 m4 m5
@@ -36,9 +43,27 @@ wholly-after : WhollyAfter p10 (cyclesOf p10 (first ∷ [])) second 58
 unfolding planWave wave cells
 wholly-after i read lo hi here shares = omega (arith, shares .before-the-end)
 
+just-room : (n : ℕ) (result output : List ℕ) → length result ≡ n → length output ≡ n → length result ≤ length output
+just-room n result output e f = omega arith
+
+within-limits : Within p10Lent
+unfolding good firstAbove quietJudgement accepted quietAccepted m1 m2 m3 m4 m5 rowsOf planWave wave cells smoothFrom
+    warp warpFrom look dropped
+within-limits = record {
+  plan = refl;
+  phase = omega arith;
+  choices = (omega arith, (omega arith, (omega arith, (omega arith, (omega arith, (omega arith, tt))))));
+  few-choices = omega arith;
+  few-reads = let reads : length (warpedOf p10Lent) ≡ 117 = refl in omega arith;
+  smooth-room = just-room 118 (waveOf p10Lent) (p10Lent .forSmooth) refl refl;
+  reads-room = just-room 117 (warpedOf p10Lent) (p10Lent .forReads) refl refl;
+  settled-room = just-room 117 (warpedOf p10Lent) (p10Lent .forSettled) refl refl;
+  accepted = (refl, (refl, tt));
+}
+
 pub tried : Tried
-unfolding planReads overTheLine settle warp warpFrom look dropped smoothFrom planWave wave cells next reportsBy fromMark
-    placesWhere numbered withinLead heard markPlace samplePlace lastSample deliveries reportsAt moved
+unfolding rowsOf planReads overTheLine settle warp warpFrom look dropped smoothFrom planWave wave cells next reportsBy
+    fromMark placesWhere numbered withinLead heard markPlace samplePlace lastSample deliveries reportsAt moved
 tried = record {
   fits = fitting;
   demand = demand-3 p10 fitting;
@@ -49,4 +74,7 @@ tried = record {
   before = demand-3 p10 fitting .before 54 58 false-quiet (omega arith) (omega arith);
   after = demand-3 p10 fitting .after 54 58 false-quiet (omega arith) (omega arith)
       (first ∷ []) second [] refl wholly-after;
+  lent = refl;
+  within = within-limits;
+  whole-way = whole-way p10Lent within-limits;
 }

@@ -10,7 +10,7 @@ use lib.Dec.{eqb, leb}
 use lib.ListN.{length, drop, length-take, length-drop}
 use lib.Seq.{take-append-seam}
 use Rattle.measure.specs.Ranges.{subcell, sampling, cycleLength, quiet, padMost, bitsMost, rowBits, entriesMost}
-use Rattle.measure.specs.Ranges.{settingsFit}
+use Rattle.measure.specs.Ranges.{rowSettingsFit}
 use Rattle.measure.specs.Lists.{onto}
 use Rattle.measure.specs.Levels.{AtMost, Levels}
 use Rattle.measure.specs.Refusals.{given}
@@ -214,7 +214,7 @@ whole-way y within = record {
         (judged .0) in
         (both-3 (subcell (y .a)) (subcell (y .b)) (sampling (y .k)) (three .0) .2, three .1, three .2)
 
-    range : settingsFit (y .k) (y .n) (y .Q) ≡ true
+    range : rowSettingsFit (y .k) (y .n) (y .Q) ≡ true
     range = rw (ranges .0, row-bits, judged .1)
 
     times : timed (y .w) (y .r) (y .p) ≡ true

@@ -8,7 +8,7 @@ use denote.Triple.Entry.{Args, Res}
 use denote.Triple.Clauses.{Ended, Lasts, atExit}
 use lib.ListN.{length, take}
 use Rattle.measure.specs.Choose.{between as isBetween}
-use Rattle.measure.specs.Ranges.{settingsFit}
+use Rattle.measure.specs.Ranges.{rowSettingsFit}
 use Rattle.measure.specs.Lists.{firstAbove}
 use Rattle.measure.specs.Refusals.{lent, numberOf, placeOf}
 use Rattle.settings.specs.Answers.{judgement, judgedSays, quietJudgement, quietJudgedSays}
@@ -41,7 +41,8 @@ use Rattle.page.proofs as Page
 use Rattle.siengulot.proofs as C
 use Rattle.promises.specs.OneMeaning.{Clause}
 
--- D30: a contract says this of each call
+-- D30: A contract says this of each call. One direction is enough: a call is proved to satisfy its contract, so it does
+-- what the line says; a contract that said less would not give the line, and one that said more takes nothing from it.
 abbrev pub Says : (function : Ended) → Clause function
     → ((κs : Lfts (function .signature .lifetimes)) (a : Args (function .signature) κs) → Res (function .signature) κs
     → Lasts function κs a → Type 0) → Type 0
@@ -61,9 +62,9 @@ pub record ByContract : Type 0 where
   pub between : Says Measure.between.ended Measure.between.Reads.Post
       λ κs (least, (most, (n, _))) x _.
       x ≡ isBetween least most n
-  pub settings-fit : Says Measure.settings_fit.ended Measure.settings_fit.Reads.Post
+  pub row-settings-fit : Says Measure.row_settings_fit.ended Measure.row_settings_fit.Reads.Post
       λ κs (k, (n, (Q, _))) x _.
-      x ≡ settingsFit (k .0) n (Q .0)
+      x ≡ rowSettingsFit (k .0) n (Q .0)
   pub first-above : Says Measure.first_above.ended Measure.first_above.Reads.Post
       λ κs (entries, (most, _)) x _.
       x ≡ firstAbove most (now entries)

@@ -1,14 +1,17 @@
 -- The user's demands 1, 2 and 3, in order. Each line speaks of the definition that the operation's own contract cites,
--- as ByContract says of each. That every call ends is not stated: the prover shows it of each function by itself.
+-- as ByContract says of each. ByContract has no line for the held reader, whose contracts have no clause that others
+-- can name, so its lines here repeat their equations. That every call ends is not stated: the prover shows it of each
+-- function by itself.
 use Prim.Native.Nat.{ℕ}
 use mathlib.Core.Path.{_≡_}
-use mathlib.Core.Bool.{true}
-use mathlib.Core.List.{List, [], _∷_}
+use mathlib.Core.Bool.{true, false}
+use mathlib.Core.List.{List}
 use denote.Ref.{RefT, now}
-use lib.ListN.{length}
-use Rattle.measure.specs.Ranges.{settingsFit}
+use lib.ListN.{take}
+use Rattle.measure.specs.Ranges.{rowSettingsFit}
 use Rattle.measure.specs.Lists.{onto}
-use Rattle.measure.specs.Refusals.{Answer, given, refused, lent}
+use Rattle.measure.specs.Refusals.{Answer, given, refused, numberOf, placeOf}
+use Rattle.measure.specs.declared.Refusal.{Refusal}
 use Rattle.settings.specs.Answers.{judgement, quietJudgement}
 use Rattle.settings.specs.Pick.{Best, Picks}
 use Rattle.sender.specs.Sending.{wave, planWave, rowsOf}
@@ -20,22 +23,25 @@ use Rattle.line.specs.Sharing.{WarpLawsHold}
 use Rattle.line.specs.Answers.{smoothed, warped, settled}
 use Rattle.counted.specs.Counted.{counted}
 use Rattle.counted.specs.Answers.{countedInto, countedBits}
-use Rattle.board.specs.Rows.{Settings, nothing, fresh as freshState, next as nextState}
+use Rattle.board.specs.Rows.{Settings, nothing, row, broken, fresh as freshState, next as nextState}
 use Rattle.board.specs.Feeding.{reports as reportsOf}
-use Rattle.board.specs.Packed.{settingsOf, stateOf, receiverOf}
+use Rattle.board.specs.Packed.{unpacked, settingsOf, stateOf, receiverOf}
+use Rattle.board.specs.WellFormed.{wellFormed}
 use Rattle.board.specs.EveryStep.{EveryStep}
 use Rattle.board.specs.Answers.{reached, refusing, begun, stepped, levelsOf, toEvent, listened}
 use Rattle.board.specs.declared.Receiver.{Receiver}
 use Rattle.capture.specs.Numbers.{numberAt}
 use Rattle.capture.specs.Capture.{header}
 use Rattle.capture.specs.Writing.{captureOf}
-use Rattle.capture.specs.Held.{begunReader, advanced}
+use Rattle.capture.specs.Held.{begunReader, advanced, Reached, Stands}
 use Rattle.capture.specs.Answers.{summary, checked, readBack, written}
 use Rattle.capture.specs.RoundTrips.{WrittenReadsBack, ReadWritesBack}
 use Rattle.capture.specs.declared.held.CaptureReader.{CaptureReader}
+use Rattle.page.specs.Lines.{headingLine, eventLine, endLine, refusedLine, page, captureSettings, captureReads, output}
+use Rattle.page.specs.Walk.{Whole}
 use Rattle.promises.specs.GoodInput as Good
-use Rattle.promises.specs.Promised.{Answered, Tells, Fills, judged as judgedSettings, quietJudged, unstarted}
-use Rattle.promises.specs.Promised.{room}
+use Rattle.promises.specs.Promised.{Answered, Tells, Fills, Puts, judged as judgedSettings, quietJudged}
+use Rattle.promises.specs.Promised.{unstarted}
 use Rattle.promises.specs.ByContract.{ByContract}
 use Rattle.promises.specs.FromC.{Demand1FromC}
 use Rattle.promises.specs.OneMeaning.{OneMeaning}
@@ -48,7 +54,8 @@ use Rattle.promises.specs.WholeWay.{AcceptedFits, WholeWayHolds}
 
 -- D1: whatever comes in is answered. Good input gets its very result, and every lent entry past it is as it was. Bad
 -- input is refused by the first test of the rules' table that it fails, with its number and its place, and all that was
--- lent is as it was. GoodInput lists the tests.
+-- lent is as it was; only a start that is refused hands back a receiver of zeros, which from C is written over what was
+-- lent. GoodInput lists the tests. Refusal 5 is none of them: it is a result, and leaves the bits that were found.
 pub record Demand1 : Type 0 where
   pub judge : (a b k w r : ℕ) → Tells (Good.judge a b k w r) (judgedSettings a b k w r) (judgement a b k w r)
   pub judge-quiet : (a b k w r Q p1 : ℕ)
@@ -66,7 +73,7 @@ pub record Demand1 : Type 0 where
       → Fills (Good.warp w r p wave output) (warping w r p wave) output (warped w r p wave output)
   pub settle : (reads choices output : List ℕ)
       → Fills (Good.settle reads choices output) (settling reads choices) output (settled reads choices output)
-  -- refusal 5 is the counted receiver's alone: `countedInto` gives it with the bits that there are
+  -- refusal 5 is the counted receiver's alone: `countedInto` gives it, with the bits that there are at the front
   pub count-bits : (k n level : ℕ) (reads output : List ℕ)
       → Answered (Good.countBits k n level reads output) (countedBits k n level reads output)
       (countedInto n (counted k n level reads) output) (λ number place. (refused number place, output))
@@ -74,6 +81,8 @@ pub record Demand1 : Type 0 where
       → Answered (Good.fresh k n Q) (begun k n Q)
       (given nothing, receiverOf (record { k = k; n = n; Q = Q }) freshState)
       (λ number place. (refused number place, unstarted))
+  -- yes or no, with no refusal: a state that passes each clause is well formed, and no other is
+  pub well-formed : (x : Receiver) → Answered (Good.wellFormedBy x) (wellFormed x) true (λ number place. false)
   pub step : (x : Receiver) (read : ℕ)
       → let moved = nextState (settingsOf x) (stateOf x) read in
       Answered (Good.step x read) (stepped x read) (reached (settingsOf x) (moved .state) (moved .event)) (refusing x)
@@ -81,8 +90,10 @@ pub record Demand1 : Type 0 where
       → let told = reportsOf (settingsOf x) (stateOf x) 0 (levelsOf reads) in
       Answered (Good.listen x reads) (listened x reads) (toEvent (settingsOf x) (stateOf x) (levelsOf reads) told)
       (λ number place. (refusing x number place, 0))
-  -- the held reader: at the first byte of what is lent, the number at its place `at`, and past that number
+  -- the held reader: at the first byte of what is lent, its place `at`, the number there, and past that number. The two
+  -- last hold at any place; one past the last byte no caller can have.
   pub held-new : (bytes : RefT (List ℕ)) → begunReader bytes ≡ record { src = bytes; at = 0 }
+  pub held-place : (bytes : RefT (List ℕ)) (x : CaptureReader) → Reached bytes x → Stands bytes x
   pub held-next : (x : CaptureReader)
       → let bytes = now (x .src) in
       Tells (Good.number bytes (x .at))
@@ -100,7 +111,18 @@ pub record Demand1 : Type 0 where
       (λ number place. (refused number place, output))
   pub write-capture : (k n Q : ℕ) (reads output : List ℕ)
       → Fills (Good.writeCapture k n Q reads output) (captureOf k n Q reads) output (written k n Q reads output)
-  pub put-line : (line output : List ℕ) → Fills (room (length line) output ∷ []) line output (lent line output)
+  -- the lines of a page, each at the front of a lent output
+  pub put-heading : (output : List ℕ) → Puts headingLine output
+  pub put-row : (place n : ℕ) (bits output : List ℕ) → Puts (eventLine place (row (take n (unpacked 8 bits)))) output
+  pub put-broken : (place found : ℕ) (output : List ℕ) → Puts (eventLine place (broken found)) output
+  pub put-end : (reads rows : ℕ) (output : List ℕ) → Puts (endLine reads rows) output
+  pub put-refused : (refusal : Refusal) (output : List ℕ)
+      → Puts (refusedLine (numberOf refusal) (placeOf refusal)) output
+  -- E1, E5, E6: what the rows program writes: the page of a good capture, and else its refusal's line alone
+  pub rows : (input : List ℕ)
+      → let c = Good.captured input in
+      let told = reportsOf (captureSettings c) freshState 0 (captureReads c) in
+      Answered (Good.rows input) (output input) (page (captureReads c) told) refusedLine
 
 -- D2: what goes over the line is what the rules make of it, from the sender to the receivers and to a capture.
 pub record Demand2 : Type 0 where
@@ -113,10 +135,13 @@ pub record Demand2 : Type 0 where
   -- every step gives a well formed state; and the row receiver hears what the rules hear, whatever comes in, one read a
   -- call or a list a call, in Rust and from C
   pub well-formed : EveryStep
-  pub hears : (g : Settings) → settingsFit (g .k) (g .n) (g .Q) ≡ true → (caller : Caller) → Hears g (hearing caller g)
+  pub hears : (g : Settings) → rowSettingsFit (g .k) (g .n) (g .Q) ≡ true → (caller : Caller)
+      → Hears g (hearing caller g)
   -- captures both ways
   pub reads-back : WrittenReadsBack
   pub writes-back : ReadWritesBack
+  -- the rows program, line after line, writes the whole of its output
+  pub writes-rows : Whole
 
 -- D3: each row of a plan is delivered once and in order; and where a stretch of reads is replaced by any others, each
 -- row again from the next lead quiet that is heard. It holds of the rules, with its grounds, and of every caller: of
@@ -124,7 +149,7 @@ pub record Demand2 : Type 0 where
 pub record Demand3Met : Type 0 where
   pub of-the-rules : Demand3Holds
   pub grounds : GroundsHold
-  pub of-every-caller : (x : Link) → Fitting x → settingsFit (x .k) (x .n) (x .Q) ≡ true → (caller : Caller)
+  pub of-every-caller : (x : Link) → Fitting x → rowSettingsFit (x .k) (x .n) (x .Q) ≡ true → (caller : Caller)
       → Demand3 x (hearing caller (receiverSettings x))
   -- a yes of the quiet judge for each row's lead is what is asked of the settings; and from the lent lists of a plan
   -- to the delivered rows, call after call

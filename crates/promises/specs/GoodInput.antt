@@ -7,7 +7,7 @@ use lib.Dec.{eqb, leb}
 use lib.ListN.{length, drop}
 use Rattle.measure.specs.Choose.{choose, between}
 use Rattle.measure.specs.Ranges.{subcell, sampling, cycleLength, quiet, padMost, bitsMost, rowBits, rowsMost}
-use Rattle.measure.specs.Ranges.{entriesMost, captureMost, settingsFit}
+use Rattle.measure.specs.Ranges.{entriesMost, captureMost, inputMost, rowSettingsFit}
 use Rattle.measure.specs.Lists.{firstAbove, someAbove}
 use Rattle.settings.specs.Margins.{zeroOrMore}
 use Rattle.settings.specs.Pick.{least, pickable}
@@ -19,7 +19,7 @@ use Rattle.line.specs.Settle.{settle as settling}
 use Rattle.line.specs.Answers.{timed}
 use Rattle.board.specs.Feeding.{reports}
 use Rattle.board.specs.Packed.{settingsOf, stateOf}
-use Rattle.board.specs.WellFormed.{wellFormed}
+use Rattle.board.specs.WellFormed.{runFits, leftFits, foundFits, levelFits, unusedZero, wellFormed}
 use Rattle.board.specs.Answers.{levelsOf, silent}
 use Rattle.board.specs.declared.Receiver.{Receiver}
 use Rattle.capture.specs.Numbers.{Group, value, cut, long, group, further}
@@ -99,7 +99,18 @@ countBits k n level reads output =
 
 -- R48: the row receiver; a list is refused for a read that is no level only where no event comes before it
 abbrev pub fresh : (k n Q : ℕ) → List Test
-fresh k n Q = setting (settingsFit k n Q) ∷ []
+fresh k n Q = setting (rowSettingsFit k n Q) ∷ []
+
+-- B20 to B25, R49: what a well formed state has to pass, clause by clause
+abbrev pub wellFormedBy : (x : Receiver) → List Test
+wellFormedBy x =
+    setting (rowSettingsFit (x .k .0) (x .n) (x .q .0))
+    ∷ setting (runFits (x .mode) (x .run .0) (x .q .0))
+    ∷ setting (leftFits (x .mode) (x .left .0) (x .k .0))
+    ∷ setting (foundFits (x .mode) (x .found) (x .n))
+    ∷ setting (levelFits (x .mode) (x .level))
+    ∷ setting (unusedZero (x .found) (x .bits))
+    ∷ []
 
 -- R50
 abbrev pub step : (x : Receiver) (read : ℕ) → List Test
@@ -261,8 +272,12 @@ readCapture bytes output = capture bytes ++ (room (length (readsIn bytes)) outpu
 -- R56: writing one
 abbrev pub writeCapture : (k n Q : ℕ) (reads output : List ℕ) → List Test
 writeCapture k n Q reads output =
-    setting (settingsFit k n Q)
+    setting (rowSettingsFit k n Q)
     ∷ limit entriesMost reads
     ∷ entries 1 reads
     ∷ room (length (captureOf k n Q reads)) output
     ∷ []
+
+-- E5, E6: the rows program takes so many bytes, and these have to be a capture
+abbrev pub rows : (input : List ℕ) → List Test
+rows input = limit inputMost input ∷ capture input

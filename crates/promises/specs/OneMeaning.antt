@@ -49,7 +49,8 @@ pub record OneMeaning : Type 0 where
   pub number : One Measure.number.ended Measure.number.Reads.Asked Measure.number.Reads.Post
   pub place : One Measure.place.ended Measure.place.Reads.Asked Measure.place.Reads.Post
   pub between : One Measure.between.ended Measure.between.Reads.Asked Measure.between.Reads.Post
-  pub settings-fit : One Measure.settings_fit.ended Measure.settings_fit.Reads.Asked Measure.settings_fit.Reads.Post
+  pub row-settings-fit :
+      One Measure.row_settings_fit.ended Measure.row_settings_fit.Reads.Asked Measure.row_settings_fit.Reads.Post
   pub first-above : One Measure.first_above.ended Measure.first_above.Reads.Asked Measure.first_above.Reads.Post
   -- settings
   pub judge : One Settings.judge.ended Settings.judge.Reads.Asked Settings.judge.Reads.Post

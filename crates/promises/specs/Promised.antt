@@ -8,7 +8,7 @@ use lib.Dec.{leb, ltb}
 use lib.ListN.{length, replicate}
 use Rattle.measure.specs.Choose.{choose}
 use Rattle.measure.specs.Lists.{firstAbove, someAbove, onto}
-use Rattle.measure.specs.Refusals.{Answer, given, refused}
+use Rattle.measure.specs.Refusals.{Answer, given, refused, lent}
 use Rattle.settings.specs.Margins.{m1, m2, m3, m4, m5, accepted, quietAccepted}
 use Rattle.settings.specs.Answers.{Judgement, QuietJudgement}
 use Rattle.board.specs.declared.Mode.the-variants.{Hunting}
@@ -66,6 +66,10 @@ Tells tests result answer = Answered tests answer (given result) refused
 abbrev pub Fills : List Test → (result output : List ℕ) → Answer ℕ × List ℕ → Type 0
 Fills tests result output outcome =
     Answered tests outcome (given (length result), onto result output) (λ number place. (refused number place, output))
+
+-- R57: a line that is put at the front of a lent output
+abbrev pub Puts : (line output : List ℕ) → Type 0
+Puts line output = Fills (room (length line) output ∷ []) line output (lent line output)
 
 -- H2, H3: The same from C: the refusal's number (0 for none), its place, and the count, which is 0 with a refusal.
 abbrev pub FillsFromC : List Test → (result output : List ℕ) → (ℕ × ℕ × ℕ) × List ℕ → Type 0

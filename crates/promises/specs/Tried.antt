@@ -10,6 +10,7 @@ use Rattle.board.specs.Feeding.{Report, reports as reportsOf}
 use Rattle.promises.specs.Places.{Link, cyclesOf, heard, deliveries}
 use Rattle.promises.specs.Replaced.{WhollyAfter, damaged, below, above}
 use Rattle.promises.specs.Demand3.{Fitting, Demand3, receiverSettings}
+use Rattle.promises.specs.WholeWay.{Way, linkOf, Within, WholeWay}
 
 -- D3
 abbrev pub first : Row
@@ -33,6 +34,27 @@ p10 = record {
   p = 40;
   rows = first ∷ second ∷ [];
   choices = 1 ∷ 0 ∷ 0 ∷ 1 ∷ 1 ∷ 0 ∷ [];
+}
+
+-- D20: the same plan as it is lent, with no more room than the results take
+abbrev pub p10Lent : Way
+p10Lent = record {
+  a = p10 .a;
+  b = p10 .b;
+  k = p10 .k;
+  n = p10 .n;
+  Q = p10 .Q;
+  w = p10 .w;
+  r = p10 .r;
+  p = p10 .p;
+  leads = 23 ∷ 23 ∷ [];
+  trails = 0 ∷ 0 ∷ [];
+  bits = 1 ∷ 0 ∷ 0 ∷ 1 ∷ [];
+  choices = p10 .choices;
+  forWave = replicate 118 0;
+  forSmooth = replicate 118 0;
+  forReads = replicate 117 0;
+  forSettled = replicate 117 0;
 }
 
 -- D11: Q high reads, then a mark
@@ -60,3 +82,7 @@ pub record Tried : Type 0 where
   pub reports : damagedReports ≡ at 51 (row (1 ∷ 0 ∷ [])) ∷ at 100 (broken 1) ∷ at 131 (row (0 ∷ 1 ∷ [])) ∷ []
   pub before : below 54 damagedReports ≡ at 51 (row (1 ∷ 0 ∷ [])) ∷ []
   pub after : above 100 damagedReports ≡ at 131 (row (0 ∷ 1 ∷ [])) ∷ []
+  -- what the whole way asks is met too, so it holds here
+  pub lent : linkOf p10Lent ≡ p10
+  pub within : Within p10Lent
+  pub whole-way : WholeWay p10Lent

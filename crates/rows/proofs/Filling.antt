@@ -81,8 +81,8 @@ abbrev pub back : List ℕ → ℕ → List ℕ → List ℕ
 back page bytes out = take bytes page ++ (out ++ drop (length page - bytes) (drop bytes page))
 
 -- what a turn makes of a page that is being filled
-pub record TurnedPage (w : Walk) (reads page₀ page : List ℕ) (at : Walk) (bytes : ℕ) (after : Walk) (more : Bool) (n : ℕ)
-    (out : List ℕ) : Type 0 where
+pub record TurnedPage (w : Walk) (reads page₀ page : List ℕ) (at : Walk) (bytes : ℕ) (after : Walk) (more : Bool)
+    (n : ℕ) (out : List ℕ) : Type 0 where
   pub size : length (back page bytes out) ≡ length page₀
   pub most : bytes + n ≤ length page₀
   pub last : more ≡ false → Filled w reads (back page bytes out) after false (bytes + n)

@@ -5,10 +5,13 @@ use mathlib.Core.Path.{_≡_, refl, sym, ap, subst, _∙_}
 use mathlib.Core.Bool.{Bool, true, false, _&&_}
 use native.Mathlib.Decide.{decLe}
 use native.Mathlib.Omega.{arith}
-use lib.Dec.{T}
-use lib.Signed.{ltZ, clashℤ}
+use borrow.Author.Tests.{le-leb, lt-leb}
+use lib.Dec.{T, leb}
+use lib.IntN.{ℤ, pos, negsuc}
+use lib.Signed.{ltZ, _≤ℤ_, clashℤ}
 use Rattle.measure.specs.Choose.{choose}
 use Rattle.measure.specs.Refusals.{Answer, given, refused}
+use Rattle.measure.proofs.Both.{range-ends}
 use Rattle.settings.specs.Margins.{m1, m2, m3, zeroOrMore, accepted}
 use Rattle.settings.specs.Pick.{lower, least, pickable, NoneAccepted, Best, Picks, out-of-range, none, best}
 use Rattle.settings.specs.PickShown.{OneFits, PickShown}
@@ -96,11 +99,37 @@ given-best a b k w r (best e h z) = (h, z)
 refused-none : (a b w r : ℕ) → Picks a b w r (refused 9 0) → NoneAccepted a b w r
 refused-none a b w r (none e h) = h
 
+-- where M1 is -2, no least margin is above that
+below-two : (x : ℤ) → lower (negsuc 1) x ≤ℤ negsuc 1
+below-two (pos n) = record { le = tt }
+below-two (negsuc n) = go (decLe n 1)
+  where
+    go : Dec (n ≤ 1) → choose (leb n 1) (negsuc 1) (negsuc n) ≤ℤ negsuc 1
+    go (yes h) = rw (le-leb n 1 h) (record { le = tt })
+    go (no h) = rw (lt-leb n 1 (omega arith)) (record { le = rw (le-leb 1 n (omega arith)) tt })
+
+best-9 : Best 5 13 9 100 100
+unfolding m1 m2 m3 least
+best-9 = best-turning 5 13 100 100 (rising 5 13 100 100 (refl, refl)) .next refl
+
+best-1 : Best 1 1 1 1 1
+unfolding m1 m2 m3 least
+best-1 = record {
+  in-range = refl;
+  none-better = λ other s. below-two (lower (m2 1 other 1 1) (m3 1 1 other 1 1));
+  smaller-worse = λ other s l. absurd (omega (arith, range-ends 1 511 other s .0));
+}
+
 pub pick-shown : PickShown
+unfolding m1 m2 m3 least
 pick-shown = record {
   one-fits = λ a b w r. by-range a b w r _ refl;
   accepts = λ a b k w r p. accepted-least a b k w r ∙ given-best a b k w r p .1;
   none-better = λ a b k w r p. given-best a b k w r p .0 .none-better;
   refused-none = refused-none;
   none-refused = λ a b w r e h. none e h;
+  given-best = best-9;
+  is-given = best refl best-9 refl;
+  refused-best = best-1;
+  is-refused = none refl (none-with-m1 1 1 1 1 refl);
 }

@@ -6,7 +6,7 @@ use lib.Signed.{_≤ℤ_}
 use Rattle.measure.specs.Ranges.{sampling}
 use Rattle.measure.specs.Refusals.{Answer, given, refused}
 use Rattle.settings.specs.Margins.{accepted}
-use Rattle.settings.specs.Pick.{least, pickable, NoneAccepted, Picks}
+use Rattle.settings.specs.Pick.{least, pickable, Best, NoneAccepted, Picks}
 
 -- one answer fits, and no other
 pub record OneFits (a b w r : ℕ) : Type 0 where
@@ -21,6 +21,12 @@ pub record PickShown : Type 0 where
   pub accepts : (a b k w r : ℕ) → Picks a b w r (given k) → accepted a b k w r ≡ true
   pub none-better : (a b k w r : ℕ) → Picks a b w r (given k)
       → (other : ℕ) → sampling other ≡ true → least a b other w r ≤ℤ least a b k w r
-  -- refusal 9 is given exactly if no k in range has three margins of zero or more
+  -- with a, b, w and r in range, refusal 9 is given exactly if no k in range has three margins of zero or more
   pub refused-none : (a b w r : ℕ) → Picks a b w r (refused 9 0) → NoneAccepted a b w r
   pub none-refused : (a b w r : ℕ) → pickable a b w r ≡ true → NoneAccepted a b w r → Picks a b w r (refused 9 0)
+  -- both come up: equal clocks with Moore's cell of 18 cycles are given k 9; of the least settings, whose best k has
+  -- margins below zero, refusal 9 is given
+  pub given-best : Best 5 13 9 100 100
+  pub is-given : Picks 5 13 100 100 (given 9)
+  pub refused-best : Best 1 1 1 1 1
+  pub is-refused : Picks 1 1 1 1 (refused 9 0)

@@ -192,7 +192,8 @@ fn cell_accepted(m: Margins) -> bool
 // Tells whether all five margins are.
 fn all_accepted(m: QuietMargins) -> bool
     ensures { λ yes. ⌜ yes
-        ≡ (zeroOrMore (m .m1) && zeroOrMore (m .m2) && zeroOrMore (m .m3) && zeroOrMore (m .m4) && zeroOrMore (m .m5)) ⌝ }
+        ≡ (zeroOrMore (m .m1) && zeroOrMore (m .m2) && zeroOrMore (m .m3) && zeroOrMore (m .m4)
+        && zeroOrMore (m .m5)) ⌝ }
 {
     zero_or_more(m.m1)
         & zero_or_more(m.m2)

@@ -613,7 +613,7 @@ fn listen(k: usize, n: usize, q: usize, reads: Vec<u8>) -> Work {
     work
 }
 
-/// Rows of 1,024 bits, two reads each, behind a quiet of three.
+/// Rows of 1,024 bits, two reads each, after a quiet of three.
 fn few_events(reads: usize) -> Vec<u8> {
     let mut row = vec![1; 3];
     row.extend(inputs::repeated(&[0, 0, 1, 1], 2_048));

@@ -1,8 +1,8 @@
 //! Runs every measured case, on the static library and on the plain implementation.
 //!
 //! `counts` says on standard error which run comes next and makes the meter's mark before and
-//! behind it, once for each side at both sizes. `times` prints for each side the best of many
-//! runs at the smaller size, the sides taking turns. A word behind that keeps to the cases whose
+//! after it, once for each side at both sizes. `times` prints for each side the best of many
+//! runs at the smaller size, the sides taking turns. A word after that keeps to the cases whose
 //! names begin with it.
 
 mod cases;

@@ -77,7 +77,7 @@ pub fn lent(length: usize) -> Vec<u8> {
     vec![UNTOUCHED; length]
 }
 
-/// Whether `out` begins with `result` and is untouched behind it.
+/// Whether `out` begins with `result` and is untouched after it.
 pub fn holds(out: &[u8], result: &[u8]) -> bool {
     out.len() >= result.len()
         && out[..result.len()] == *result

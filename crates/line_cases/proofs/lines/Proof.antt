@@ -7,7 +7,8 @@ use Rattle.line_cases.proofs.lines.Statement.{statement}
 use Rattle.line_cases.proofs.lines.Tie as tie
 
 abbrev Inv-loop : tie.InvT-loop
-Inv-loop text one₀ two₀ out₀ sizes₀ at₀ one two out sizes at = (length one ≡ length one₀) × (length two ≡ length two₀) × (length out ≡ length out₀)
+Inv-loop text one₀ two₀ out₀ sizes₀ at₀ one two out sizes at =
+    (length one ≡ length one₀) × (length two ≡ length two₀) × (length out ≡ length out₀)
 
 abbrev μ-loop : tie.MeasureT-loop
 μ-loop text one₀ two₀ out₀ sizes₀ at₀ one two out sizes at = length text - at

@@ -123,7 +123,8 @@ loop-again c =
     let loop = turn .before .loop in
     let kept = written .kept .1 .1 .1 .1 .1 .0 in
     let after : loop .at + length (this turn) ≡ written .result =
-    omega (arith, this-size turn, rw (row-same turn, length-take-le _ _ (row-within turn)) at (written .ensures .0)) in (
+    omega (arith, this-size turn, rw (row-same turn, length-take-le _ _ (row-within turn)) at (written .ensures .0))
+    in (
       omega arith,
       omega arith,
       kept ∙ loop .inv .2,

@@ -15,7 +15,8 @@ zero-or-more-requires-3 c κs = search needs
 returns : tie.Need-returns
 returns c =
     let second = c .before .before in
-    search (needs, second .before .before .zero-or-more .ensures, second .zero-or-more2 .ensures, c .zero-or-more3 .ensures)
+    let first = second .before .before in
+    search (needs, first .zero-or-more .ensures, second .zero-or-more2 .ensures, c .zero-or-more3 .ensures)
 
 pub cell-accepted-spec : {M : Type 1} → statement M
 cell-accepted-spec =

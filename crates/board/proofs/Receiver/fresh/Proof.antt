@@ -2,13 +2,13 @@
 use mathlib.Core.Path.{_≡_, sym, _∙_}
 use mathlib.Core.Bool.{true, false}
 use borrow.Author.Needs.{needs}
-use Rattle.measure.specs.Ranges.{settingsFit}
+use Rattle.measure.specs.Ranges.{rowSettingsFit}
 use Rattle.board.specs.Answers.{begun}
 use Rattle.board.proofs.Receiver.fresh.Statement.{statement}
 use Rattle.board.proofs.Receiver.fresh.Tie as tie
 
-settings-fit-requires : tie.Need-settings-fit-requires
-settings-fit-requires c κs = search needs
+row-settings-fit-requires : tie.Need-row-settings-fit-requires
+row-settings-fit-requires c κs = search needs
 
 idle-requires : tie.Need-idle-requires
 idle-requires c κs = search needs
@@ -17,7 +17,7 @@ returns : tie.Need-returns
 unfolding begun
 returns c =
     let a = c .before .before .before .args in
-    let e : settingsFit (a .k .0) (a .n) (a .q .0) ≡ true = sym (c .before .before .settings-fit .ensures)
+    let e : rowSettingsFit (a .k .0) (a .n) (a .q .0) ≡ true = sym (c .before .before .row-settings-fit .ensures)
     ∙ c .before .if1 .taken in
     rw (e, ← c .idle .ensures)
 
@@ -28,10 +28,10 @@ returns-2 : tie.Need-returns-2
 unfolding begun
 returns-2 c =
     let a = c .before .before .before .args in
-    let e : settingsFit (a .k .0) (a .n) (a .q .0) ≡ false = sym (c .before .before .settings-fit .ensures)
+    let e : rowSettingsFit (a .k .0) (a .n) (a .q .0) ≡ false = sym (c .before .before .row-settings-fit .ensures)
     ∙ c .before .if1 .left in
     rw (e, ← c .idle2 .ensures)
 
 pub fresh-spec : {M : Type 1} → statement M
 fresh-spec =
-    tie.close (tie.spec settings-fit-requires idle-requires returns idle-requires-2 returns-2)
+    tie.close (tie.spec row-settings-fit-requires idle-requires returns idle-requires-2 returns-2)

@@ -4,7 +4,7 @@ use mathlib.Core.Bool.{true}
 use native.Mathlib.Omega.{arith}
 use borrow.Author.Needs.{needs}
 use denote.Ref.{now}
-use Rattle.measure.specs.Ranges.{settingsFit}
+use Rattle.measure.specs.Ranges.{rowSettingsFit}
 use Rattle.board.specs.Rows.{Settings, State}
 use Rattle.board.specs.Listening.{settingsFrom, heardFrom}
 use Rattle.board.proofs.Standing.{of-ranged}
@@ -15,7 +15,7 @@ use Rattle.board.proofs.listening.hear.Tie as tie
 abbrev g : tie.Start → Settings
 g c = settingsFrom (c .args .k) (c .args .n) (c .args .q)
 
-range : (c : tie.Start) → settingsFit (c .args .k) (c .args .n) (c .args .q) ≡ true
+range : (c : tie.Start) → rowSettingsFit (c .args .k) (c .args .n) (c .args .q) ≡ true
 range c = of-ranged (g c) (kept-valid (g c) (c .args .start) (now (c .args .bits)) (c .pre) .range)
 
 enum-told : tie.Need-enum-told

@@ -3,7 +3,7 @@ use mathlib.Core.Path.{_≡_, sym, _∙_}
 use mathlib.Core.Bool.{true}
 use borrow.Author.Needs.{needs}
 use borrow.Author.Tests.{not-true, not-false}
-use Rattle.measure.specs.Ranges.{settingsFit}
+use Rattle.measure.specs.Ranges.{rowSettingsFit}
 use Rattle.board.specs.WellFormed.{runFits, leftFits, foundFits, levelFits, wellFormed}
 use Rattle.board.proofs.Standing.{found-fits-most}
 use Rattle.board.proofs.state.fits.Statement.{statement}
@@ -12,8 +12,8 @@ use Rattle.board.proofs.state.fits.Tie as tie
 abbrev start1 : tie.Else1 → tie.Start
 start1 c = c .before .before
 
-fits1 : (c : tie.Else1) → settingsFit (start1 c .args .k) (start1 c .args .n) (start1 c .args .q) ≡ true
-fits1 c = sym (c .before .settings-fit .ensures) ∙ not-false _ (c .if1 .left)
+fits1 : (c : tie.Else1) → rowSettingsFit (start1 c .args .k) (start1 c .args .n) (start1 c .args .q) ≡ true
+fits1 c = sym (c .before .row-settings-fit .ensures) ∙ not-false _ (c .if1 .left)
 
 abbrev start2 : tie.Else2 → tie.Start
 start2 c = start1 (c .before .before)
@@ -42,12 +42,12 @@ start5 c = start4 (c .before .before)
 fits5 : (c : tie.Else5) → levelFits (start5 c .args .numbers .mode) (start5 c .args .numbers .level) ≡ true
 fits5 c = c .before .level-fits .ensures ∙ not-false _ (c .if5 .left)
 
-settings-fit-requires : tie.Need-settings-fit-requires
-settings-fit-requires c κs = search needs
+row-settings-fit-requires : tie.Need-row-settings-fit-requires
+row-settings-fit-requires c κs = search needs
 
 returns : tie.Need-returns
 unfolding wellFormed
-returns c = simp (sym (c .before .settings-fit .ensures) ∙ not-true _ (c .if1 .taken))
+returns c = simp (sym (c .before .row-settings-fit .ensures) ∙ not-true _ (c .if1 .taken))
 
 run-fits-requires : tie.Need-run-fits-requires
 run-fits-requires c κs = search needs
@@ -113,7 +113,7 @@ pub fits-spec : {M : Type 1} → statement M
 fits-spec =
     tie.close
     (tie.spec
-    settings-fit-requires
+    row-settings-fit-requires
     returns
     run-fits-requires
     returns-2

@@ -7,21 +7,21 @@ use Rattle.capture.proofs.WriteLaws.{write-setting, write-limit, write-
 use Rattle.capture.proofs.writing.write_capture.Statement.{statement}
 use Rattle.capture.proofs.writing.write_capture.Tie as tie
 
-settings-fit-requires : tie.Need-settings-fit-requires
-settings-fit-requires c κs = search needs
+row-settings-fit-requires : tie.Need-row-settings-fit-requires
+row-settings-fit-requires c κs = search needs
 
 returns : tie.Need-returns
 returns c =
     let a = c .before .before .before .before .args in
     write-setting (a .k .0) (a .n) (a .q .0) (a .reads .now) (a .out .now)
-    (failed (c .before .settings-fit .ensures) (c .if1 .taken))
+    (failed (c .before .row-settings-fit .ensures) (c .if1 .taken))
 
 returns-2 : tie.Need-returns-2
 returns-2 c =
     let fit = c .before in
     let a = fit .before .before .before .before .args in
     write-limit (a .k .0) (a .n) (a .q .0) (a .reads .now) (a .out .now)
-    (passed (fit .before .settings-fit .ensures) (fit .if1 .left)) (c .if2 .taken)
+    (passed (fit .before .row-settings-fit .ensures) (fit .if1 .left)) (c .if2 .taken)
 
 first-above-requires : tie.Need-first-above-requires
 first-above-requires c κs = search needs
@@ -33,14 +33,14 @@ returns-3 c =
     let a = fit .before .before .before .before .args in
     let bad = c .before .first-above .ensures in
     write-entry (a .k .0) (a .n) (a .q .0) (a .reads .now) (a .out .now)
-    (passed (fit .before .settings-fit .ensures) (fit .if1 .left)) (few .if2 .left) (rw bad at (c .if3 .taken))
+    (passed (fit .before .row-settings-fit .ensures) (fit .if1 .left)) (few .if2 .left) (rw bad at (c .if3 .taken))
     ∙ ap (λ place. (refused 2 place, a .out .now)) (sym bad)
 
 capture-size-requires : tie.Need-capture-size-requires
 capture-size-requires c κs =
     let few = c .before .before in
     let fit = few .before in
-    (passed (fit .before .settings-fit .ensures) (fit .if1 .left), few .if2 .left)
+    (passed (fit .before .row-settings-fit .ensures) (fit .if1 .left), few .if2 .left)
 
 returns-4 : tie.Need-returns-4
 returns-4 c =
@@ -49,7 +49,7 @@ returns-4 c =
     let fit = few .before in
     let a = fit .before .before .before .before .args in
     write-room (a .k .0) (a .n) (a .q .0) (a .reads .now) (a .out .now)
-    (passed (fit .before .settings-fit .ensures) (fit .if1 .left)) (few .if2 .left)
+    (passed (fit .before .row-settings-fit .ensures) (fit .if1 .left)) (few .if2 .left)
     (rw (levels .before .first-above .ensures) at (levels .if3 .left))
     (rw (c .before .capture-size .ensures) at (c .if4 .taken))
 
@@ -58,7 +58,7 @@ write-into-requires c κs =
     let sized = c .before .before in
     let few = sized .before .before .before in
     let fit = few .before in (
-      (passed (fit .before .settings-fit .ensures) (fit .if1 .left), few .if2 .left),
+      (passed (fit .before .row-settings-fit .ensures) (fit .if1 .left), few .if2 .left),
       rw (sized .capture-size .ensures) at (c .before .if4 .left),
     )
 
@@ -74,7 +74,7 @@ returns-5 c =
     let a = fit .before .before .before .before .args in
     let size = room .before .capture-size .ensures in
     write-whole (a .k .0) (a .n) (a .q .0) (a .reads .now) (a .out .now)
-    (passed (fit .before .settings-fit .ensures) (fit .if1 .left)) (few .if2 .left)
+    (passed (fit .before .row-settings-fit .ensures) (fit .if1 .left)) (few .if2 .left)
     (rw (levels .before .first-above .ensures) at (levels .if3 .left)) (rw size at (room .if4 .left))
     ∙ cc (size, c .before .before .write-into .ensures)
 
@@ -82,7 +82,7 @@ pub write-capture-spec : {M : Type 1} → statement M
 write-capture-spec =
     tie.close
     (tie.spec
-    settings-fit-requires
+    row-settings-fit-requires
     returns
     returns-2
     first-above-requires
