@@ -12,11 +12,11 @@
 /* The first board of docs/FITTER.md, with the least p1 that the judge accepts for it. */
 enum { A = 5, B = 13, K = 10, W = 100, R = 141, Q = 16, P1 = 25 };
 
-/* The row, and how it happens to be read: its trail, the phase, and how unknown reads fall. */
-enum { N = 3, P2 = 5, P = 30, CHOICES = 10 };
+/* The row, and how it happens to be read: the phase, and how unknown reads fall. */
+enum { N = 3, P = 30, CHOICES = 7 };
 
 static const uint8_t bits[N] = {1, 0, 1};
-static const uint8_t choices[CHOICES] = {1, 0, 1, 0, 0, 1, 1, 0, 1, 1};
+static const uint8_t choices[CHOICES] = {1, 0, 1, 0, 0, 1, 1};
 
 enum { ROOM = 128, MARGINS = 5 };
 
@@ -76,7 +76,7 @@ int main(void)
     size_t accepted, cycles, reads;
 
     succeed(siengulot_judge_quiet(A, B, K, W, R, Q, P1, margins, &accepted));
-    printf("settings %d %d %d %d %d %d %d %d %d\n", A, B, K, W, R, Q, P1, P2, P);
+    printf("settings %d %d %d %d %d %d %d %d\n", A, B, K, W, R, Q, P1, P);
     printf("margins");
     for (int i = 0; i < MARGINS; i++) {
         printf(" %" PRId64, margins[i]);
@@ -84,7 +84,7 @@ int main(void)
     printf("\naccepted %zu\n", accepted);
     print_levels("bits", bits, N);
 
-    succeed(siengulot_send(A, B, P1, P2, bits, N, wave, ROOM, &place, &cycles));
+    succeed(siengulot_send(A, B, P1, bits, N, wave, ROOM, &place, &cycles));
     print_levels("wave", wave, cycles);
     succeed(siengulot_smooth(wave, cycles, smoothed, ROOM, &place, &cycles));
     print_levels("smoothed", smoothed, cycles);

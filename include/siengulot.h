@@ -8,8 +8,8 @@
  * - It returns the number of its refusal, and 0 where it refuses nothing (enum siengulot_refusal). siengulot_well_formed alone returns a yes or no.
  * - Faults are looked for in the order 1, 3, 2, 4, 5, or 1 and then 9, and the first that is there is returned. A capture has an order of its own, said with
  *   siengulot_capture_check.
- * - Each single number that is lent (k, place, count, accepted, event, found, used) is written with every answer, a refusal included. `place` is 0 but
- *   for refusals 2, 6, 7 and 8.
+ * - Each single number that is lent (k, place, count, dropped, accepted, event, found, used) is written with every answer, a refusal included. `place`
+ *   is 0 but for refusals 2, 6, 7 and 8, and for a row that siengulot_read_plan refuses with 1.
  * - A result stands at the front of its lent output, and the rest of the output is untouched. With every refusal but 5 the whole output is untouched;
  *   siengulot_fresh alone writes zeros where it refuses.
  * - Levels and bits are bytes, 0 or 1. An unknown level is 2.
@@ -39,7 +39,7 @@ enum {
     SIENGULOT_SAMPLING_MOST = 511,
     SIENGULOT_CYCLE_LEAST = 1, /* w and r, in time units */
     SIENGULOT_CYCLE_MOST = 65535,
-    SIENGULOT_PAD_MOST = 65535, /* p1 and p2, in writer cycles */
+    SIENGULOT_PAD_MOST = 65535, /* a pad, in writer cycles */
     SIENGULOT_BITS_LEAST = 1,   /* n of a row; the counted receiver takes 0 too */
     SIENGULOT_BITS_MOST = 1024, /* n, and the bits of a message */
     SIENGULOT_QUIET_LEAST = 2,  /* Q, in reads */
@@ -55,7 +55,8 @@ enum { SIENGULOT_LOW = 0, SIENGULOT_HIGH = 1, SIENGULOT_UNKNOWN = 2 };
 /* The numbers of the refusals. */
 enum siengulot_refusal {
     SIENGULOT_NO_REFUSAL = 0,
-    SIENGULOT_SETTING = 1, /* a setting or a level in force out of range, a plan whose lists do not fit, a receiver that is not well formed */
+    SIENGULOT_SETTING = 1, /* a setting or a level in force out of range, a plan whose lists do not fit, a row of a stored plan
+                              whose lead becomes too long, a receiver that is not well formed */
     SIENGULOT_ENTRY = 2,   /* an entry that is not of the kind taken; `place` is where the first such entry stands */
     SIENGULOT_LIMIT = 3,   /* too long a list, lent or to be given */
     SIENGULOT_ROOM = 4,    /* too little room in a lent output */
@@ -106,31 +107,44 @@ size_t siengulot_pick(size_t a, size_t b, size_t w, size_t r, size_t *k);
  */
 
 /*
- * Sends a message. Gives its wave at the front of `out`, and in `count` how many cycles it has: p1 + bits_length * (a + b) + p2.
+ * Sends a message. Gives its wave at the front of `out`, and in `count` how many cycles it has: p1 + bits_length * (a + b).
  * A message may have no bits.
  * Refuses with
- *   1  a or b out of 1 to 255, or p1 or p2 above 65,535;
+ *   1  a or b out of 1 to 255, or p1 above 65,535;
  *   3  more than 1,024 bits;
  *   2  an entry of `bits` above 1, at `place`;
  *   4  `out` shorter than the wave.
  * Leaves with a refusal `out` as it was, and 0 in `count`.
  */
-size_t siengulot_send(size_t a, size_t b, size_t p1, size_t p2, const uint8_t *bits, size_t bits_length, uint8_t *out, size_t out_length,
-                      size_t *place, size_t *count);
+size_t siengulot_send(size_t a, size_t b, size_t p1, const uint8_t *bits, size_t bits_length, uint8_t *out, size_t out_length, size_t *place,
+                      size_t *count);
 
 /*
- * Sends a plan of rows. Row i has the lead pad leads[i], the trail pad trails[i], and the n entries of `bits` from i * n on.
+ * Sends a plan of rows. Row i has the lead pad leads[i], and the n entries of `bits` from i * n on.
  * Gives the wave of all rows at the front of `out`, and in `count` how many cycles it has.
  * Refuses with
- *   1  a or b out of 1 to 255, n out of 1 to 1,024, a pad above 65,535, no row, more or fewer trail pads than lead pads, or another number of
- *      bits than n for each row;
+ *   1  a or b out of 1 to 255, n out of 1 to 1,024, a pad above 65,535, no row, or another number of bits than n for each row;
  *   3  more than 1,024 rows, or a wave of more than 1,048,576 cycles;
  *   2  an entry of `bits` above 1, at `place`;
  *   4  `out` shorter than the wave.
  * Leaves with a refusal `out` as it was, and 0 in `count`.
  */
-size_t siengulot_plan(size_t a, size_t b, size_t n, const size_t *leads, size_t leads_length, const size_t *trails, size_t trails_length,
-                      const uint8_t *bits, size_t bits_length, uint8_t *out, size_t out_length, size_t *place, size_t *count);
+size_t siengulot_plan(size_t a, size_t b, size_t n, const size_t *leads, size_t leads_length, const uint8_t *bits, size_t bits_length,
+                      uint8_t *out, size_t out_length, size_t *place, size_t *count);
+
+/*
+ * Reads a stored plan, whose row i has the lead pad leads[i] and the trail pad trails[i], for siengulot_plan, which sends no trail pads. Each trail
+ * pad is added to the lead pad of the next row, and the last is dropped. Gives the lead pads at the front of `out`, in `count` how many rows there
+ * are, and in `dropped` how many cycles were dropped. The plan's wave is the same but for these.
+ * Refuses with
+ *   1  no row, more or fewer trail pads than lead pads, or a pad above 65,535, at place 0; and then
+ *   1  a row whose lead pad becomes longer than 65,535, at `place`, which is then 1 or more;
+ *   3  more than 1,024 rows;
+ *   4  `out` with fewer places than there are rows.
+ * Leaves with a refusal `out` as it was, and 0 in `count` and `dropped`.
+ */
+size_t siengulot_read_plan(const size_t *leads, size_t leads_length, const size_t *trails, size_t trails_length, size_t *out, size_t out_length,
+                           size_t *place, size_t *count, size_t *dropped);
 
 /*
  * The model of the line

@@ -8,7 +8,7 @@ use crate::numbers::{at, numbers_of, NUMBERS};
 use siengulot_plain::board::{Event, Mode, Receiver, ROW_BYTES};
 use siengulot_plain::capture::{self, Reader, Summary};
 use siengulot_plain::settings::{self, Verdict};
-use siengulot_plain::{counted, line, sender, Refusal};
+use siengulot_plain::{counted, line, sender, stored, Refusal};
 use std::collections::BTreeMap;
 
 /// The longest result there is, and some more: a capture's bytes.
@@ -321,15 +321,15 @@ impl Bench {
         }
     }
 
-    pub fn send(&mut self, [a, b, p1, p2]: [usize; 4], bits: &[u8], room: Room) {
+    pub fn send(&mut self, [a, b, p1]: [usize; 3], bits: &[u8], room: Room) {
         if !self.tries("send") {
             return;
         }
-        let result = sender::message(a, b, p1, p2, bits, &mut self.scratch);
+        let result = sender::message(a, b, p1, bits, &mut self.scratch);
         let room = room.of(result.unwrap_or(0));
         let (mut lent, out, [place, count]) = self.lend(room);
         let mut expected = lent.clone();
-        let answer = sender::message(a, b, p1, p2, bits, expected.part(out));
+        let answer = sender::message(a, b, p1, bits, expected.part(out));
         let number = told(&mut expected, place, count, answer);
         let list = self.edges[0].lend(bits, &mut self.rng);
         let got = unsafe {
@@ -337,7 +337,6 @@ impl Bench {
                 a,
                 b,
                 p1,
-                p2,
                 list,
                 bits.len(),
                 lent.bytes_pointer(out),
@@ -347,30 +346,22 @@ impl Bench {
             )
         };
         self.compare("send", (got, &lent), (number, &expected), || {
-            format!("{:?} {:?} room {}", [a, b, p1, p2], shown(bits), room)
+            format!("{:?} {:?} room {}", [a, b, p1], shown(bits), room)
         });
     }
 
-    pub fn plan(
-        &mut self,
-        [a, b, n]: [usize; 3],
-        leads: &[usize],
-        trails: &[usize],
-        bits: &[u8],
-        room: Room,
-    ) {
+    pub fn plan(&mut self, [a, b, n]: [usize; 3], leads: &[usize], bits: &[u8], room: Room) {
         if !self.tries("plan") {
             return;
         }
-        let result = sender::plan(a, b, n, leads, trails, bits, &mut self.scratch);
+        let result = sender::plan(a, b, n, leads, bits, &mut self.scratch);
         let room = room.of(result.unwrap_or(0));
         let (mut lent, out, [place, count]) = self.lend(room);
         let mut expected = lent.clone();
-        let answer = sender::plan(a, b, n, leads, trails, bits, expected.part(out));
+        let answer = sender::plan(a, b, n, leads, bits, expected.part(out));
         let number = told(&mut expected, place, count, answer);
         let list = self.edges[0].lend(bits, &mut self.rng);
         let lead_list = self.edges[1].lend(leads, &mut self.rng);
-        let trail_list = self.edges[2].lend(trails, &mut self.rng);
         let got = unsafe {
             siengulot_plan(
                 a,
@@ -378,8 +369,6 @@ impl Bench {
                 n,
                 lead_list,
                 leads.len(),
-                trail_list,
-                trails.len(),
                 list,
                 bits.len(),
                 lent.bytes_pointer(out),
@@ -390,16 +379,66 @@ impl Bench {
         };
         self.compare("plan", (got, &lent), (number, &expected), || {
             format!(
-                "{:?} {:?} {:?} {:?} room {}",
+                "{:?} {:?} {:?} room {}",
                 [a, b, n],
                 leads,
-                trails,
                 shown(bits),
                 room
             )
         });
         if got == 3 && leads.len() <= 1_024 {
             self.meets("plan", "3 by its wave");
+        }
+    }
+
+    pub fn read_plan(&mut self, leads: &[usize], trails: &[usize], room: Room) {
+        if !self.tries("read_plan") {
+            return;
+        }
+        let mut joined = vec![0; leads.len()];
+        let result = stored::read_plan(leads, trails, &mut joined);
+        let room = room.of(result.map_or(0, |read| read.rows));
+        let mut lent = Lent::new();
+        let out = lent.numbers("out", room, &mut self.rng);
+        let place = lent.number("place", &mut self.rng);
+        let count = lent.number("count", &mut self.rng);
+        let dropped = lent.number("dropped", &mut self.rng);
+        let mut expected = lent.clone();
+        let answer = stored::read_plan(leads, trails, expected.list(out));
+        let number = told(&mut expected, place, count, answer.map(|read| read.rows));
+        expected.set(dropped, &[answer.map_or(0, |read| read.dropped)]);
+        let lead_list = self.edges[0].lend(leads, &mut self.rng);
+        let trail_list = self.edges[1].lend(trails, &mut self.rng);
+        let got = unsafe {
+            siengulot_read_plan(
+                lead_list,
+                leads.len(),
+                trail_list,
+                trails.len(),
+                lent.pointer(out),
+                room,
+                lent.pointer(place),
+                lent.pointer(count),
+                lent.pointer(dropped),
+            )
+        };
+        self.compare("read_plan", (got, &lent), (number, &expected), || {
+            format!("{:?} {:?} room {}", leads, trails, room)
+        });
+        let full = |(now, was): (&usize, &usize)| was < now && *now == settings::MAX_PAD;
+        match result {
+            Ok(_) => {
+                if joined.iter().zip(leads).any(full) {
+                    self.meets("read_plan", "a joined lead of 65,535");
+                }
+            }
+            Err(refusal) if refusal.number == 1 && refusal.place > 0 => {
+                self.meets("read_plan", "1 at a row");
+                if leads[refusal.place] + trails[refusal.place - 1] == settings::MAX_PAD + 1 {
+                    self.meets("read_plan", "a joined lead of 65,536");
+                }
+            }
+            Err(_) => {}
         }
     }
 

@@ -240,32 +240,50 @@ impl Rng {
         [a, b, w, r]
     }
 
-    /// The lists of a plan: leads, trails, bits.
-    pub fn plan(&mut self, n: usize) -> (Vec<usize>, Vec<usize>, Vec<u8>) {
-        let rows = match self.below(40) {
+    /// How many rows a plan has.
+    fn rows(&mut self) -> usize {
+        match self.below(40) {
             0 => 0,
             1 => self.within(6, 60),
             2 => self.pick(&[MAX_ROWS - 1, MAX_ROWS, MAX_ROWS + 1]),
             _ => self.within(1, 5),
-        };
+        }
+    }
+
+    /// A pad for each of so many rows.
+    fn pads(&mut self, rows: usize) -> Vec<usize> {
         // Long pads now and then, by which the wave becomes as long as it may be or longer.
         let long = rows < 100 && self.one_in(60);
-        let pads = |rng: &mut Rng| -> Vec<usize> {
-            (0..rows)
-                .map(|_| match (long, rows < 100) {
-                    (true, _) => rng.within(60_000, MAX_PAD),
-                    (_, true) => rng.pad(),
-                    _ => rng.below(3),
-                })
-                .collect()
-        };
-        let leads = pads(self);
-        let mut trails = pads(self);
+        (0..rows)
+            .map(|_| match (long, rows < 100) {
+                (true, _) => self.within(60_000, MAX_PAD),
+                (_, true) => self.pad(),
+                _ => self.below(3),
+            })
+            .collect()
+    }
+
+    /// The lists of a stored plan: leads and trails. Often a lead is joined to be as long as it may be, or longer by one.
+    pub fn stored(&mut self) -> (Vec<usize>, Vec<usize>) {
+        let rows = self.rows();
+        let (mut leads, mut trails) = (self.pads(rows), self.pads(rows));
+        if rows > 1 && self.one_in(3) {
+            let row = self.within(1, rows - 1);
+            trails[row - 1] = self.below(9);
+            leads[row] = MAX_PAD - trails[row - 1] + self.below(2);
+        }
         if self.one_in(20) {
             trails.push(self.below(9));
         } else if self.one_in(20) {
             trails.pop();
         }
+        (leads, trails)
+    }
+
+    /// The lists of a plan: leads and bits.
+    pub fn plan(&mut self, n: usize) -> (Vec<usize>, Vec<u8>) {
+        let rows = self.rows();
+        let leads = self.pads(rows);
         let fitting = n.saturating_mul(rows);
         let length = if fitting > 2 * MAX_LIST || self.one_in(20) {
             self.length()
@@ -273,7 +291,7 @@ impl Rng {
             fitting
         };
         let bits = self.list(length, 1);
-        (leads, trails, bits)
+        (leads, bits)
     }
 
     /// A receiver as it crosses: well formed, and then sometimes damaged.

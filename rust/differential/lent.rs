@@ -82,8 +82,13 @@ impl Lent {
         self.part(part).copy_from_slice(held);
     }
 
+    /// The numbers of a part.
+    pub fn list(&mut self, part: Numbers) -> &mut [usize] {
+        &mut self.numbers[part.at..part.at + part.length]
+    }
+
     pub fn set(&mut self, part: Numbers, held: &[usize]) {
-        self.numbers[part.at..part.at + part.length].copy_from_slice(held);
+        self.list(part).copy_from_slice(held);
     }
 
     pub fn bytes_pointer(&mut self, part: Bytes) -> *mut u8 {

@@ -29,7 +29,6 @@ extern "C" {
         a: usize,
         b: usize,
         p1: usize,
-        p2: usize,
         bits: *const u8,
         bits_length: usize,
         out: *mut u8,
@@ -44,14 +43,24 @@ extern "C" {
         n: usize,
         leads: *const usize,
         leads_length: usize,
-        trails: *const usize,
-        trails_length: usize,
         bits: *const u8,
         bits_length: usize,
         out: *mut u8,
         out_length: usize,
         place: *mut usize,
         count: *mut usize,
+    ) -> usize;
+
+    pub fn siengulot_read_plan(
+        leads: *const usize,
+        leads_length: usize,
+        trails: *const usize,
+        trails_length: usize,
+        out: *mut usize,
+        out_length: usize,
+        place: *mut usize,
+        count: *mut usize,
+        dropped: *mut usize,
     ) -> usize;
 
     pub fn siengulot_smooth(

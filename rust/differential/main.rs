@@ -23,7 +23,7 @@ const ROUNDS: u64 = 100_000;
 const TIME: Duration = Duration::from_secs(45);
 
 /// What each operation has to meet: the numbers it returns (of `well_formed`, 0 for no and 1 for yes), and cases that are easy to miss.
-const MUST: [(&str, &[&str], &[&str]); 16] = [
+const MUST: [(&str, &[&str], &[&str]); 17] = [
     ("judge", &["0", "1"], &["yes", "no", "a margin of 0"]),
     ("judge_quiet", &["0", "1"], &["yes", "no", "a margin of 0"]),
     (
@@ -38,6 +38,15 @@ const MUST: [(&str, &[&str], &[&str]); 16] = [
     ),
     ("send", &["0", "1", "2", "3", "4"], &[]),
     ("plan", &["0", "1", "2", "3", "4"], &["3 by its wave"]),
+    (
+        "read_plan",
+        &["0", "1", "3", "4"],
+        &[
+            "1 at a row",
+            "a joined lead of 65,535",
+            "a joined lead of 65,536",
+        ],
+    ),
     ("smooth", &["0", "2", "3", "4"], &[]),
     ("warp", &["0", "1", "2", "3", "4"], &["3 by its reads"]),
     ("settle", &["0", "2", "3", "4"], &["2 by a choice"]),
@@ -138,12 +147,7 @@ fn round(bench: &mut Bench) {
     let clocks = bench.rng.clocks();
     bench.pick(clocks);
 
-    let settings = [
-        bench.rng.subcell(),
-        bench.rng.subcell(),
-        bench.rng.pad(),
-        bench.rng.pad(),
-    ];
+    let settings = [bench.rng.subcell(), bench.rng.subcell(), bench.rng.pad()];
     let length = match bench.rng.below(40) {
         0 => MAX_BITS,
         1 => MAX_BITS + 1,
@@ -155,9 +159,13 @@ fn round(bench: &mut Bench) {
 
     let n = bench.rng.row_bits();
     let settings = [bench.rng.subcell(), bench.rng.subcell(), n];
-    let (leads, trails, bits) = bench.rng.plan(n);
+    let (leads, bits) = bench.rng.plan(n);
     let room = Room::random(&mut bench.rng);
-    bench.plan(settings, &leads, &trails, &bits, room);
+    bench.plan(settings, &leads, &bits, room);
+
+    let (leads, trails) = bench.rng.stored();
+    let room = Room::random(&mut bench.rng);
+    bench.read_plan(&leads, &trails, room);
 
     let length = bench.rng.length();
     let wave = bench.rng.list(length, 1);
@@ -242,8 +250,8 @@ fn longest_waves(bench: &mut Bench) {
     for length in [MAX_BITS, MAX_BITS + 1] {
         let bits = bench.rng.entries(length, 1);
         for room in [FULL, SHORT] {
-            bench.send([255, 255, 65_535, 65_535], &bits, room);
-            bench.send([1, 1, 0, 0], &bits, room);
+            bench.send([255, 255, 65_535], &bits, room);
+            bench.send([1, 1, 0], &bits, room);
         }
     }
     for (rows, n, pad) in [
@@ -255,12 +263,22 @@ fn longest_waves(bench: &mut Bench) {
         (16, 1, 65_535),
         (15, 1, 65_535),
     ] {
-        let (leads, trails) = (vec![pad; rows], vec![0; rows]);
+        let leads = vec![pad; rows];
         let bits = bench.rng.entries(rows * n, 1);
         for room in [FULL, SHORT] {
-            bench.plan([1, 1, n], &leads, &trails, &bits, room);
-            bench.plan([1, 1, n], &trails, &leads, &bits, room);
+            bench.plan([1, 1, n], &leads, &bits, room);
         }
+    }
+    // The last of the most rows is the one whose lead becomes too long.
+    for rows in [MAX_ROWS, MAX_ROWS + 1] {
+        let (mut leads, mut trails) = (vec![1; rows], vec![2; rows]);
+        for room in [FULL, SHORT] {
+            bench.read_plan(&leads, &trails, room);
+        }
+        leads[rows - 1] = 65_535;
+        bench.read_plan(&leads, &trails, FULL);
+        trails[rows - 2] = 65_535;
+        bench.read_plan(&leads, &trails, FULL);
     }
 }
 
@@ -408,8 +426,8 @@ fn vast(bench: &mut Bench) {
     let vast = lent::vast();
     for list in [vast, &vast[..1 << 32]] {
         let room = Room::More(5);
-        bench.send([2, 3, 2, 1], list, room);
-        bench.plan([2, 3, 2], &[1], &[1], list, room);
+        bench.send([2, 3, 2], list, room);
+        bench.plan([2, 3, 2], &[1], list, room);
         bench.smooth(list, room);
         bench.warp([4, 4, 1], list, room);
         bench.settle(list, &[1], room);
@@ -435,12 +453,12 @@ fn hallway(bench: &mut Bench) {
         }
     };
     let (rows, n) = (bench.rng.within(1, 4), bench.rng.within(1, 20));
-    let (leads, trails) = (vec![p1; rows], vec![bench.rng.below(3); rows]);
+    let leads = vec![p1 + bench.rng.below(3); rows];
     let bits = bench.rng.entries(rows * n, 1);
     let room = Room::More(0);
-    bench.plan([a, b, n], &leads, &trails, &bits, room);
+    bench.plan([a, b, n], &leads, &bits, room);
     let mut wave = vec![0; MAX_LIST];
-    let length = siengulot_plain::sender::plan(a, b, n, &leads, &trails, &bits, &mut wave)
+    let length = siengulot_plain::sender::plan(a, b, n, &leads, &bits, &mut wave)
         .expect("a plan of few rows");
     wave.truncate(length);
     bench.smooth(&wave, room);

@@ -4,7 +4,7 @@
 mod common;
 
 use common::{made, refused, Case};
-use siengulot_plain::{counted, line, sender, settings, Refusal};
+use siengulot_plain::{counted, line, sender, settings, stored, Refusal};
 
 /// Whether settings are accepted, and their margins.
 fn judged<const M: usize>(answer: Result<settings::Verdict<M>, Refusal>) -> (String, usize) {
@@ -29,6 +29,17 @@ fn counted(answer: Result<(), counted::Stopped>, n: usize) -> (String, usize) {
     }
 }
 
+/// What reading a stored plan gave, and what is left in the lead pads that were lent.
+fn joined(leads: &[usize], trails: &[usize], room: usize) -> (String, usize) {
+    let mut out = vec![9; room];
+    let told = match stored::read_plan(leads, trails, &mut out) {
+        Ok(read) => format!(" {} dropped {}", read.rows, read.dropped),
+        Err(refusal) => refused(refusal),
+    };
+    let left: String = out.iter().map(|lead| format!(" {}", lead)).collect();
+    (told + " |" + &left, 0)
+}
+
 /// Runs the operation that a case names: what it gave, and how many entries it has written.
 fn operate(case: &Case, one: &[u8], two: &[u8], out: &mut [u8]) -> (String, usize) {
     match case.operation() {
@@ -41,13 +52,16 @@ fn operate(case: &Case, one: &[u8], two: &[u8], out: &mut [u8]) -> (String, usiz
             judged(settings::judge_quiet(a, b, k, w as u64, r as u64, q, p1))
         }
         "send" => {
-            let [a, b, p1, p2] = case.numbers(["a", "b", "lead", "trail"]);
-            made(sender::message(a, b, p1, p2, one, out))
+            let [a, b, p1] = case.numbers(["a", "b", "lead"]);
+            made(sender::message(a, b, p1, one, out))
         }
         "send_plan" => {
             let [a, b, n] = case.numbers(["a", "b", "n"]);
-            let (leads, trails) = (case.number_list(1), case.number_list(2));
-            made(sender::plan(a, b, n, &leads, &trails, one, out))
+            made(sender::plan(a, b, n, &case.number_list(1), one, out))
+        }
+        "read_plan" => {
+            let [room] = case.numbers(["room"]);
+            joined(&case.number_list(0), &case.number_list(1), room)
         }
         "smooth" => {
             let [] = case.numbers([]);
@@ -73,10 +87,13 @@ fn main() {
     let mut out = Vec::new();
     let mut two = Vec::new();
     for case in common::cases() {
-        let one = case.list(0, &out);
-        // A plan's second list has numbers that are no bytes.
+        // The pads of a plan are numbers that are no bytes.
+        let one = match case.operation() {
+            "read_plan" => Vec::new(),
+            _ => case.list(0, &out),
+        };
         match (case.operation(), case.text(1)) {
-            ("send_plan", _) => two.clear(),
+            ("send_plan" | "read_plan", _) => two.clear(),
             (_, "kept") => {}
             _ => two = case.list(1, &out),
         }

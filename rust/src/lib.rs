@@ -22,5 +22,6 @@ mod refusal;
 pub mod rows;
 pub mod sender;
 pub mod settings;
+pub mod stored;
 
 pub use refusal::Refusal;

@@ -7,7 +7,7 @@ use std::fmt;
 pub struct Refusal {
     /// 1 to 9, as in the table of refusal numbers.
     pub number: u8,
-    /// Place of the bad entry, or of the bad number's first byte; 0 where none is kept.
+    /// Place of the bad entry or row, or of the bad number's first byte; 0 where none is kept.
     pub place: usize,
 }
 
@@ -25,6 +25,11 @@ impl Refusal {
 
     pub(crate) const fn new(number: u8, place: usize) -> Refusal {
         Refusal { number, place }
+    }
+
+    /// A row of a stored plan gets too long a lead pad.
+    pub(crate) const fn row(place: usize) -> Refusal {
+        Refusal::new(1, place)
     }
 
     /// An entry is not of the kind taken.
@@ -86,8 +91,8 @@ pub(crate) fn need_entries(list: &[u8], greatest: u8) -> Result<(), Refusal> {
     }
 }
 
-/// The front of a lent output that takes a result of `length` bytes; refusal 4 if it is
+/// The front of a lent output that takes a result of `length` entries; refusal 4 if it is
 /// too short for that.
-pub(crate) fn need_output(out: &mut [u8], length: usize) -> Result<&mut [u8], Refusal> {
+pub(crate) fn need_output<T>(out: &mut [T], length: usize) -> Result<&mut [T], Refusal> {
     out.get_mut(..length).ok_or(Refusal::OUTPUT)
 }

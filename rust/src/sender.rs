@@ -13,21 +13,20 @@ pub fn message(
     a: usize,
     b: usize,
     p1: usize,
-    p2: usize,
     bits: &[u8],
     out: &mut [u8],
 ) -> Result<usize, Refusal> {
-    need_setting(subcell_fits(a) && subcell_fits(b) && pad_fits(p1) && pad_fits(p2))?;
+    need_setting(subcell_fits(a) && subcell_fits(b) && pad_fits(p1))?;
     need_size(bits.len(), MAX_BITS)?;
     need_entries(bits, 1)?;
-    let length = p1 + bits.len() * (a + b) + p2;
+    let length = p1 + bits.len() * (a + b);
     put_wave(a, b, p1, bits, need_output(out, length)?);
     Ok(length)
 }
 
 /// Writes the wave of a plan and returns its length.
 ///
-/// Row i has the pads `leads[i]` and `trails[i]` and the i-th `n` entries of `bits`.
+/// Row i has the lead pad `leads[i]` and the i-th `n` entries of `bits`.
 ///
 /// Refuses with 1 for a setting, a pad, no row or lists that do not fit one another, 3 for
 /// too many rows or too long a wave, 2 for an entry that is no bit (at its place in the
@@ -37,7 +36,6 @@ pub fn plan(
     b: usize,
     n: usize,
     leads: &[usize],
-    trails: &[usize],
     bits: &[u8],
     out: &mut [u8],
 ) -> Result<usize, Refusal> {
@@ -47,31 +45,27 @@ pub fn plan(
             && subcell_fits(b)
             && row_bits_fit(n)
             && rows > 0
-            && trails.len() == rows
             && rows.checked_mul(n) == Some(bits.len())
-            && leads.iter().chain(trails).all(|&pad| pad_fits(pad)),
+            && leads.iter().all(|&lead| pad_fits(lead)),
     )?;
     need_size(rows, MAX_ROWS)?;
     let cells = n * (a + b);
-    let pads: usize = leads.iter().chain(trails).sum();
-    let length = pads + rows * cells;
+    let length = leads.iter().sum::<usize>() + rows * cells;
     need_size(length, MAX_LIST)?;
     need_entries(bits, 1)?;
     let mut rest = need_output(out, length)?;
-    for ((&lead, &trail), row) in leads.iter().zip(trails).zip(bits.chunks_exact(n)) {
-        let (wave, after) = rest.split_at_mut(lead + cells + trail);
+    for (&lead, row) in leads.iter().zip(bits.chunks_exact(n)) {
+        let (wave, after) = rest.split_at_mut(lead + cells);
         put_wave(a, b, lead, row, wave);
         rest = after;
     }
     Ok(length)
 }
 
-/// Fills `wave` with the lead pad, the cells, and the trail pad in what is then left.
+/// Fills `wave` with the lead pad and the cells.
 fn put_wave(a: usize, b: usize, p1: usize, bits: &[u8], wave: &mut [u8]) {
-    let (lead, rest) = wave.split_at_mut(p1);
-    let (cells, trail) = rest.split_at_mut(bits.len() * (a + b));
+    let (lead, cells) = wave.split_at_mut(p1);
     lead.fill(1);
-    trail.fill(1);
     // Each cell opens with a change, and a 1 changes back within the cell. The line is high
     // when the first cell opens.
     let mut level = 1;

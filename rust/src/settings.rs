@@ -9,7 +9,7 @@ pub const MAX_SUBCELL: usize = 255;
 pub const MAX_K: usize = 511;
 /// Greatest length of a writer or read cycle, in time units; the least is 1.
 pub const MAX_CYCLE: u64 = 65_535;
-/// Greatest lead or trail pad, in writer cycles.
+/// Greatest pad, in writer cycles.
 pub const MAX_PAD: usize = 65_535;
 /// Greatest number of bits in a message or row.
 pub const MAX_BITS: usize = 1_024;

@@ -45,15 +45,14 @@ fn send(rng: &mut Rng) -> Sent {
     let leads: Vec<usize> = (0..count)
         .map(|_| settings.p1 + rng.below(2) * rng.below(40))
         .collect();
-    let trails: Vec<usize> = (0..count).map(|_| rng.below(2) * rng.below(40)).collect();
     for &lead in &leads {
         assert!(judge_quiet(a, b, k, w, r, q, lead).unwrap().accepted);
     }
     let bits = rng.bits(count * n);
     let cells = n * (a + b);
-    let length = leads.iter().chain(&trails).sum::<usize>() + count * cells;
+    let length = leads.iter().sum::<usize>() + count * cells;
     let mut wave = lent(length);
-    let planned = sender::plan(a, b, n, &leads, &trails, &bits, &mut wave);
+    let planned = sender::plan(a, b, n, &leads, &bits, &mut wave);
     assert_eq!(planned, Ok(length));
     let p = rng.below(w as usize) as u64;
     let many = [0, rng.below(50), 2_000][rng.below(3)];
@@ -81,7 +80,7 @@ fn send(rng: &mut Rng) -> Sent {
             heard,
             last_sample: heard + 1 + samples[n - 1],
         });
-        first_cycle += leads[i] + cells + trails[i];
+        first_cycle += leads[i] + cells;
     }
     Sent {
         settings,

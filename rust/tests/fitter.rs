@@ -261,8 +261,10 @@ fn the_two_boards() {
 
 #[test]
 fn a_message_that_the_second_board_loses() {
-    let mut wave = [9; 28];
-    assert_eq!(sender::message(5, 13, 0, 10, &[0], &mut wave), Ok(28));
+    // The wave of 18 cycles is followed by 10 high cycles.
+    let mut wave = [1; 28];
+    let sent = sender::message(5, 13, 0, &[0], &mut wave);
+    assert_eq!(sent, Ok(18));
     let mut smoothed = [9; 28];
     line::smooth(&wave, &mut smoothed).unwrap();
     let mut reads = [9; 28];

@@ -18,7 +18,6 @@ fn sent_waves_follow_the_cell_rule() {
         let (a, b, n) = (rng.within(1, 9), rng.within(1, 9), rng.within(1, 12));
         let rows = rng.within(1, 4);
         let leads: Vec<usize> = (0..rows).map(|_| rng.below(9)).collect();
-        let trails: Vec<usize> = (0..rows).map(|_| rng.below(9)).collect();
         let bits = rng.bits(rows * n);
         let mut expected = Vec::new();
         for row in 0..rows {
@@ -30,16 +29,15 @@ fn sent_waves_follow_the_cell_rule() {
                 level = if bit == 1 { level } else { opposite };
                 wave.extend(vec![level; b]);
             }
-            wave.extend(vec![1; trails[row]]);
             let mut out = lent(wave.len() + 3);
             let message = &bits[row * n..(row + 1) * n];
-            let sent = sender::message(a, b, leads[row], trails[row], message, &mut out);
+            let sent = sender::message(a, b, leads[row], message, &mut out);
             assert_eq!(sent, Ok(wave.len()));
             assert!(holds(&out, &wave));
             expected.extend(wave);
         }
         let mut out = lent(expected.len() + 3);
-        let planned = sender::plan(a, b, n, &leads, &trails, &bits, &mut out);
+        let planned = sender::plan(a, b, n, &leads, &bits, &mut out);
         assert_eq!(planned, Ok(expected.len()));
         assert!(holds(&out, &expected));
     }
@@ -167,9 +165,11 @@ fn accepted_settings_return_every_message() {
         assert!(judge(a, b, k, w, r).unwrap().accepted);
         let n = rng.below(10);
         let bits = rng.bits(n);
-        let (p1, p2) = (rng.below(2) * rng.below(30), rng.below(2) * rng.below(30));
-        let mut wave = lent(p1 + n * (a + b) + p2);
-        sender::message(a, b, p1, p2, &bits, &mut wave).unwrap();
+        // The wave may be followed by any number of high cycles.
+        let (p1, after) = (rng.below(2) * rng.below(30), rng.below(2) * rng.below(30));
+        let mut wave = lent(p1 + n * (a + b));
+        sender::message(a, b, p1, &bits, &mut wave).unwrap();
+        wave.extend(vec![1; after]);
         let many = rng.below(200);
         let choices = rng.reads(many);
         let p = rng.below(w as usize) as u64;

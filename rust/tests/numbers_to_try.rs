@@ -6,6 +6,7 @@ use common::{holds, lent, refusal, through_the_line};
 use siengulot_plain::capture::{self, write_number, Reader};
 use siengulot_plain::counted::{self, Stopped};
 use siengulot_plain::settings::{judge, judge_quiet, quiet_margins};
+use siengulot_plain::stored::{self, Joined};
 use siengulot_plain::{line, sender};
 
 const P1: [u8; 13] = [1, 1, 0, 0, 1, 1, 1, 0, 0, 0, 0, 0, 1];
@@ -14,14 +15,21 @@ const P3: [u8; 12] = [1, 2, 2, 2, 2, 1, 2, 2, 0, 0, 0, 2];
 const P4: [u8; 12] = [1, 1, 0, 0, 1, 1, 0, 0, 0, 0, 0, 0];
 
 #[test]
-fn p1_sends_two_bits() {
+fn p1_reads_a_stored_plan() {
+    let mut leads = [0, 7];
+    let read = stored::read_plan(&[2], &[1], &mut leads);
+    let (rows, dropped) = (1, 1);
+    assert_eq!(read, Ok(Joined { rows, dropped }));
+    assert_eq!(leads, [2, 7]);
+
     let mut out = lent(15);
-    assert_eq!(sender::message(2, 3, 2, 1, &[1, 0], &mut out), Ok(13));
-    assert!(holds(&out, &P1));
+    assert_eq!(sender::message(2, 3, 2, &[1, 0], &mut out), Ok(12));
+    assert!(holds(&out, &P1[..12]));
     let mut out = lent(15);
-    let planned = sender::plan(2, 3, 2, &[2], &[1], &[1, 0], &mut out);
-    assert_eq!(planned, Ok(13));
-    assert!(holds(&out, &P1));
+    let planned = sender::plan(2, 3, 2, &leads[..rows], &[1, 0], &mut out);
+    assert_eq!(planned, Ok(12));
+    assert!(holds(&out, &P1[..12]));
+    assert_eq!(P1[12..], vec![1; dropped]);
 }
 
 #[test]
@@ -153,9 +161,13 @@ fn p11_writes_and_reads_numbers() {
 
 /// Source 002's failing run up to its settled reads.
 fn failing_reads() -> Vec<u8> {
-    let mut wave = lent(92);
-    let length = sender::message(5, 13, 10, 10, &[1, 0, 1, 1], &mut wave);
-    assert_eq!(length, Ok(92));
+    let mut leads = [0];
+    let read = stored::read_plan(&[10], &[10], &mut leads).unwrap();
+    let mut wave = lent(82);
+    let length = sender::plan(5, 13, 4, &leads, &[1, 0, 1, 1], &mut wave);
+    assert_eq!(length, Ok(82));
+    wave.extend(vec![1; read.dropped]);
+    assert_eq!(wave.len(), 92);
     let reads = through_the_line(&wave, 100, 143, 84, &[1, 1, 0, 0]);
     assert_eq!(reads.len(), 63);
     reads

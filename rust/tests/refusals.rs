@@ -77,16 +77,15 @@ fn quiet_judge_refuses_each_setting_out_of_range() {
 #[test]
 fn message_refuses_settings() {
     let bits = [1, 0];
-    for (a, b, p1, p2) in [
-        (0, 3, 2, 1),
-        (256, 3, 2, 1),
-        (2, 0, 2, 1),
-        (2, 256, 2, 1),
-        (2, 3, 65_536, 1),
-        (2, 3, 2, 65_536),
-        (2, 3, usize::MAX, usize::MAX),
+    for (a, b, p1) in [
+        (0, 3, 2),
+        (256, 3, 2),
+        (2, 0, 2),
+        (2, 256, 2),
+        (2, 3, 65_536),
+        (2, 3, usize::MAX),
     ] {
-        refuses(20, 1, 0, |out| sender::message(a, b, p1, p2, &bits, out));
+        refuses(20, 1, 0, |out| sender::message(a, b, p1, &bits, out));
     }
 }
 
@@ -94,23 +93,21 @@ fn message_refuses_settings() {
 fn message_refuses_in_order() {
     let mut long = vec![0; 1_025];
     long[7] = 2;
-    refuses(0, 1, 0, |out| sender::message(0, 3, 2, 1, &long, out));
-    refuses(0, 3, 0, |out| sender::message(2, 3, 2, 1, &long, out));
-    refuses(0, 2, 7, |out| {
-        sender::message(2, 3, 2, 1, &long[..1_024], out)
-    });
-    refuses(20, 2, 1, |out| sender::message(2, 3, 2, 1, &[0, 3, 2], out));
-    refuses(12, 4, 0, |out| sender::message(2, 3, 2, 1, &[1, 0], out));
-    refuses(0, 4, 0, |out| sender::message(2, 3, 0, 1, &[], out));
+    refuses(0, 1, 0, |out| sender::message(0, 3, 2, &long, out));
+    refuses(0, 3, 0, |out| sender::message(2, 3, 2, &long, out));
+    refuses(0, 2, 7, |out| sender::message(2, 3, 2, &long[..1_024], out));
+    refuses(20, 2, 1, |out| sender::message(2, 3, 2, &[0, 3, 2], out));
+    refuses(11, 4, 0, |out| sender::message(2, 3, 2, &[1, 0], out));
+    refuses(0, 4, 0, |out| sender::message(2, 3, 1, &[], out));
 }
 
 #[test]
 fn message_may_be_empty() {
     let mut out = lent(4);
-    assert_eq!(sender::message(2, 3, 2, 1, &[], &mut out), Ok(3));
+    assert_eq!(sender::message(2, 3, 3, &[], &mut out), Ok(3));
     assert!(holds(&out, &[1, 1, 1]));
     let mut out = lent(0);
-    assert_eq!(sender::message(2, 3, 0, 0, &[], &mut out), Ok(0));
+    assert_eq!(sender::message(2, 3, 0, &[], &mut out), Ok(0));
 }
 
 #[test]
@@ -127,24 +124,18 @@ fn plan_refuses_settings_and_lists_that_do_not_fit() {
         (2, 3, 3),
         (2, 3, usize::MAX),
     ] {
-        refuses(99, 1, 0, |out| {
-            sender::plan(a, b, n, &[2, 2], &[1, 1], &bits, out)
-        });
+        refuses(99, 1, 0, |out| sender::plan(a, b, n, &[2, 2], &bits, out));
     }
-    let lists: [(&[usize], &[usize], &[u8]); 8] = [
-        (&[], &[], &[]),
-        (&[], &[], &bits),
-        (&[2, 2], &[1], &bits),
-        (&[2, 2], &[1, 1, 1], &bits),
-        (&[2, 2], &[1, 1], &bits[..3]),
-        (&[2], &[1], &bits),
-        (&[2, 65_536], &[1, 1], &bits),
-        (&[2, 2], &[1, 65_536], &bits),
+    let lists: [(&[usize], &[u8]); 6] = [
+        (&[], &[]),
+        (&[], &bits),
+        (&[2, 2], &bits[..3]),
+        (&[2], &bits),
+        (&[2, 65_536], &bits),
+        (&[65_536, 2], &bits),
     ];
-    for (leads, trails, bits) in lists {
-        refuses(99, 1, 0, |out| {
-            sender::plan(2, 3, 2, leads, trails, bits, out)
-        });
+    for (leads, bits) in lists {
+        refuses(99, 1, 0, |out| sender::plan(2, 3, 2, leads, bits, out));
     }
 }
 
@@ -155,33 +146,22 @@ fn plan_refuses_in_order() {
     // 1 before 3, also for what stands after the rows that are too many.
     let mut pads = many.clone();
     pads[1_024] = 65_536;
-    refuses(0, 1, 0, |out| {
-        sender::plan(1, 1, 1, &pads, &many, &bits, out)
-    });
-    refuses(0, 1, 0, |out| {
-        sender::plan(1, 1, 1, &many, &pads, &bits, out)
-    });
-    refuses(0, 1, 0, |out| {
-        sender::plan(1, 1, 1, &many, &many, &bits[1..], out)
-    });
-    refuses(0, 1, 0, |out| {
-        sender::plan(1, 1, 1, &many, &many[1..], &bits, out)
-    });
+    refuses(0, 1, 0, |out| sender::plan(1, 1, 1, &pads, &bits, out));
+    refuses(0, 1, 0, |out| sender::plan(1, 1, 1, &many, &bits[1..], out));
+    refuses(0, 1, 0, |out| sender::plan(1, 1, 1, &many[1..], &bits, out));
     // 3 before 2, for too many rows and for too long a wave.
-    refuses(0, 3, 0, |out| {
-        sender::plan(1, 1, 1, &many, &many, &bits, out)
-    });
+    refuses(0, 3, 0, |out| sender::plan(1, 1, 1, &many, &bits, out));
     let wide = [65_535; 16];
     refuses(0, 3, 0, |out| {
-        sender::plan(1, 1, 1, &wide, &many[..16], &bits[..16], out)
+        sender::plan(1, 1, 1, &wide, &bits[..16], out)
     });
     // 2 before 4, at the place in the flat list.
     let few = &many[..3];
     refuses(0, 2, 4, |out| {
-        sender::plan(1, 1, 2, few, few, &[0, 1, 1, 0, 2, 9], out)
+        sender::plan(1, 1, 2, few, &[0, 1, 1, 0, 2, 9], out)
     });
     refuses(11, 4, 0, |out| {
-        sender::plan(1, 1, 2, few, few, &[0, 1, 1, 0, 1, 1], out)
+        sender::plan(1, 1, 2, few, &[0, 1, 1, 0, 1, 1], out)
     });
 }
 

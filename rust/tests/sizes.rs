@@ -29,13 +29,12 @@ fn margins_at_the_ends_of_the_ranges() {
 fn longest_message() {
     let mut rng = Rng::new(41);
     let bits = rng.bits(1_024);
-    let mut out = lent(653_311);
-    let sent = sender::message(255, 255, 65_535, 65_535, &bits, &mut out);
-    assert_eq!(sent, Ok(653_310));
-    assert!(holds(&out, &out[..653_310]));
-    let wave = &out[..653_310];
+    let mut out = lent(587_776);
+    let sent = sender::message(255, 255, 65_535, &bits, &mut out);
+    assert_eq!(sent, Ok(587_775));
+    assert!(holds(&out, &out[..587_775]));
+    let wave = &out[..587_775];
     assert!(wave[..65_535].iter().all(|&level| level == 1));
-    assert!(wave[653_310 - 65_535..].iter().all(|&level| level == 1));
     let mut received = lent(1_025);
     let answer = counted::receive(1_024, 1, 300, wave, &mut received);
     assert_eq!(answer, Ok(()));
@@ -44,35 +43,33 @@ fn longest_message() {
 
 #[test]
 fn accepted_settings_may_still_warp_too_far() {
-    assert!(judge(100, 4, 500, 499, 101).unwrap().accepted);
-    let mut wave = lent(653_310);
-    let length = sender::message(100, 4, 65_535, 65_535, &[0; 1_024], &mut wave);
+    assert!(judge(2, 3, 511, 170, 1).unwrap().accepted);
+    let mut wave = lent(587_775);
+    let length = sender::message(2, 3, 65_535, &[0; 1_024], &mut wave);
     let length = length.unwrap();
-    assert_eq!(length, 237_566);
+    assert_eq!(length, 70_655);
     let mut out = lent(0);
-    let warped = line::warp(499, 101, 0, &wave[..length], &mut out);
+    let warped = line::warp(170, 1, 0, &wave[..length], &mut out);
     assert_eq!(warped, Err(refusal(3, 0)));
 }
 
 #[test]
 fn longest_plan() {
     // 1,024 rows of 512 bits in cells of two cycles fill a list to the last place.
-    let (mut pads, bits) = (vec![0; 1_024], vec![1; 1_024 * 512]);
+    let (mut leads, bits) = (vec![0; 1_024], vec![1; 1_024 * 512]);
     let mut out = lent(MAX_LIST + 1);
-    let planned = sender::plan(1, 1, 512, &pads, &pads, &bits, &mut out);
+    let planned = sender::plan(1, 1, 512, &leads, &bits, &mut out);
     assert_eq!(planned, Ok(MAX_LIST));
     assert!(holds(&out, &[0, 1].repeat(MAX_LIST / 2)));
-    let none = pads.clone();
-    pads[1_023] = 1;
-    for (leads, trails) in [(&pads, &none), (&none, &pads)] {
-        let mut out = lent(16);
-        let planned = sender::plan(1, 1, 512, leads, trails, &bits, &mut out);
-        assert_eq!(planned, Err(refusal(3, 0)));
-        assert!(holds(&out, &[]));
-    }
+    let none = leads.clone();
+    leads[1_023] = 1;
+    let mut out = lent(16);
+    let planned = sender::plan(1, 1, 512, &leads, &bits, &mut out);
+    assert_eq!(planned, Err(refusal(3, 0)));
+    assert!(holds(&out, &[]));
     // The most bits a plan can have, which always make too long a wave.
     let bits = vec![1; 1_024 * 1_024];
-    let planned = sender::plan(1, 1, 1_024, &none, &none, &bits, &mut []);
+    let planned = sender::plan(1, 1, 1_024, &none, &bits, &mut []);
     assert_eq!(planned, Err(refusal(3, 0)));
 }
 

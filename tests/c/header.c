@@ -89,28 +89,47 @@ static void picking(void)
 static void sending(void)
 {
     static const uint8_t bits[2] = {1, 0}, bad[2] = {1, 2};
-    static const size_t leads[2] = {2, 0}, trails[2] = {1, 1};
+    static const size_t leads[2] = {2, 1};
     static const uint8_t rows[2] = {1, 0};
 
     lend();
-    expect_answer("send of P1", siengulot_send(2, 3, 2, 1, bits, 2, out, ROOM, &place, &count), 0, 0, 13);
-    expect_out("wave of P1", "1100111000001");
+    expect_answer("send of P1", siengulot_send(2, 3, 2, bits, 2, out, ROOM, &place, &count), 0, 0, 12);
+    expect_out("wave of P1", "110011100000");
     lend();
-    expect_answer("send of no level", siengulot_send(2, 3, 2, 1, bad, 2, out, ROOM, &place, &count), SIENGULOT_ENTRY, 1, 0);
+    expect_answer("send of no level", siengulot_send(2, 3, 2, bad, 2, out, ROOM, &place, &count), SIENGULOT_ENTRY, 1, 0);
     expect_out("send writes though it refuses", "");
     lend();
-    expect_answer("send into no room", siengulot_send(2, 3, 2, 1, bits, 2, out, 12, &place, &count), SIENGULOT_ROOM, 0, 0);
+    expect_answer("send into no room", siengulot_send(2, 3, 2, bits, 2, out, 11, &place, &count), SIENGULOT_ROOM, 0, 0);
     expect_out("send writes into no room", "");
     lend();
-    expect_answer("send of nothing", siengulot_send(2, 3, 0, 0, bits, 0, out, 0, &place, &count), 0, 0, 0);
+    expect_answer("send of nothing", siengulot_send(2, 3, 0, bits, 0, out, 0, &place, &count), 0, 0, 0);
     expect_out("send of nothing writes", "");
 
     lend();
-    expect_answer("plan", siengulot_plan(2, 3, 1, leads, 2, trails, 2, rows, 2, out, ROOM, &place, &count), 0, 0, 14);
-    expect_out("wave of a plan", "11001111000001");
+    expect_answer("plan", siengulot_plan(2, 3, 1, leads, 2, rows, 2, out, ROOM, &place, &count), 0, 0, 13);
+    expect_out("wave of a plan", "1100111100000");
     lend();
-    expect_answer("plan of lists that do not fit", siengulot_plan(2, 3, 1, leads, 2, trails, 1, rows, 2, out, ROOM, &place, &count), SIENGULOT_SETTING, 0, 0);
+    expect_answer("plan of lists that do not fit", siengulot_plan(2, 3, 1, leads, 2, rows, 1, out, ROOM, &place, &count), SIENGULOT_SETTING, 0, 0);
     expect_out("plan writes though it refuses", "");
+}
+
+static void stored_plans(void)
+{
+    static const size_t leads[3] = {2, 5, SIENGULOT_PAD_MOST}, trails[3] = {1, 4, 3};
+    size_t joined[4] = {7, 7, 7, 7}, dropped = 99;
+
+    lend();
+    expect_answer("stored plan of P1", siengulot_read_plan(leads, 1, trails, 1, joined, 4, &place, &count, &dropped), 0, 0, 1);
+    expect(joined[0] == 2 && joined[1] == 7 && dropped == 1, "lead and dropped cycles of P1");
+    expect_answer("stored plan", siengulot_read_plan(leads, 2, trails, 2, joined, 4, &place, &count, &dropped), 0, 0, 2);
+    expect(joined[0] == 2 && joined[1] == 6 && joined[2] == 7 && dropped == 4, "leads and dropped cycles of a stored plan");
+    dropped = 99;
+    expect_answer("stored plan of lists that do not fit", siengulot_read_plan(leads, 2, trails, 1, joined, 4, &place, &count, &dropped), SIENGULOT_SETTING, 0, 0);
+    expect(dropped == 0, "cycles dropped though it refuses");
+    dropped = 99;
+    expect_answer("stored plan with too long a lead", siengulot_read_plan(leads, 3, trails, 3, joined, 4, &place, &count, &dropped), SIENGULOT_SETTING, 2, 0);
+    expect_answer("stored plan into no room", siengulot_read_plan(leads, 2, trails, 2, joined, 1, &place, &count, &dropped), SIENGULOT_ROOM, 0, 0);
+    expect(joined[0] == 2 && joined[1] == 6 && joined[2] == 7 && joined[3] == 7 && dropped == 0, "stored plan writes though it refuses");
 }
 
 static void line(void)
@@ -274,6 +293,7 @@ int main(void)
     judging();
     picking();
     sending();
+    stored_plans();
     line();
     counting();
     captures();

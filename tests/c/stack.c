@@ -16,7 +16,7 @@
 enum { STACK = 2 * 1024 * 1024, PAGE = 65536, LIST = SIENGULOT_ENTRIES_MOST, ROWS = SIENGULOT_ROWS_MOST };
 
 static uint8_t high[LIST + 1], turns[LIST], unknown[LIST], mixed[LIST], bad[LIST], out[SIENGULOT_CAPTURE_MOST], bytes[SIENGULOT_CAPTURE_MOST];
-static size_t pads[ROWS], summary[SIENGULOT_SUMMARY_NUMBERS], k, place, count, accepted, event, found, used;
+static size_t pads[ROWS + 1], long_pads[ROWS + 1], joined[ROWS], dropped, summary[SIENGULOT_SUMMARY_NUMBERS], k, place, count, accepted, event, found, used;
 static int64_t margins[5];
 static siengulot_receiver receiver;
 /* A receiver by its numbers; those that are not named are 0, and so are all bits. */
@@ -50,18 +50,24 @@ CALL(pick_equals, 0, siengulot_pick(2, 3, 4, 1, &k))
 CALL(pick_setting, 1, siengulot_pick(5, 13, 100, 65536, &k))
 CALL(pick_none, 9, siengulot_pick(255, 255, 65535, 1, &k))
 
-CALL(send_most, 0, siengulot_send(255, 255, 65535, 65535, turns, 1024, out, sizeof out, &place, &count))
-CALL(send_least, 0, siengulot_send(1, 1, 0, 0, turns, 0, out, 0, &place, &count))
-CALL(send_setting, 1, siengulot_send(0, 1, 0, 0, turns, 1, out, sizeof out, &place, &count))
-CALL(send_entry, 2, siengulot_send(1, 1, 0, 0, unknown, 1024, out, sizeof out, &place, &count))
-CALL(send_limit, 3, siengulot_send(1, 1, 0, 0, turns, 1025, out, sizeof out, &place, &count))
-CALL(send_room, 4, siengulot_send(255, 255, 65535, 65535, turns, 1024, out, 9, &place, &count))
+CALL(send_most, 0, siengulot_send(255, 255, 65535, turns, 1024, out, sizeof out, &place, &count))
+CALL(send_least, 0, siengulot_send(1, 1, 0, turns, 0, out, 0, &place, &count))
+CALL(send_setting, 1, siengulot_send(0, 1, 0, turns, 1, out, sizeof out, &place, &count))
+CALL(send_entry, 2, siengulot_send(1, 1, 0, unknown, 1024, out, sizeof out, &place, &count))
+CALL(send_limit, 3, siengulot_send(1, 1, 0, turns, 1025, out, sizeof out, &place, &count))
+CALL(send_room, 4, siengulot_send(255, 255, 65535, turns, 1024, out, 9, &place, &count))
 
-CALL(plan_most, 0, siengulot_plan(1, 1, 512, pads, ROWS, pads, ROWS, turns, 512 * ROWS, out, sizeof out, &place, &count))
-CALL(plan_setting, 1, siengulot_plan(1, 1, 512, pads, ROWS, pads, 9, turns, 512 * ROWS, out, sizeof out, &place, &count))
-CALL(plan_entry, 2, siengulot_plan(1, 1, 512, pads, ROWS, pads, ROWS, unknown, 512 * ROWS, out, sizeof out, &place, &count))
-CALL(plan_limit, 3, siengulot_plan(1, 1, 1024, pads, ROWS, pads, ROWS, turns, 1024 * ROWS, out, sizeof out, &place, &count))
-CALL(plan_room, 4, siengulot_plan(1, 1, 512, pads, ROWS, pads, ROWS, turns, 512 * ROWS, out, 9, &place, &count))
+CALL(plan_most, 0, siengulot_plan(1, 1, 512, pads, ROWS, turns, 512 * ROWS, out, sizeof out, &place, &count))
+CALL(plan_setting, 1, siengulot_plan(1, 1, 512, pads, 9, turns, 512 * ROWS, out, sizeof out, &place, &count))
+CALL(plan_entry, 2, siengulot_plan(1, 1, 512, pads, ROWS, unknown, 512 * ROWS, out, sizeof out, &place, &count))
+CALL(plan_limit, 3, siengulot_plan(1, 1, 1024, pads, ROWS, turns, 1024 * ROWS, out, sizeof out, &place, &count))
+CALL(plan_room, 4, siengulot_plan(1, 1, 512, pads, ROWS, turns, 512 * ROWS, out, 9, &place, &count))
+
+CALL(stored_most, 0, siengulot_read_plan(pads, ROWS, pads, ROWS, joined, ROWS, &place, &count, &dropped))
+CALL(stored_setting, 1, siengulot_read_plan(pads, ROWS, pads, 9, joined, ROWS, &place, &count, &dropped))
+CALL(stored_row, 1, siengulot_read_plan(long_pads, ROWS + 1, long_pads, ROWS + 1, joined, ROWS, &place, &count, &dropped))
+CALL(stored_limit, 3, siengulot_read_plan(pads, ROWS + 1, pads, ROWS + 1, joined, ROWS, &place, &count, &dropped))
+CALL(stored_room, 4, siengulot_read_plan(pads, ROWS, pads, ROWS, joined, 9, &place, &count, &dropped))
 
 CALL(smooth_most, 0, siengulot_smooth(mixed, LIST, out, sizeof out, &place, &count))
 CALL(smooth_entry, 2, siengulot_smooth(unknown, LIST, out, sizeof out, &place, &count))
@@ -139,6 +145,7 @@ static const struct {
     {"siengulot_pick", {pick_given, pick_equals, pick_setting, pick_none}},
     {"siengulot_send", {send_most, send_least, send_setting, send_entry, send_limit, send_room}},
     {"siengulot_plan", {plan_most, plan_setting, plan_entry, plan_limit, plan_room}},
+    {"siengulot_read_plan", {stored_most, stored_setting, stored_row, stored_limit, stored_room}},
     {"siengulot_smooth", {smooth_most, smooth_entry, smooth_limit, smooth_room}},
     {"siengulot_warp",
      {warp_deepest, warp_mixed, warp_unknown, warp_even, warp_short, warp_setting, warp_entry, warp_limit,
@@ -229,6 +236,7 @@ int main(void)
     for (size_t i = 0; i < 7; i++) {
         bytes[i] = ((const uint8_t[]){0xFF, 0x03, 0x80, 0x08, 0xFF, 0x3F, 0x00})[i];
     }
+    long_pads[ROWS - 1] = long_pads[ROWS] = SIENGULOT_PAD_MOST; /* the last row's lead becomes too long */
     for (size_t i = 0; i < LIST; i++) {
         turns[i] = i % 2;
         mixed[i] = (i * i / 7 + i / 5) % 3 % 2;

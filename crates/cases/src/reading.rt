@@ -228,11 +228,12 @@ fn put(list: &mut [u8], from: usize, entry: u8, count: usize) -> usize
     at
 }
 
-// Puts the entries that a text names into a list, and gives how many there are.
-fn entries(text: &[u8], list: &mut [u8]) -> usize
+// Puts the entries that a text names into a list, from a place on, and gives the place after the last.
+fn entries(text: &[u8], list: &mut [u8], from: usize) -> usize
+    requires { ⌜ from ≤ length (now list) ⌝ }
     ensures { λ x. ⌜ x ≤ length (now (list .entry)) ⌝ }
 {
-    let mut size = 0;
+    let mut size = from;
     let mut at = 0;
     while at < text.len() {
         let entry = entry_at(text, at);
@@ -266,7 +267,7 @@ pub fn list(text: &[u8], list: &mut [u8]) -> usize
     ensures { λ x. ⌜ x ≤ length (now (list .entry)) ⌝ }
 {
     let own = until(until(text, b'|'), b'>');
-    let size = entries(until(own, b'.'), list);
+    let size = entries(until(own, b'.'), list, 0);
     over_again(list, size, at_place(after(own, b'.'), 0))
 }
 
@@ -289,7 +290,9 @@ pub fn letter(text: &[u8]) -> u8 {
 }
 
 // Copies so many entries of a list, and gives how many; none where there is no room for them.
-fn copied(list: &[u8], size: usize, to: &mut [u8]) -> usize {
+fn copied(list: &[u8], size: usize, to: &mut [u8]) -> usize
+    ensures { λ x. ⌜ x ≤ length (now (to .entry)) ⌝ }
+{
     let from = front(list, size);
     if to.len() < from.len() {
         return 0;
@@ -297,10 +300,11 @@ fn copied(list: &[u8], size: usize, to: &mut [u8]) -> usize {
     bytes::copy(from, to)
 }
 
-// The same as `list`, but for the word `out`: so many entries of another list.
+// The same as `list`, but for the word `out`: so many entries of another list, and then those that follow the word.
 pub fn list_or_out(text: &[u8], out: &[u8], size: usize, lent: &mut [u8]) -> usize {
     if letter(text) == b'o' {
-        return copied(out, size, lent);
+        let had = copied(out, size, lent);
+        return entries(until(until(text, b'|'), b'>'), lent, had);
     }
     list(text, lent)
 }

@@ -71,6 +71,15 @@ fn summary(list: &[u8]) {
     named(b" digest ", digest(list));
 }
 
+// The entries of a list of numbers.
+pub fn numbers(list: &[usize]) {
+    let mut i = 0;
+    while i < list.len() {
+        count(list[i]);
+        i += 1;
+    }
+}
+
 fn left(list: &[u8]) {
     if SHOWN < list.len() {
         summary(list);

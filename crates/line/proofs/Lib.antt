@@ -15,4 +15,5 @@ pub mod UnderWay
 pub mod Times
 pub mod WarpRun
 pub mod LineLaws
+pub mod Fronts
 pub mod KnownCycles

@@ -1,7 +1,8 @@
-// Runs the cases of the file `stdin` through settings, sender, line and counted, and prints each with what it gives;
-// the file `stdout` has what that is to be. The crate `cases` says how a case is written. The list `kept` is the second
-// list of the case before.
+// Runs the cases of the file `stdin` through settings, sender, stored, line and counted, and prints each with what it
+// gives; the file `stdout` has what that is to be. The crate `cases` says how a case is written. The list `kept` is the
+// second list of the case before.
 mod counting;
+mod joining;
 mod judging;
 mod passing;
 mod sending;
@@ -19,17 +20,18 @@ const LIST: usize = ENTRIES_MOST + 1;
 
 // Runs the operation that a case names, and gives how many entries it has written.
 fn operate(case: &[u8], one: &[u8], two: &[u8], out: &mut [u8]) -> usize {
-    let names = b"judge judge_quiet send send_plan smooth warp settle count_bits ";
+    let names = b"judge judge_quiet send send_plan read_plan smooth warp settle count_bits ";
     let n = reading::numbers_of(case);
     match reading::operation(case, names) {
         0 => judging::judge(n),
         1 => judging::judge_quiet(n),
         2 => sending::send(n, one, out),
         3 => sending::send_plan(case, n, one, out),
-        4 => passing::smooth(one, out),
-        5 => passing::warp(n, one, out),
-        6 => passing::settle(one, two, out),
-        7 => counting::count_bits(n, one, out),
+        4 => joining::read_plan(case, n),
+        5 => passing::smooth(one, out),
+        6 => passing::warp(n, one, out),
+        7 => passing::settle(one, two, out),
+        8 => counting::count_bits(n, one, out),
         _ => 0,
     }
 }

@@ -10,7 +10,7 @@ use Rattle.measure.proofs.LevelLaws.{most-at}
 use Rattle.board.specs.Rows.{Settings, fresh, ready}
 use Rattle.board.specs.Feeding.{Report}
 use Rattle.board.proofs.PackedBits.{Binary, binary-take}
-use Rattle.promises.specs.Places.{Link, planReads, cyclesOf, heard}
+use Rattle.promises.specs.Places.{Link, planReads, lastFrom, heard}
 use Rattle.promises.specs.Replaced.{damaged, below, above, moved}
 use Rattle.promises.specs.Demand3.{Fitting, receiverSettings, Demand3}
 use Rattle.promises.specs.Hearing.{heeding, Hears}
@@ -32,9 +32,9 @@ any-hearing x fits hear hears = record {
       ap (below i) (hears (damaged x i j junk))
       ∙ before-stretch (heeding g) (planReads x) i j junk (omega arith)
       ∙ ap (below i) (heeded-reports g fresh 0 (planReads x) levels ∙ whole x fits);
-  after = λ i j junk ij le earlier row later same wholly.
-      let at = heard-row x fits j earlier row later same wholly in
-      let h : ℕ = heard x (cyclesOf x earlier) row in
+  after = λ earlier row later same m long i j junk ij le wholly.
+      let at = heard-row x fits j earlier row later same m long wholly in
+      let h : ℕ = heard x (lastFrom x earlier row m) m in
       let lead : List ℕ = take (suc h - j) (drop j (planReads x)) in
       ap (above (i + length junk + (h - j))) (hears (damaged x i j junk))
       ∙ after-stretch (heeding g) (planReads x) i j junk h (ready (x .Q)) (omega arith) (at .from) (at .there)

@@ -13,7 +13,7 @@ use borrow.Author.Tests.{le-leb, lt-leb}
 use Rattle.settings.specs.Margins.{accepted}
 use Rattle.settings.proofs.Inequalities.{accepted-keeps, keeps-accepted}
 use Rattle.sender.specs.Sending.{cells, wave}
-use Rattle.sender.proofs.Waves.{wave-levels}
+use Rattle.sender.proofs.Waves.{followed-levels}
 use Rattle.line.specs.Smooth.{smoothFrom}
 use Rattle.line.specs.Warp.{look, dropped, warpFrom, warp}
 use Rattle.line.specs.Settle.{settle}
@@ -22,7 +22,7 @@ use Rattle.line.proofs.ClockBounds.{cycle-clock, read-clock}
 use Rattle.line.proofs.LineLaws.{over-levels, over-reads}
 use Rattle.counted.specs.Counted.{fromMark, counted}
 use Rattle.counted.proofs.AllFound.{all-found}
-use Rattle.promises.specs.CountedReturns.{messageReads, received, EveryMessageReturned, AcceptedReturn}
+use Rattle.promises.specs.CountedReturns.{followed, messageReads, received, EveryMessageReturned, AcceptedReturn}
 use Rattle.promises.specs.CountedReturns.{OperationReturns, WithinOnePartIn, Source002, shortestRead, longestRead}
 use Rattle.promises.specs.CountedReturns.{Conjecture002}
 use Rattle.promises.proofs.Timing.{Margins}
@@ -31,9 +31,9 @@ use Rattle.promises.proofs.SignedMargins.{accepted-margins}
 
 -- margins of minus one or more and a read that takes time
 pub returned : (a b k w r : ℕ) → 0 < r → Margins a b 1 k w w r r → EveryMessageReturned a b k w r
-returned a b k w r pos ok p1 p2 p bits choices below hb hc =
-    returns (cycle-clock w) (read-clock p r) pos (omega arith) (omega arith) (omega arith) ok p1 p2 bits
-    _ hb (over-reads w r p (wave a b p1 p2 bits) choices pos below (wave-levels a b p1 p2 bits) hc)
+returned a b k w r pos ok p1 after p bits choices below hb hc =
+    returns (cycle-clock w) (read-clock p r) pos (omega arith) (omega arith) (omega arith) ok p1 after bits
+    _ hb (over-reads w r p (followed a b p1 after bits) choices pos below (followed-levels a b p1 after bits) hc)
 
 -- M2 leaves no room for a read that takes no time
 takes-time : (a b k w r p : ℕ) → p < w → accepted a b k w r ≡ true → 0 < r
@@ -41,15 +41,16 @@ takes-time a b k w zero p below h = absurd (omega (arith, accepted-keeps a b k w
 takes-time a b k w (suc r) p below h = omega arith
 
 pub accepted-return : AcceptedReturn
-accepted-return a b k w r h p1 p2 p bits choices below =
-    returned a b k w r (takes-time a b k w r p below h) (accepted-margins a b k w r h) p1 p2 p bits choices below
+accepted-return a b k w r h p1 after p bits choices below =
+    returned a b k w r (takes-time a b k w r p below h) (accepted-margins a b k w r h) p1 after p bits choices below
 
 pub operation-returns : OperationReturns
-operation-returns a b k w r p1 p2 p bits choices output h below hb hc ranged few short room =
-    all-found k (length bits) 1 (messageReads a b w r p1 p2 p bits choices) output bits ranged few (omega arith) short
-    (over-levels w r p (wave a b p1 p2 bits) choices (takes-time a b k w r p below h) below
-    (wave-levels a b p1 p2 bits) hc)
-    room (accepted-return a b k w r h p1 p2 p bits choices below hb hc) refl
+operation-returns a b k w r p1 after p bits choices output h below hb hc ranged few short room =
+    all-found k (length bits) 1 (messageReads a b w r p1 after p bits choices) output bits ranged few (omega arith)
+    short
+    (over-levels w r p (followed a b p1 after bits) choices (takes-time a b k w r p below h) below
+    (followed-levels a b p1 after bits) hc)
+    room (accepted-return a b k w r h p1 after p bits choices below hb hc) refl
 
 unless : (b : Bool) → (b ≡ true → ⊥) → b ≡ false
 unless true h = absurd (h refl)

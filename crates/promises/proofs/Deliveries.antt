@@ -6,16 +6,17 @@ use mathlib.Core.List.{List, _∷_}
 use Prim.Native.Nat.{ℕ, zero, suc, _+_, _-_, _≤_, _<_, suc-le-suc}
 use native.Mathlib.Nat.{add-zero, add-suc, suc-add, zero-add}
 use native.Mathlib.Omega.{arith}
-use lib.ListN.{length, getD, drop}
-use borrow.Author.Tests.{le-leb, lt-leb}
+use lib.ListN.{length, getD}
+use borrow.Author.Tests.{le-leb, lt-leb, lt-ltb}
 use Rattle.sender.specs.Sending.{Row}
 use Rattle.sender.proofs.PlanWaves.{length-one}
 use Rattle.line.specs.Warp.{cycleStart, readStart}
 use Rattle.line.proofs.ClockBounds.{mono, read-clock}
 use Rattle.board.specs.Feeding.{Report}
 use Rattle.promises.specs.Places.{Link, planReads, placesWhere, numbered, wholly, withinLead}
-use Rattle.promises.specs.Places.{heard, lastSample, samplePlace, deliveries}
-use Rattle.promises.proofs.Sampling.{samples-on, sampled-at}
+use Rattle.promises.specs.Places.{heard, lastAfter, lastSample, deliveries}
+use Rattle.promises.specs.Replaced.{reportsAt, below}
+use Rattle.promises.proofs.Sampling.{Samples, samples-on, sampled-at}
 use Rattle.promises.proofs.OneRow.{deliveredAt}
 use Rattle.promises.proofs.Quiets.{Lead}
 use Rattle.promises.proofs.ManyRows.{Fit, Placed, no-row, a-row}
@@ -71,6 +72,14 @@ module _ (test : ℕ → Bool) where
         go zero p h f = absurd (omega arith)
         go (suc q) p h f = omega (arith, numbered-all q (many - i0) i0 (omega arith) (λ i y z. f i y (omega arith)))
 
+-- rows that are placed among the first N reads are reported below N
+pub placed-below : {tw tr D : ℕ → ℕ} {g k Q d N c : ℕ} {rows : List Row} {fs : List Report}
+    → Placed tw tr D g k Q d N c rows fs → below N fs ≡ fs
+unfolding reportsAt
+placed-below no-row = refl
+placed-below {N = N} (a-row {s = s} {row = row} {fs = fs} lead samples within more) =
+    rw (lt-ltb s N within) (ap (λ (l : List Report). deliveredAt s (row .bits) ∷ l) (placed-below more))
+
 module _ (x : Link) where
   abbrev R : List ℕ
   R = planReads x
@@ -81,27 +90,31 @@ module _ (x : Link) where
   abbrev tr : ℕ → ℕ
   tr = readStart (x .p) (x .r)
 
-  -- the Q reads of a lead are the first that lie wholly within it
-  module _ (c : ℕ) (row : Row) (i0 : ℕ) (lead : Lead tw tr 1 (x .Q) c (row .lead) i0)
-      (there : i0 + x .Q ≤ length R) where
-    outside : (i : ℕ) → i < i0 → wholly x (suc c) (c + row .lead) i ≡ false
+  -- the Q reads of lead cycles are the first that lie wholly within them
+  module _ (c m i0 : ℕ) (lead : Lead tw tr 1 (x .Q) c m i0) (there : i0 + x .Q ≤ length R) where
+    outside : (i : ℕ) → i < i0 → wholly x (suc c) (c + m) i ≡ false
     outside i h = rw (lt-leb (tw (suc c)) (tr i) (omega (arith, lead .first i h)))
 
-    inside : (i : ℕ) → i0 ≤ i → i < i0 + x .Q → wholly x (suc c) (c + row .lead) i ≡ true
+    inside : (i : ℕ) → i0 ≤ i → i < i0 + x .Q → wholly x (suc c) (c + m) i ≡ true
     inside i h l =
         rw (
           le-leb (tw (suc c)) (tr i) (omega (arith, lead .starts, mono (read-clock (x .p) (x .r)) i0 i h)),
-          le-leb (tr (suc i)) (tw (c + row .lead))
+          le-leb (tr (suc i)) (tw (c + m))
               (omega (arith, lead .ends, mono (read-clock (x .p) (x .r)) (suc i) (i0 + x .Q) l)),
         )
 
-    pub lead-enough : x .Q ≤ length (withinLead x c row)
+    pub lead-enough : x .Q ≤ length (withinLead x c m)
     unfolding withinLead
-    lead-enough = enough (wholly x (suc c) (c + row .lead)) i0 (x .Q) (length R) there outside inside
+    lead-enough = enough (wholly x (suc c) (c + m)) i0 (x .Q) (length R) there outside inside
 
-    pub heard-is : 0 < x .Q → suc (heard x c row) ≡ i0 + x .Q
+    pub heard-is : 0 < x .Q → suc (heard x c m) ≡ i0 + x .Q
     unfolding heard withinLead
-    heard-is = the-Qth (wholly x (suc c) (c + row .lead)) i0 (x .Q) (length R) there outside inside
+    heard-is = the-Qth (wholly x (suc c) (c + m)) i0 (x .Q) (length R) there outside inside
+
+  -- the n-th sample that the counted rule finds after a read
+  pub last-after : (read : ℕ) {j s : ℕ} → suc read ≡ j → Samples (x .k) (λ i. getD R i 2) (x .n) 1 j s → s < length R
+      → lastAfter x read ≡ s
+  last-after read e samples there = rw e (sampled-at R samples there)
 
   -- rows that are placed are placed where the rules' words place them
   pub placed-is : {c : ℕ} {rows : List Row} {fs : List Report} → 0 < x .Q → Fit (x .n) (x .Q) 1 (x .w) (x .r) rows
@@ -109,10 +122,10 @@ module _ (x : Link) where
   unfolding deliveries lastSample
   placed-is some fit no-row = refl
   placed-is {c} some fit (a-row {i0 = i0} {s = s} {row = row} {rows = rows} {fs = fs} lead samples within more) =
-      rw (heard-is c row i0 lead (omega (arith, samples-on samples)) some, sampled, length-one (x .a) (x .b) row)
+      rw (sampled, length-one (x .a) (x .b) row)
       (ap (λ (l : List Report). deliveredAt s (row .bits) ∷ l) (placed-is some (fit .3) more))
     where
-      sampled : samplePlace (x .k) (x .n) 1 (i0 + x .Q) (drop (i0 + x .Q) R) ≡ s
+      sampled : lastAfter x (heard x c (row .lead)) ≡ s
       sampled =
-          subst (λ (n : ℕ). samplePlace (x .k) n 1 (i0 + x .Q) (drop (i0 + x .Q) R) ≡ s) (fit .1)
-          (sampled-at R samples within)
+          last-after (heard x c (row .lead)) (heard-is c (row .lead) i0 lead (omega (arith, samples-on samples)) some)
+          (subst (λ (n : ℕ). Samples (x .k) (λ i. getD R i 2) n 1 (i0 + x .Q) s) (fit .1) samples) within

@@ -1,4 +1,5 @@
 -- The demands are put together from what the other files prove.
+use Rattle.stored.proofs.ShownHolds.{same-wave}
 use Rattle.line.proofs.WarpLaws.{warp-laws-hold}
 use Rattle.board.proofs.WellFormedStays.{every-step}
 use Rattle.capture.proofs.RoundTrips.{written-read-back, read-written-back}
@@ -8,7 +9,8 @@ use Rattle.promises.specs.Hearing.{hearing}
 use Rattle.promises.specs.Demands.{Demands}
 use Rattle.promises.proofs.CountedReturns.{operation-returns}
 use Rattle.promises.proofs.Picked.{picked-counts}
-use Rattle.promises.proofs.Demand3.{demand-3, grounds}
+use Rattle.promises.proofs.Demand3.{demand-3, user-wording, grounds}
+use Rattle.promises.proofs.StoredPlans.{every-stored-plan, stored-plans-hold}
 use Rattle.promises.proofs.HearingFromC.{every-caller}
 use Rattle.promises.proofs.AnyHearing.{any-hearing}
 use Rattle.promises.proofs.ByContract.{by-contract}
@@ -23,6 +25,7 @@ demands = record {
   demand-1 = answered;
   demand-1-from-c = answered-from-c;
   demand-2 = record {
+    stored = same-wave;
     line = warp-laws-hold;
     counts = operation-returns;
     picks = picked-counts;
@@ -34,10 +37,13 @@ demands = record {
   };
   demand-3 = record {
     of-the-rules = demand-3;
+    in-the-users-words = user-wording;
     grounds = grounds;
     of-every-caller = λ x fits range caller.
         any-hearing x fits (hearing caller (receiverSettings x)) (every-caller (receiverSettings x) range caller);
     judged = accepted-fits;
     whole-way = whole-way;
+    every-stored-plan = every-stored-plan;
+    stored-plans = stored-plans-hold;
   };
 }

@@ -7,30 +7,31 @@ use Prim.Native.Nat.{ℕ, suc, _+_, _*_, _-_, _≤_, _<_}
 use native.Mathlib.Omega.{arith}
 use lib.ListN.{length}
 use Rattle.measure.specs.Levels.{Levels}
-use Rattle.sender.specs.Sending.{wave}
-use Rattle.sender.proofs.Waves.{wave-levels}
+use Rattle.sender.proofs.Waves.{followed-levels}
 use Rattle.line.specs.Warp.{cycleStart, readStart}
 use Rattle.line.proofs.ClockBounds.{Clock, within-bounds, cycle-clock, read-clock, wider}
 use Rattle.line.proofs.LineLaws.{lineBy, line-reads}
 use Rattle.counted.specs.Counted.{counted}
+use Rattle.promises.specs.CountedReturns.{followed}
 use Rattle.promises.specs.WhatNoMeans.{OneBit}
 use Rattle.promises.proofs.Timing.{Margins}
 use Rattle.promises.proofs.Received.{returns}
 use Rattle.promises.proofs.Witness.{Loses, margins-or, highBit, lowBit, least, many, loses-1, loses-2, loses-3}
 
--- every message is returned, with any pads, any phase below the first writer cycle and any choices
+-- every message is returned, with any lead and any number of high cycles after it, any phase below the first writer
+-- cycle and any choices
 abbrev pub Returned : (a b g k w1 w2 r1 r2 : ℕ) → Type 0
 Returned a b g k w1 w2 r1 r2 = (tw tr : ℕ → ℕ) → Clock tw w1 w2 → Clock tr r1 r2 → tw 0 ≤ tr 0 → tr 0 < tw 1
-    → (p1 p2 : ℕ) (bits choices : List ℕ) → Levels bits → Levels choices
-    → counted k (length bits) 1 (lineBy tw tr g (wave a b p1 p2 bits) choices) ≡ bits
+    → (p1 after : ℕ) (bits choices : List ℕ) → Levels bits → Levels choices
+    → counted k (length bits) 1 (lineBy tw tr g (followed a b p1 after bits) choices) ≡ bits
 
 pub enough : (a b g k w1 w2 r1 r2 : ℕ) → 0 < g → 0 < r1 → Margins a b g k w1 w2 r1 r2 → Returned a b g k w1 w2 r1 r2
-enough a b g k w1 w2 r1 r2 hg hr ok tw tr wclk rclk phase below p1 p2 bits choices hb hc =
-    returns wclk rclk hr phase below hg ok p1 p2 bits (lineBy tw tr g l choices) hb
-    (line-reads (within-bounds wclk rclk hr phase below) g l choices (wave-levels a b p1 p2 bits) hc)
+enough a b g k w1 w2 r1 r2 hg hr ok tw tr wclk rclk phase below p1 after bits choices hb hc =
+    returns wclk rclk hr phase below hg ok p1 after bits (lineBy tw tr g l choices) hb
+    (line-reads (within-bounds wclk rclk hr phase below) g l choices (followed-levels a b p1 after bits) hc)
   where
     l : List ℕ
-    l = wave a b p1 p2 bits
+    l = followed a b p1 after bits
 
 -- with the lead (g - 1)·(r - 1) and the phase w - 1, read (g - 1)·w starts one time unit before the mark has settled
 lies : (g w r : ℕ) → 0 < g → 0 < w → 0 < r → w - 1 + (g - 1) * w * r + 1 ≡ ((g - 1) * (r - 1) + g) * w
@@ -75,7 +76,7 @@ module _ (a b g k w1 w2 r1 r2 : ℕ) (ha : 0 < a) (hg : 0 < g) (hk : 0 < k) (hw 
       loses
       (f (cycleStart w) (readStart (m .p) r) (wider w1 w2 w p q (cycle-clock w))
       (wider r1 r2 r u v (read-clock (m .p) r)) (omega arith)
-      (omega (arith, m .phase)) (m .p1) (m .p2) (m .bit ∷ []) (m .choices) (m .is-bit, tt) (m .are-choices))
+      (omega (arith, m .phase)) (m .p1) (m .after) (m .bit ∷ []) (m .choices) (m .is-bit, tt) (m .are-choices))
 
   pub needed : Returned a b g k w1 w2 r1 r2 → Margins a b g k w1 w2 r1 r2
   needed f =

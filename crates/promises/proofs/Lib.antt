@@ -6,6 +6,7 @@ pub mod Seams
 pub mod Recovery
 pub mod Deliveries
 pub mod Demand3
+pub mod StoredPlans
 pub mod Hearing
 pub mod HearingFromC
 pub mod AnyHearing

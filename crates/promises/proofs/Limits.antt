@@ -1,5 +1,5 @@
--- The rules' limits leave room for a lost message wherever one bit fits at all: at the last phase with no pads it has
--- the fewest reads, and where a lead is needed, the cell is short enough for it.
+-- The rules' limits leave room for a lost message wherever one bit fits at all: at the last phase with no lead and no
+-- cycle after it it has the fewest reads, and where a lead is needed, the cell is short enough for it.
 use mathlib.Core.Path.{_≡_, refl, sym, _∙_}
 use mathlib.Core.Logic.{dite}
 use mathlib.Core.Bool.{true, false, false≢true}
@@ -11,14 +11,12 @@ use native.Mathlib.Omega.{arith}
 use lib.ListN.{length, length-replicate}
 use Rattle.measure.specs.Ranges.{padMost, entriesMost}
 use Rattle.settings.proofs.BothEnds.{InRange, in-range}
-use Rattle.sender.specs.Sending.{wave}
-use Rattle.sender.proofs.Cells.{length-wave}
-use Rattle.sender.proofs.Waves.{wave-levels}
+use Rattle.sender.proofs.Waves.{followed-length, followed-levels}
 use Rattle.line.specs.Warp.{cycleStart, readStart}
 use Rattle.line.proofs.SettleLaws.{length-settle}
 use Rattle.line.proofs.SmoothBy.{smoothBy, length-smooth-by}
 use Rattle.line.proofs.LineLaws.{Reads, few-reads, reads-few, over-the-line, over-reads}
-use Rattle.promises.specs.CountedReturns.{messageReads}
+use Rattle.promises.specs.CountedReturns.{followed, messageReads}
 use Rattle.promises.specs.WhatNoMeans.{almostAccepted, OneBit, Lost, WithinLimits, LostWithinLimits}
 use Rattle.promises.proofs.SignedMargins.{margins-almost}
 use Rattle.promises.proofs.Need.{unsettled}
@@ -28,24 +26,24 @@ use Rattle.promises.proofs.WhatNoMeans.{loses-lost}
 -- one bit's wave and its reads
 module _ (a b w r : ℕ) (pos : 0 < r) (m : OneBit w) where
   abbrev l : List ℕ
-  l = wave a b (m .p1) (m .p2) (m .bit ∷ [])
+  l = followed a b (m .p1) (m .after) (m .bit ∷ [])
 
   abbrev R : List ℕ
-  R = messageReads a b w r (m .p1) (m .p2) (m .p) (m .bit ∷ []) (m .choices)
+  R = messageReads a b w r (m .p1) (m .after) (m .p) (m .bit ∷ []) (m .choices)
 
   reads : Reads (cycleStart w) (readStart (m .p) r) (smoothBy 1 0 1 l) R
   reads =
-      over-reads w r (m .p) l (m .choices) pos (m .phase) (wave-levels a b (m .p1) (m .p2) (m .bit ∷ []))
+      over-reads w r (m .p) l (m .choices) pos (m .phase) (followed-levels a b (m .p1) (m .after) (m .bit ∷ []))
       (m .are-choices)
 
-  size : length (smoothBy 1 0 1 l) ≡ m .p1 + (a + b) + m .p2
-  size = length-smooth-by 1 0 1 l ∙ length-wave a b (m .p1) (m .p2) (m .bit ∷ []) ∙ omega arith
+  size : length (smoothBy 1 0 1 l) ≡ m .p1 + (a + b) + m .after
+  size = length-smooth-by 1 0 1 l ∙ followed-length a b (m .p1) (m .after) (m .bit ∷ []) ∙ omega arith
 
   -- the reads are within their limit exactly if one more would end after the wave
-  few : (m .p1 + (a + b) + m .p2) * w < m .p + suc entriesMost * r → length R ≤ entriesMost
+  few : (m .p1 + (a + b) + m .after) * w < m .p + suc entriesMost * r → length R ≤ entriesMost
   few h = few-reads reads entriesMost (rw size h)
 
-  ends-late : length R ≤ entriesMost → (m .p1 + (a + b) + m .p2) * w < m .p + suc entriesMost * r
+  ends-late : length R ≤ entriesMost → (m .p1 + (a + b) + m .after) * w < m .p + suc entriesMost * r
   ends-late h = rw size at (reads-few reads entriesMost h)
 
   -- the witnesses are reads of the rules' line
@@ -53,16 +51,15 @@ module _ (a b w r : ℕ) (pos : 0 < r) (m : OneBit w) where
   same-reads = rw (over-the-line w r (m .p) l (m .choices)) (length-settle _ _)
 
 module _ (a b k w r : ℕ) (range : InRange a b k w r) (fits : (a + b) * w < w - 1 + suc entriesMost * r) where
-  -- one bit with no trail, a lead and a phase that leave its reads within the limit
-  within : (m : OneBit w) → m .p2 ≡ 0 → m .p1 ≤ padMost → (m .p1 + (a + b)) * w < m .p + suc entriesMost * r
-      → length (m .choices) ≤ length (messageReads a b w r (m .p1) (m .p2) (m .p) (m .bit ∷ []) (m .choices))
+  -- one bit with no cycle after it, a lead and a phase that leave its reads within the limit
+  within : (m : OneBit w) → m .after ≡ 0 → m .p1 ≤ padMost → (m .p1 + (a + b)) * w < m .p + suc entriesMost * r
+      → length (m .choices) ≤ length (messageReads a b w r (m .p1) (m .after) (m .p) (m .bit ∷ []) (m .choices))
       → WithinLimits a b w r m
   within m none lead short chosen = record {
     lead = lead;
-    trail = omega arith;
     cycles = omega (
       arith,
-      length-wave a b (m .p1) (m .p2) (m .bit ∷ []),
+      followed-length a b (m .p1) (m .after) (m .bit ∷ []),
       range .mark,
       range .code,
     );
@@ -70,16 +67,17 @@ module _ (a b k w r : ℕ) (range : InRange a b k w r) (fits : (a + b) * w < w -
     chosen = omega (arith, all, chosen);
   }
     where
-      all : length (messageReads a b w r (m .p1) (m .p2) (m .p) (m .bit ∷ []) (m .choices)) ≤ entriesMost
+      all : length (messageReads a b w r (m .p1) (m .after) (m .p) (m .bit ∷ []) (m .choices)) ≤ entriesMost
       all = few a b w r (range .read .0) m (rw none (omega (arith, short)))
 
   abbrev Within : Type 0
-  Within = (n : OneBit w) × WithinLimits a b w r n × Lost a b k w r n
+  Within = (n : OneBit w) × (n .after ≡ 0) × WithinLimits a b w r n × Lost a b k w r n
 
-  -- the last phase, no pads and high choices
+  -- the last phase, no lead and high choices
   high : (x : ℕ) (is : x ≤ 1) → Loses a b 1 k w r (highBit w 0 x (many a b 1 w r 0 x) (range .cycle .0) is) → Within
   high x is loses = (
     m,
+    refl,
     within m refl (omega arith) (omega (arith, fits))
         (rw length-replicate (omega (arith, same-reads a b w r (range .read .0) m))),
     loses-lost a b k w r m loses,
@@ -93,6 +91,7 @@ module _ (a b k w r : ℕ) (range : InRange a b k w r) (fits : (a + b) * w < w -
       → lead * w < p + r → p + k * r < (lead + (a + 1)) * w → Within
   low lead p below pad short touches early = (
     lowBit w lead p below,
+    refl,
     within (lowBit w lead p below) refl pad short (omega arith),
     loses-lost a b k w r (lowBit w lead p below)
         (loses-2 a b 1 k w r (range .mark .0) (omega arith) (range .sample .0) (range .cycle .0)
@@ -152,7 +151,7 @@ lost-within-limits a b k w r ranges m limits =
     (omega (
       arith,
       m .phase,
-      mul-le-mul-right w (longer (m .p1) (a + b) (m .p2)),
+      mul-le-mul-right w (longer (m .p1) (a + b) (m .after)),
       ends-late a b w r (range .read .0) m (limits .reads),
     ))
   where

@@ -10,9 +10,7 @@ use native.Mathlib.Omega.{arith}
 use lib.ListN.{length, getD, replicate, List·getD-eq-default}
 use Rattle.measure.specs.Levels.{Levels}
 use Rattle.measure.proofs.LevelLaws.{most-replicate}
-use Rattle.sender.specs.Sending.{wave}
-use Rattle.sender.proofs.Cells.{length-wave}
-use Rattle.sender.proofs.Waves.{wave-levels, wave-carries, wave-leads, wave-trails}
+use Rattle.sender.proofs.Waves.{followed-length, followed-levels, followed-carries, followed-leads, followed-high}
 use Rattle.line.specs.Warp.{cycleStart, readStart, warpBy}
 use Rattle.line.proofs.Clocks.{even-clocks}
 use Rattle.line.proofs.ClockBounds.{cycle-of}
@@ -21,19 +19,20 @@ use Rattle.line.proofs.LineLaws.{lineBy, Reads, line-reads}
 use Rattle.line.proofs.KnownCycles.{Known, stays-high, stays-low}
 use Rattle.counted.specs.Counted.{counted}
 use Rattle.counted.proofs.Samples.{counted-step, counted-late}
+use Rattle.promises.specs.CountedReturns.{followed}
 
 -- the mark of a single 1 is the only low of its wave
-low-in-mark : (a b p1 p2 c : ℕ) → getD (wave a b p1 p2 (1 ∷ [])) c 2 ≡ 0 → c < p1 + a
-low-in-mark a b p1 p2 c e =
+low-in-mark : (a b p1 after c : ℕ) → getD (followed a b p1 after (1 ∷ [])) c 2 ≡ 0 → c < p1 + a
+low-in-mark a b p1 after c e =
     dite (decLe (suc c) (p1 + a)) (λ h. h) λ h. absurd (
     dite (decLe (suc c) (p1 + (a + b)))
-    (λ u. omega (arith, wave-carries a b p1 p2 (1 ∷ []) .1 c (omega arith) (omega arith)))
-    λ u. dite (decLe (suc c) (p1 + 1 * (a + b) + p2))
-    (λ t. omega (arith, wave-trails a b p1 p2 (1 ∷ []) c (omega arith) t))
+    (λ u. omega (arith, followed-carries a b p1 after (1 ∷ []) .1 c (omega arith) (omega arith)))
+    λ u. dite (decLe (suc c) (p1 + 1 * (a + b) + after))
+    (λ t. omega (arith, followed-high a b p1 after (1 ∷ []) c (omega arith) t))
     λ t. omega (
       arith,
-      List·getD-eq-default (wave a b p1 p2 (1 ∷ [])) 2 {n = c}
-          (omega (arith, length-wave a b p1 p2 (1 ∷ []))),
+      List·getD-eq-default (followed a b p1 after (1 ∷ [])) 2 {n = c}
+          (omega (arith, followed-length a b p1 after (1 ∷ []))),
     )
     )
 
@@ -63,18 +62,18 @@ module _ (g w r p : ℕ) (l choices : List ℕ) (pos : 0 < r) (below : p < w) (l
   is-level q h = reads .settled .level q (reads .ends q h)
 
 -- All choices are high, and read j starts one time unit before the mark has settled.
-module _ (a b g k w r p p1 p2 j x m : ℕ) (pos : 0 < r) (below : p < w) (lies : p + j * r + 1 ≡ (p1 + g) * w)
-    (enough : length (unsettled g w r p (wave a b p1 p2 (x ∷ []))) ≤ m) where
+module _ (a b g k w r p p1 after j x m : ℕ) (pos : 0 < r) (below : p < w) (lies : p + j * r + 1 ≡ (p1 + g) * w)
+    (enough : length (unsettled g w r p (followed a b p1 after (x ∷ []))) ≤ m) where
   abbrev l : List ℕ
-  l = wave a b p1 p2 (x ∷ [])
+  l = followed a b p1 after (x ∷ [])
 
   abbrev R : List ℕ
   R = settledHigh g w r p m l
 
-  ends : (q : ℕ) → q < length R → p + suc q * r ≤ (p1 + 1 * (a + b) + p2) * w
+  ends : (q : ℕ) → q < length R → p + suc q * r ≤ (p1 + 1 * (a + b) + after) * w
   ends q h =
-      rw (length-wave a b p1 p2 (x ∷ []))
-      at (ends-by g w r p l (replicate m 1) pos below (wave-levels a b p1 p2 (x ∷ []))
+      rw (followed-length a b p1 after (x ∷ []))
+      at (ends-by g w r p l (replicate m 1) pos below (followed-levels a b p1 after (x ∷ []))
       (most-replicate 1 m 1 (omega arith)) q h)
 
   -- a read that is not high: each cycle that it shares time with was low
@@ -86,7 +85,7 @@ module _ (a b g k w r p p1 p2 j x m : ℕ) (pos : 0 < r) (below : p < w) (lies :
       (omega (
         arith,
         d,
-        is-level g w r p l (replicate m 1) pos below (wave-levels a b p1 p2 (x ∷ []))
+        is-level g w r p l (replicate m 1) pos below (followed-levels a b p1 after (x ∷ []))
             (most-replicate 1 m 1 (omega arith)) q h,
       ))
 
@@ -95,7 +94,7 @@ module _ (a b g k w r p p1 p2 j x m : ℕ) (pos : 0 < r) (below : p < w) (lies :
       → (c : ℕ) × (c * w ≤ p + q * r) × (p + q * r < suc c * w) × Known g l c 0
   start-low q h d =
       let (c, y, z, u, v) =
-      cycle-of (cycleStart w) (p + q * r) (p1 + 1 * (a + b) + p2) 0 (omega arith)
+      cycle-of (cycleStart w) (p + q * r) (p1 + 1 * (a + b) + after) 0 (omega arith)
       (rw zero-add (omega (arith, ends q h))) in
       (c, u, v, low q h d c (omega arith) v)
 
@@ -109,72 +108,72 @@ module _ (a b g k w r p p1 p2 j x m : ℕ) (pos : 0 < r) (below : p < w) (lies :
           (λ y. omega (
             arith,
             n .level (c - g) (omega arith) (omega arith),
-            wave-leads a b p1 p2 (x ∷ []) (c - g) (omega (arith, soon)),
+            followed-leads a b p1 after (x ∷ []) (c - g) (omega (arith, soon)),
           ))
           (λ y. omega (arith, n .before (omega arith)))
         where
           soon : c < p1 + g
           soon = lt-of-mul-lt-mul-right w (omega (arith, mul-le-mul-right r le))
 
-  -- M3 is minus two or less, and there is no trail: the sample would be read past the wave's end
-  pub late-sample : p2 ≡ 0 → (a + b) * w + 2 ≤ (k + 2) * r + g * w → counted k 1 1 R ≡ []
+  -- M3 is minus two or less, and nothing follows the wave: the sample would be read past the wave's end
+  pub late-sample : after ≡ 0 → (a + b) * w + 2 ≤ (k + 2) * r + g * w → counted k 1 1 R ≡ []
   late-sample none m3 =
       counted-late k 1 1 R (j + 1) 2 (λ i p q. high-to i (omega arith) q)
       (dite (decLe (length R) (j + 1 + k)) (λ h. h)
       (λ h. absurd (omega (arith, rw shape at (ends (j + 1 + k) (omega arith))))))
     where
-      shape : p1 + 1 * (a + b) + p2 ≡ p1 + (a + b)
+      shape : p1 + 1 * (a + b) + after ≡ p1 + (a + b)
       shape = omega arith
 
 -- M1 is minus two or less: no read lies wholly within the settled mark of a 1, so every read is high
-pub short-mark : (a b g k w r p p1 p2 j m : ℕ) → 0 < r → p < w → p + j * r + 1 ≡ (p1 + g) * w
-    → length (unsettled g w r p (wave a b p1 p2 (1 ∷ []))) ≤ m → a * w + 2 ≤ 2 * r + g * w
-    → counted k 1 1 (settledHigh g w r p m (wave a b p1 p2 (1 ∷ []))) ≡ []
-short-mark a b g k w r p p1 p2 j m pos below lies enough m1 =
+pub short-mark : (a b g k w r p p1 after j m : ℕ) → 0 < r → p < w → p + j * r + 1 ≡ (p1 + g) * w
+    → length (unsettled g w r p (followed a b p1 after (1 ∷ []))) ≤ m → a * w + 2 ≤ 2 * r + g * w
+    → counted k 1 1 (settledHigh g w r p m (followed a b p1 after (1 ∷ []))) ≡ []
+short-mark a b g k w r p p1 after j m pos below lies enough m1 =
     counted-late k 1 1 reads (length reads) 2
-    (λ q y h. dite (decLe q j) (λ le. high-to a b g k w r p p1 p2 j 1 m pos below lies enough q le h)
+    (λ q y h. dite (decLe q j) (λ le. high-to a b g k w r p p1 after j 1 m pos below lies enough q le h)
     (λ gt. high q h gt)) (omega arith)
   where
     reads : List ℕ
-    reads = settledHigh g w r p m (wave a b p1 p2 (1 ∷ []))
+    reads = settledHigh g w r p m (followed a b p1 after (1 ∷ []))
 
     high : (q : ℕ) → q < length reads → (q ≤ j → ⊥) → getD reads q 2 ≡ 1
     high q h gt =
         dite (ℕ-discrete (getD reads q 2) 1) (λ e. e)
-        (λ d. absurd (on d (start-low a b g k w r p p1 p2 j 1 m pos below lies enough q h d)))
+        (λ d. absurd (on d (start-low a b g k w r p p1 after j 1 m pos below lies enough q h d)))
       where
         on : getD reads q 2 ≢ 1
-            → (c : ℕ) × (c * w ≤ p + q * r) × (p + q * r < suc c * w) × Known g (wave a b p1 p2 (1 ∷ [])) c 0 → ⊥
+            → (c : ℕ) × (c * w ≤ p + q * r) × (p + q * r < suc c * w) × Known g (followed a b p1 after (1 ∷ [])) c 0 → ⊥
         on d (c, u, v, n) =
             dite (decLe (p + suc q * r) ((p1 + a) * w))
             (λ y. omega (arith, mul-le-mul-right r (wider q j gt)))
             (λ y.
             omega (
               arith,
-              low-in-mark a b p1 p2 (p1 + a)
-                  (low a b g k w r p p1 p2 j 1 m pos below lies enough q h d (p1 + a) (omega arith)
+              low-in-mark a b p1 after (p1 + a)
+                  (low a b g k w r p p1 after j 1 m pos below lies enough q h d (p1 + a) (omega arith)
                   (omega (arith, mul-le-mul-right w within)) .level
                   (p1 + a) (omega arith) (omega arith)),
             ))
           where
             within : c < p1 + a
-            within = low-in-mark a b p1 p2 c (n .level c (omega arith) (omega arith))
+            within = low-in-mark a b p1 after c (n .level c (omega arith) (omega arith))
 
             wider : (q j : ℕ) → (q ≤ j → ⊥) → suc (suc j) ≤ suc q
             wider q j gt = omega arith
 
 -- M2 is minus two or less, and there are no choices: the first read touches the cell's start and settles low, and its
 -- sample starts before the code has settled
-pub early-sample : (a b g k w r p p1 p2 : ℕ) → 0 < a → 0 < g → 0 < k → 0 < r → p < w → p1 * w < p + r
+pub early-sample : (a b g k w r p p1 after : ℕ) → 0 < a → 0 < g → 0 < k → 0 < r → p < w → p1 * w < p + r
     → p + k * r < (p1 + (a + g)) * w
-    → counted k 1 1 (settledLow g w r p (wave a b p1 p2 (1 ∷ []))) ≢ 1 ∷ []
-early-sample a b g k w r p p1 p2 ha hg hk pos below touches early same =
+    → counted k 1 1 (settledLow g w r p (followed a b p1 after (1 ∷ []))) ≢ 1 ∷ []
+early-sample a b g k w r p p1 after ha hg hk pos below touches early same =
     dite (decLe (suc k) (length reads)) sampled-low
     (λ h. let none : [] ≡ 1 ∷ [] = sym (counted-late k 1 1 reads 0 2 (λ i p q. absurd (omega arith)) (omega arith))
     ∙ same in omega (arith, ap length none))
   where
     sent : List ℕ
-    sent = wave a b p1 p2 (1 ∷ [])
+    sent = followed a b p1 after (1 ∷ [])
 
     reads : List ℕ
     reads = settledLow g w r p sent
@@ -183,12 +182,12 @@ early-sample a b g k w r p p1 p2 ha hg hk pos below touches early same =
     unknown : (c : ℕ) → p1 ≤ c → c < p1 + (a + g) → Known g sent c 1 → ⊥
     unknown c x y h =
         dite (decLe (suc c) (p1 + a))
-        (λ z. omega (arith, h .level c (omega arith) (omega arith), wave-carries a b p1 p2 (1 ∷ []) .0 c x z))
+        (λ z. omega (arith, h .level c (omega arith) (omega arith), followed-carries a b p1 after (1 ∷ []) .0 c x z))
         (λ z.
         omega (
           arith,
           h .level (p1 + (a - 1)) (omega arith) (omega arith),
-          wave-carries a b p1 p2 (1 ∷ []) .0 (p1 + (a - 1)) (omega arith) (omega arith),
+          followed-carries a b p1 after (1 ∷ []) .0 (p1 + (a - 1)) (omega arith) (omega arith),
         ))
 
     -- so a read that shares time with one of them settles low
@@ -200,7 +199,7 @@ early-sample a b g k w r p p1 p2 ha hg hk pos below touches early same =
         (unknown c x y
         (stays-high (even-clocks w r p pos below) g sent q c
         (record { before-the-end = u; after-the-start = v }) e)))
-        (λ d. omega (arith, d, is-level g w r p sent [] pos below (wave-levels a b p1 p2 (1 ∷ [])) tt q there))
+        (λ d. omega (arith, d, is-level g w r p sent [] pos below (followed-levels a b p1 after (1 ∷ [])) tt q there))
 
     sampled-low : k < length reads → ⊥
     sampled-low h =

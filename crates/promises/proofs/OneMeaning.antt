@@ -20,6 +20,9 @@ use Rattle.settings.proofs.PickHolds.{only-one}
 use Rattle.sender.specs.declared.Sent.{Sent}
 use Rattle.sender.specs.declared.Sent.the-variants as S
 use Rattle.sender.specs.Answers.{sentSays}
+use Rattle.stored.specs.declared.Joined.{Joined}
+use Rattle.stored.specs.declared.Joined.the-variants as I
+use Rattle.stored.specs.Answers.{Told, joinedSays}
 use Rattle.line.specs.declared.Smoothed.{Smoothed}
 use Rattle.line.specs.declared.Smoothed.the-variants as M
 use Rattle.line.specs.declared.Read.{Read}
@@ -165,11 +168,16 @@ one-meaning = record {
   };
   send = record {
     always = λ κs a. tt;
-    once = λ κs a x y left right h h′. leaves sent (λ l. (tt, (tt, (tt, (tt, (tt, (l, tt))))))) h h′;
+    once = λ κs a x y left right h h′. leaves sent (λ l. (tt, (tt, (tt, (tt, (l, tt)))))) h h′;
   };
   send-plan = record {
     always = λ κs a. tt;
-    once = λ κs a x y left right h h′. leaves sent (λ l. (tt, (tt, (tt, (tt, (tt, (tt, (l, tt)))))))) h h′;
+    once = λ κs a x y left right h h′. leaves sent (λ l. (tt, (tt, (tt, (tt, (tt, (l, tt))))))) h h′;
+  };
+  pads-in-range = record { always = λ κs a. tt; once = λ κs a x y left right h h′. (h ∙ sym h′, refl) };
+  read-plan = record {
+    always = λ κs a. tt;
+    once = λ κs a x y left right h h′. leaves joined-said (λ l. (tt, (tt, (l, tt)))) h h′;
   };
   smooth = record {
     always = λ κs a. tt;
@@ -255,13 +263,19 @@ one-meaning = record {
     always = λ κs a. tt;
     once = λ κs a x y left right h h′.
         crosses (λ (p : (ℕ × ℕ × ℕ) × List ℕ). p .0 .0)
-        (λ p. (tt, (tt, (tt, (tt, (tt, (p .1, (p .0 .1, (p .0 .2, tt))))))))) h h′;
+        (λ p. (tt, (tt, (tt, (tt, (p .1, (p .0 .1, (p .0 .2, tt)))))))) h h′;
   };
   siengulot-plan = record {
     always = λ κs a. tt;
     once = λ κs a x y left right h h′.
         crosses (λ (p : (ℕ × ℕ × ℕ) × List ℕ). p .0 .0)
-        (λ p. (tt, (tt, (tt, (tt, (tt, (tt, (p .1, (p .0 .1, (p .0 .2, tt)))))))))) h h′;
+        (λ p. (tt, (tt, (tt, (tt, (tt, (p .1, (p .0 .1, (p .0 .2, tt))))))))) h h′;
+  };
+  siengulot-read-plan = record {
+    always = λ κs a. tt;
+    once = λ κs a x y left right h h′.
+        crosses (λ (p : (ℕ × ℕ × ℕ × ℕ) × List ℕ). p .0 .0)
+        (λ p. (tt, (tt, (p .1, (p .0 .1, (p .0 .2, (p .0 .3, tt))))))) h h′;
   };
   siengulot-smooth = record {
     always = λ κs a. tt;
@@ -360,6 +374,10 @@ one-meaning = record {
     send-back (S.Wave cycles) = refl
     send-back (S.Refused f) = ap S.Refused (refusal-back f)
 
+    joined-back : (x : Joined) → plain (λ t. I.Plan (t .rows) (record { 0 = t .dropped })) I.Refused (joinedSays x) ≡ x
+    joined-back (I.Plan rows cycles) = refl
+    joined-back (I.Refused f) = ap I.Refused (refusal-back f)
+
     smooth-back : (x : Smoothed) → plain (λ n. M.Wave (record { 0 = n })) M.Refused (smoothedSays x) ≡ x
     smooth-back (M.Wave cycles) = refl
     smooth-back (M.Refused f) = ap M.Refused (refusal-back f)
@@ -430,6 +448,13 @@ one-meaning = record {
 
     sent : Said Sent (Answer ℕ)
     sent = record { says = sentSays; back = plain (λ n. S.Wave (record { 0 = n })) S.Refused; turns = send-back }
+
+    joined-said : Said Joined (Answer Told)
+    joined-said = record {
+      says = joinedSays;
+      back = plain (λ t. I.Plan (t .rows) (record { 0 = t .dropped })) I.Refused;
+      turns = joined-back;
+    }
 
     smooth-said : Said Smoothed (Answer ℕ)
     smooth-said =

@@ -76,7 +76,7 @@ module _ {tw tr S D : ℕ → ℕ} {w1 w2 r1 r2 end : ℕ} (wclk : Clock tw w1 w
           )
       go (no r) more = (j, omega arith, p, omega arith, here)
 
-  -- After a row nothing is reported up to any read h that starts within the pads that follow, cycles c up to L.
+  -- After a row nothing is reported up to any read h that starts within the high cycles that follow, c up to L.
   module _ (c u L j ρ h : ℕ) (cL : c ≤ L) (e : tw L ≤ end) (ended : Ended tw tr S g Q c u j ρ)
       (known : (i : ℕ) → c + g ≤ i → i < L → S i ≡ 1)
       (high : u ≡ 1 → (i : ℕ) → c ≤ i → i < L → S i ≡ 1) (le : j ≤ h) (to : tr h ≤ tw L) where
@@ -176,7 +176,8 @@ module _ {tw tr S D : ℕ → ℕ} {w1 w2 r1 r2 end : ℕ} (wclk : Clock tw w1 w
   -- A lead from cycle c on, settled but for its first g cycles.
   module _ (c lead i0 : ℕ) (e : tw (c + lead) ≤ end) (high : (i : ℕ) → c + g ≤ i → i < c + lead → S i ≡ 1)
       (reads : Lead tw tr g Q c lead i0) where
-    highs : (h : ℕ) → tr h ≤ tw (c + lead) → (i : ℕ) → i0 ≤ i → i < h → D i ≡ 1
+    -- from its first read on, all that end within it are high
+    pub highs : (h : ℕ) → tr h ≤ tw (c + lead) → (i : ℕ) → i0 ≤ i → i < h → D i ≡ 1
     highs h p = high-reads (c + g) (c + lead) i0 h e high (reads .starts) p
 
     -- from any state the receiver is ready once the lead has been heard
@@ -191,19 +192,16 @@ module _ {tw tr S D : ℕ → ℕ} {w1 w2 r1 r2 end : ℕ} (wclk : Clock tw w1 w
       calm = λ i p q. highs (suc i) q i (omega arith) (omega arith);
     }
 
-  -- from hunting after a row, whose cells end at cycle c, t cycles of trail before the lead: in silence
-  pub readied : (c u t lead j ρ i0 : ℕ) → tw (c + (t + lead)) ≤ end → Ended tw tr S g Q c u j ρ
-      → ((i : ℕ) → c + g ≤ i → i < c + (t + lead) → S i ≡ 1)
-      → (u ≡ 1 → (i : ℕ) → c ≤ i → i < c + (t + lead) → S i ≡ 1) → Lead tw tr g Q (c + t) lead i0
+  -- from hunting after a row, whose cells end at cycle c, before the next lead: in silence
+  pub readied : (c u lead j ρ i0 : ℕ) → tw (c + lead) ≤ end → Ended tw tr S g Q c u j ρ
+      → ((i : ℕ) → c + g ≤ i → i < c + lead → S i ≡ 1)
+      → (u ≡ 1 → (i : ℕ) → c ≤ i → i < c + lead → S i ≡ 1) → Lead tw tr g Q c lead i0
       → Goes k n Q D j (hunting ρ) [] (i0 + Q) (ready Q)
-  readied c u t lead j ρ i0 e ended known high reads =
-      go (before i0 early mid) (before (i0 + Q) (omega (arith, early)) last)
+  readied c u lead j ρ i0 e ended known high reads =
+      go (before i0 early mid) (before (i0 + Q) (omega (arith, early)) (reads .ends))
     where
-      last : tr (i0 + Q) ≤ tw (c + (t + lead))
-      last = subst (λ (x : ℕ). tr (i0 + Q) ≤ tw x) (add-assoc c t lead) (reads .ends)
-
-      mid : tr i0 ≤ tw (c + (t + lead))
-      mid = omega (arith, last, mono rclk i0 (i0 + Q) (omega arith))
+      mid : tr i0 ≤ tw (c + lead)
+      mid = omega (arith, reads .ends, mono rclk i0 (i0 + Q) (omega arith))
 
       early : j ≤ i0
       early = this (decLe j i0)
@@ -211,22 +209,13 @@ module _ {tw tr S D : ℕ → ℕ} {w1 w2 r1 r2 end : ℕ} (wclk : Clock tw w1 w
           this : Dec (j ≤ i0) → j ≤ i0
           this (yes p) = p
           this (no p) =
-              absurd (omega (
-                arith,
-                ended .ends,
-                reads .starts,
-                rclk .low i0,
-                mono rclk (suc i0) j (omega arith),
-                mono wclk (c + g) (c + t + g) (omega arith),
-              ))
+              absurd (omega (arith, ended .ends, reads .starts, rclk .low i0, mono rclk (suc i0) j (omega arith)))
 
-      before : (h : ℕ) → j ≤ h → tr h ≤ tw (c + (t + lead)) → (s : State) × Goes k n Q D j (hunting ρ) [] h s
-      before h p q = silent c u (c + (t + lead)) j ρ h (omega arith) e ended known high p q
+      before : (h : ℕ) → j ≤ h → tr h ≤ tw (c + lead) → (s : State) × Goes k n Q D j (hunting ρ) [] h s
+      before h p q = silent c u (c + lead) j ρ h (omega arith) e ended known high p q
 
       go : (s : State) × Goes k n Q D j (hunting ρ) [] i0 s → (s : State) × Goes k n Q D j (hunting ρ) [] (i0 + Q) s
           → Goes k n Q D j (hunting ρ) [] (i0 + Q) (ready Q)
       go (s, f) (z, f′) =
-          let (es, w) =
-          from-any (c + t) lead i0 (subst (λ (x : ℕ). tw x ≤ end) (sym (add-assoc c t lead)) e)
-          (λ i x y. known i (omega arith) (omega arith)) reads s in
+          let (es, w) = from-any c lead i0 e known reads s in
           subst (λ (x : State). Goes k n Q D j (hunting ρ) [] (i0 + Q) x) (one-way k n Q D f′ (join k n Q D f w) .1) f′

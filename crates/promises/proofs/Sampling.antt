@@ -1,9 +1,10 @@
 -- The counted receiver's rule as a relation, and that it is what a last sample's place is computed by: each mark is the
 -- first read that differs.
 use mathlib.Core.Path.{_≡_, refl}
-use mathlib.Core.Logic.{_≢_}
+use mathlib.Core.Logic.{_≢_, dite}
 use mathlib.Core.List.{List}
 use Prim.Native.Nat.{ℕ, zero, suc, _+_, _-_, _≤_, _<_}
+use native.Mathlib.Decide.{decLe}
 use native.Mathlib.Omega.{arith}
 use lib.ListN.{length, drop, getD}
 use lib.Seq.{drop-cons, drop-drop}
@@ -20,6 +21,14 @@ pub data Samples (k : ℕ) (D : ℕ → ℕ) : ℕ → ℕ → ℕ → ℕ → T
 pub samples-on : {k n v j s : ℕ} {D : ℕ → ℕ} → Samples k D n v j s → j ≤ s
 samples-on none = omega arith
 samples-on (more h same differs next) = omega (arith, samples-on next)
+
+-- reads at the level change nothing
+pub samples-later : {k n v j s : ℕ} {D : ℕ → ℕ} (i : ℕ) → j ≤ i → ((x : ℕ) → j ≤ x → x < i → D x ≡ v) → 0 < n
+    → Samples k D n v j s → Samples k D n v i s
+samples-later i h high some none = absurd (omega arith)
+samples-later i h high some (more {m = m} from same differs next) =
+    more (dite (decLe i m) (λ le. le) (λ gt. absurd (differs (high m from (omega arith)))))
+    (λ x p q. same x (omega arith) q) differs next
 
 -- the mark is read m
 marked-at : (level : ℕ) (R : List ℕ) (d j m : ℕ) → j + d ≡ m → m < length R

@@ -4,8 +4,8 @@ use mathlib.Core.Path.{_≡_, refl, sym}
 use mathlib.Core.Bool.{Bool, true, false, _&&_, false≢true}
 use mathlib.Core.List.{[], _∷_}
 use denote.Ref.{now}
-use lib.Dec.{leb}
-use lib.ListN.{take}
+use lib.Dec.{eqb, leb}
+use lib.ListN.{length, take}
 use Rattle.measure.specs.Choose.{choose}
 use Rattle.measure.specs.Ranges.{subcell, sampling, quiet, padMost, bitsMost, rowBits, rowsMost, entriesMost}
 use Rattle.measure.specs.Ranges.{inputMost, rowSettingsFit}
@@ -16,6 +16,7 @@ use Rattle.settings.specs.Pick.{least, pickable, Best, Picks, out-of-range}
 use Rattle.settings.proofs.PickHolds.{only-one, best-fits}
 use Rattle.sender.specs.Sending.{wave, planWave, rowsOf}
 use Rattle.sender.specs.Answers.{sentMessage, sentPlan, fitting, padded}
+use Rattle.stored.specs.Answers.{readPlan}
 use Rattle.line.specs.Smooth.{smooth as smoothing}
 use Rattle.line.specs.Warp.{warp as warping}
 use Rattle.line.specs.Settle.{settle as settling}
@@ -35,6 +36,7 @@ use Rattle.siengulot.specs.Crossing.{crossed, crossing, flag, judgedThree, judg
 use Rattle.siengulot.specs.Receivers.{named, numbersFit, receiverLent, brought, broughtBy, begunLent, steppedLent}
 use Rattle.siengulot.specs.Receivers.{listenedLent, wellFormedLent}
 use Rattle.siengulot.specs.Picking.{pickedOver}
+use Rattle.siengulot.specs.StoredPlans.{joinedOver}
 use Rattle.promises.specs.Promised.{good, first, Answered, Tells, setting, limit, entries, room}
 use Rattle.promises.specs.GoodInput as Good
 use Rattle.promises.specs.FromC.{Demand1FromC}
@@ -55,24 +57,29 @@ picked a b k w r answer p h =
     go false e = out-of-range e
 
 pub answered : Demand1
-unfolding judgement quietJudgement sentMessage sentPlan smoothed warped settled countedBits begun wellFormed stepped
-    listened checked readBack written output number packed
+unfolding judgement quietJudgement sentMessage sentPlan readPlan smoothed warped settled countedBits begun wellFormed
+    stepped listened checked readBack written output number packed
 answered = record {
   judge = λ a b k w r. within (inRange a b k w r) 1 0 (done refl);
   judge-quiet = λ a b k w r Q p1. within (inRange a b k w r && quiet Q && leb p1 padMost) 1 0 (done refl);
   pick = picked;
-  send = λ a b p1 p2 bits output.
-      within (subcell a && subcell b && leb p1 padMost && leb p2 padMost) 1 0
+  send = λ a b p1 bits output.
+      within (subcell a && subcell b && leb p1 padMost) 1 0
       (past (limit bitsMost bits)
-      (past (limit entriesMost (wave a b p1 p2 bits))
+      (past (limit entriesMost (wave a b p1 bits))
       (past (entries 1 bits)
-      (laid (wave a b p1 p2 bits) output))));
-  send-plan = λ a b n leads trails bits output.
-      within (subcell a && subcell b && rowBits n && fitting n leads trails bits && padded leads && padded trails) 1 0
+      (laid (wave a b p1 bits) output))));
+  send-plan = λ a b n leads bits output.
+      within (subcell a && subcell b && rowBits n && fitting n leads bits && padded leads) 1 0
       (past (limit rowsMost leads)
-      (past (limit entriesMost (planWave a b (rowsOf n leads trails bits)))
+      (past (limit entriesMost (planWave a b (rowsOf n leads bits)))
       (past (entries 1 bits)
-      (laid (planWave a b (rowsOf n leads trails bits)) output))));
+      (laid (planWave a b (rowsOf n leads bits)) output))));
+  read-plan = λ leads trails output.
+      within (leb 1 (length leads) && eqb (length trails) (length leads) && padded leads && padded trails) 1 0
+      (past (Good.tooLong leads trails)
+      (past (limit rowsMost leads)
+      (past (room (length leads) output) (done refl))));
   smooth = λ levels output.
       past (limit entriesMost levels) (past (entries 1 levels) (laid (smoothing levels) output));
   warp = λ w r p levels output.
@@ -134,9 +141,10 @@ answered-from-c = record {
       across (λ answer. judgedFive answer margins) (answered .judge-quiet a b k w r Q p1);
   pick = λ a b k w r number picked so h.
       same (sym (so .crosses)) (across pickedOver (answered .pick a b k w r (so .answer) (so .fits) h));
-  send = λ a b p1 p2 bits output. across (crossing crossed) (answered .send a b p1 p2 bits output);
-  plan = λ a b n leads trails bits output.
-      across (crossing crossed) (answered .send-plan a b n leads trails bits output);
+  send = λ a b p1 bits output. across (crossing crossed) (answered .send a b p1 bits output);
+  plan = λ a b n leads bits output.
+      across (crossing crossed) (answered .send-plan a b n leads bits output);
+  read-plan = λ leads trails output. across (crossing joinedOver) (answered .read-plan leads trails output);
   smooth = λ wave output. across (crossing crossed) (answered .smooth wave output);
   warp = λ w r p wave output. across (crossing crossed) (answered .warp w r p wave output);
   settle = λ reads choices output. across (crossing crossed) (answered .settle reads choices output);

@@ -9,22 +9,25 @@ use Rattle.measure.specs.Lists.{firstAbove}
 use Rattle.settings.specs.Margins.{m1, m2, m3, m4, m5, accepted, quietAccepted}
 use Rattle.settings.specs.Answers.{quietJudgement}
 use Rattle.sender.specs.Sending.{cells, wave, planWave, rowsOf}
+use Rattle.stored.specs.Stored.{storedWave, storedRowsOf, joinedLeads, lastTrail}
 use Rattle.line.specs.Smooth.{smoothFrom}
 use Rattle.line.specs.Warp.{look, dropped, warpFrom, warp}
 use Rattle.line.specs.Settle.{settle}
 use Rattle.line.specs.Passes.{overTheLine}
 use Rattle.counted.specs.Counted.{fromMark}
-use Rattle.board.specs.Rows.{next}
-use Rattle.board.specs.Feeding.{reportsBy}
+use Rattle.board.specs.Rows.{fresh, next}
+use Rattle.board.specs.Feeding.{reports, reportsBy}
 use Rattle.promises.specs.Places.{planReads, cyclesOf, placesWhere, numbered, withinLead, heard, markPlace}
 use Rattle.promises.specs.Places.{samplePlace, lastSample, deliveries}
 use Rattle.promises.specs.Replaced.{WhollyAfter, reportsAt, moved}
-use Rattle.promises.specs.Demand3.{Fitting}
+use Rattle.promises.specs.Demand3.{Fitting, receiverSettings}
+use Rattle.promises.specs.StoredPlans.{itself, storedFrom, storedLead, StoredFits, AsStored}
 use Rattle.promises.specs.Promised.{good}
 use Rattle.promises.specs.WholeWay.{waveOf, warpedOf, Within}
-use Rattle.promises.specs.Tried.{first, second, p10, p10Lent, false-quiet, Tried}
-use Rattle.promises.proofs.Demand3.{demand-3}
+use Rattle.promises.specs.Tried.{first, second, p10, p10Lent, false-quiet, Tried, stored, TriedStored}
+use Rattle.promises.proofs.Demand3.{demand-3, user-wording}
 use Rattle.promises.proofs.WholeWay.{whole-way}
+use Rattle.promises.proofs.StoredPlans.{stored-plans-hold}
 
 fitting : Fitting p10
 unfolding m1 m2 m3 m4 m5
@@ -39,7 +42,7 @@ fitting = record {
   m4 = refl;
 }
 
-wholly-after : WhollyAfter p10 (cyclesOf p10 (first ∷ [])) second 58
+wholly-after : WhollyAfter p10 (cyclesOf p10 (first ∷ [])) (second .lead) 58
 unfolding planWave wave cells
 wholly-after i read lo hi here shares = omega (arith, shares .before-the-end)
 
@@ -72,9 +75,50 @@ tried = record {
   hears = refl;
   reports = refl;
   before = demand-3 p10 fitting .before 54 58 false-quiet (omega arith) (omega arith);
-  after = demand-3 p10 fitting .after 54 58 false-quiet (omega arith) (omega arith)
-      (first ∷ []) second [] refl wholly-after;
+  after = user-wording p10 (reports (receiverSettings p10) fresh 0) fitting (demand-3 p10 fitting) (first ∷ []) second
+      [] refl 54 58 false-quiet (omega arith) (omega arith) wholly-after;
   lent = refl;
   within = within-limits;
   whole-way = whole-way p10Lent within-limits;
 }
+
+stored-fits : StoredFits stored
+unfolding m1 m2 m3 m4 m5 rowsOf
+stored-fits = record {
+  lists = refl;
+  margins = record {
+    phase = omega arith;
+    choices = fitting .choices;
+    some-bits = omega arith;
+    rows = fitting .rows;
+    m1 = refl;
+    m2 = refl;
+    m3 = refl;
+    m4 = refl;
+  };
+}
+
+stored-after : WhollyAfter (itself stored) (storedFrom stored 1) (storedLead stored 1) 63
+unfolding storedWave storedRowsOf wave cells
+stored-after i read lo hi here shares = omega (arith, shares .before-the-end)
+
+pub tried-stored : TriedStored
+unfolding planReads overTheLine settle warp warpFrom look dropped smoothFrom planWave wave cells next reportsBy fromMark
+    placesWhere numbered withinLead heard markPlace samplePlace lastSample deliveries reportsAt moved rowsOf storedWave
+    storedRowsOf joinedLeads lastTrail
+tried-stored = record {
+  fits = stored-fits;
+  not-whole = λ wholly.
+      omega (
+        arith,
+        wholly 59 58 (omega arith) (omega arith) (omega arith)
+            (record { before-the-end = omega arith; after-the-start = omega arith }),
+      );
+  wholly = stored-after;
+  hears = refl;
+  after = shown .as-it-was (reports (receiverSettings p10) fresh 0) (shown .demand 3) (first ∷ [])
+      (record { lead = 28; bits = 0 ∷ 1 ∷ [] }) [] refl 54 63 false-quiet (omega arith) (omega arith) stored-after;
+}
+  where
+    shown : AsStored stored
+    shown = stored-plans-hold stored stored-fits

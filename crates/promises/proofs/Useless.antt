@@ -52,7 +52,7 @@ pub shut-out-1 : ShutOut1
 unfolding good first sentMessage wave cells firstAbove
 shut-out-1 = record {
   refusing = λ line. never (sym (ap (λ (p : Answer ℕ × List ℕ). p .0) (one line .gives refl)));
-  accepting = λ line. never (ap (λ (p : Answer ℕ × List ℕ). p .0) (line 0 1 0 0 (0 ∷ []) lent .refuses refl));
+  accepting = λ line. never (ap (λ (p : Answer ℕ × List ℕ). p .0) (line 0 1 0 (0 ∷ []) lent .refuses refl));
   counting = λ line.
       let e : _≡_ {A = Answer ℕ} (given 3) (given 2) = ap (λ (p : Answer ℕ × List ℕ). p .0) (one line .gives refl) in
       let absurdity : _≡_ {A = ℕ} 3 2 = cc in
@@ -63,7 +63,7 @@ shut-out-1 = record {
       let e : _≡_ {A = ℕ} 2 5 = ap (λ (p : Answer ℕ × List ℕ). getD (p .1) 2 0) (one line .gives refl) in omega arith;
   misplacing = λ line.
       let e : _≡_ {A = Answer ℕ} (refused 2 0) (refused 2 1) =
-      ap (λ (p : Answer ℕ × List ℕ). p .0) (line 1 1 0 0 (0 ∷ 2 ∷ []) lent .refuses refl) in
+      ap (λ (p : Answer ℕ × List ℕ). p .0) (line 1 1 0 (0 ∷ 2 ∷ []) lent .refuses refl) in
       let absurdity : _≡_ {A = ℕ} 0 1 = cc in
       omega arith;
   no-choice = λ tests x y result refusal this that. chosen (good tests) refl this that;
@@ -73,8 +73,8 @@ shut-out-1 = record {
     lent = 5 ∷ 5 ∷ 5 ∷ []
 
     one : {sender : Sender} → Line sender
-        → Fills (Good.send 1 1 0 0 (0 ∷ []) lent) (wave 1 1 0 0 (0 ∷ [])) lent (sender 1 1 0 0 (0 ∷ []) lent)
-    one line = line 1 1 0 0 (0 ∷ []) lent
+        → Fills (Good.send 1 1 0 (0 ∷ []) lent) (wave 1 1 0 (0 ∷ [])) lent (sender 1 1 0 (0 ∷ []) lent)
+    one line = line 1 1 0 (0 ∷ []) lent
 
     chosen : {O : Type 0} {tests : List Test} {x y result : O} {refusal : ℕ → ℕ → O} (passed : Bool)
         → good tests ≡ passed → Answered tests x result refusal → Answered tests y result refusal → x ≡ y

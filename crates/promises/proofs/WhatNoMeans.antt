@@ -7,9 +7,8 @@ use mathlib.Core.List.{[], _∷_}
 use Prim.Native.Nat.{ℕ, _≤_}
 use native.Mathlib.Omega.{arith}
 use Rattle.settings.specs.Margins.{m1, m2, m3, accepted}
-use Rattle.sender.specs.Sending.{wave}
 use Rattle.line.proofs.LineLaws.{over-the-line}
-use Rattle.promises.specs.CountedReturns.{EveryMessageReturned}
+use Rattle.promises.specs.CountedReturns.{followed, EveryMessageReturned}
 use Rattle.promises.specs.WhatNoMeans.{almostAccepted, OneBit, Lost, MarginsAreExact, HarmlessNo}
 use Rattle.promises.proofs.SignedMargins.{almost-margins, margins-almost}
 use Rattle.promises.proofs.CountedReturns.{returned}
@@ -19,7 +18,7 @@ use Rattle.promises.proofs.Exact.{lost-1, lost-2, lost-3}
 -- what is lost with a settling count of 1 is lost on the rules' line
 pub loses-lost : (a b k w r : ℕ) (m : OneBit w) → Loses a b 1 k w r m → Lost a b k w r m
 loses-lost a b k w r m loses =
-    rw (over-the-line w r (m .p) (wave a b (m .p1) (m .p2) (m .bit ∷ [])) (m .choices)) loses
+    rw (over-the-line w r (m .p) (followed a b (m .p1) (m .after) (m .bit ∷ [])) (m .choices)) loses
 
 unless-false : (b : Bool) → (b ≡ false → ⊥) → b ≡ true
 unless-false true h = refl
@@ -38,7 +37,7 @@ module _ (a b k w r : ℕ) (ha : 1 ≤ a) (hk : 1 ≤ k) (hw : 1 ≤ w) (hr : 1 
 
   refute : EveryMessageReturned a b k w r → (m : OneBit w) × Lost a b k w r m → ⊥
   refute every (m, lost) =
-      lost (every (m .p1) (m .p2) (m .p) (m .bit ∷ []) (m .choices) (m .phase) (m .is-bit, tt) (m .are-choices))
+      lost (every (m .p1) (m .after) (m .p) (m .bit ∷ []) (m .choices) (m .phase) (m .is-bit, tt) (m .are-choices))
 
 pub margins-are-exact : MarginsAreExact
 margins-are-exact a b k w r ha hk hw hr = record {

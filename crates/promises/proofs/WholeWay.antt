@@ -1,9 +1,9 @@
 -- Each call's input is good because of what the call before left, so each gives its very result, and these results are
 -- the lists that demand 3 speaks of; the judge's yes is its margins.
 use Prim.Native.Nat.{ℕ, _*_, _≤_}
-use mathlib.Core.Path.{_≡_, refl, ap, _∙_}
+use mathlib.Core.Path.{_≡_, refl, sym, ap, _∙_}
 use mathlib.Core.Bool.{Bool, true, false, _&&_, not}
-use mathlib.Core.List.{List, [], _∷_}
+use mathlib.Core.List.{List, [], _∷_, append-nil}
 use native.Mathlib.Omega.{arith}
 use borrow.Author.Tests.{le-leb, le-ltb, lt-ltb, leb-true, eqb-true, ltb-false, not-false}
 use lib.Dec.{eqb, leb}
@@ -103,14 +103,12 @@ pub record Plan (x : Link) (leads : List ℕ) (rows : List Row) : Type 0 where
   pub same : leadsOf rows ≡ leads
   pub many : length rows ≡ length leads
 
-plan-of : (x : Link) (leads trails bits : List ℕ) → length trails ≡ length leads → length bits ≡ length leads * x .n
-    → Levels bits → Plan x leads (rowsOf (x .n) leads trails bits)
-plan-of x [] trails bits t h levels = rw (rows-none (x .n) trails bits) (record { bits = tt; same = refl; many = refl })
-plan-of x (p1 ∷ leads) [] bits t h levels = absurd (omega arith)
-plan-of x (p1 ∷ leads) (p2 ∷ trails) bits t h levels =
-    let rest = plan-of x leads trails (drop (x .n) bits) (omega arith) (rw length-drop (omega arith))
-    (most-drop 1 (x .n) bits levels) in
-    rw (rows-more (x .n) p1 p2 leads trails bits)
+plan-of : (x : Link) (leads bits : List ℕ) → length bits ≡ length leads * x .n → Levels bits
+    → Plan x leads (rowsOf (x .n) leads bits)
+plan-of x [] bits h levels = rw (rows-none (x .n) bits) (record { bits = tt; same = refl; many = refl })
+plan-of x (p1 ∷ leads) bits h levels =
+    let rest = plan-of x leads (drop (x .n) bits) (rw length-drop (omega arith)) (most-drop 1 (x .n) bits levels) in
+    rw (rows-more (x .n) p1 leads bits)
     (record {
       bits = (omega (arith, length-take (x .n) bits), most-take 1 (x .n) bits levels, rest .bits);
       same = ap (λ (l : List ℕ). p1 ∷ l) (rest .same);
@@ -127,7 +125,10 @@ whole-way y within = record {
   sends = sends;
   smooths = smooths ∙ ap (λ (n : ℕ). (given n, onto (smooth wave) (y .forSmooth))) (length-smooth wave);
   warps = warps;
-  settles = settles ∙ ap (λ (n : ℕ). (given n, onto (planReads x) (y .forSettled))) (length-settle reads (y .choices));
+  settles =
+      settles
+      ∙ ap (λ (n : ℕ). (given n, onto (settle reads (y .choices)) (y .forSettled))) (length-settle reads (y .choices))
+      ∙ ap (λ (l : List ℕ). (given (length reads), onto l (y .forSettled))) plain;
   fits = fits;
   reads = reads-front;
   delivers = λ caller.
@@ -148,9 +149,13 @@ whole-way y within = record {
     reads : List ℕ
     reads = warpedOf y
 
+    -- no cycle follows the plan
+    plain : settle reads (y .choices) ≡ planReads x
+    plain = ap (λ (l : List ℕ). settle (warp (y .w) (y .r) (y .p) (smooth l)) (y .choices)) (sym (append-nil wave))
+
     -- what the plan's tests say
-    in-range : (subcell (y .a) && subcell (y .b) && rowBits (y .n) && fitting (y .n) (y .leads) (y .trails) (y .bits)
-        && padded (y .leads) && padded (y .trails)) ≡ true
+    in-range : (subcell (y .a) && subcell (y .b) && rowBits (y .n) && fitting (y .n) (y .leads) (y .bits)
+        && padded (y .leads)) ≡ true
     in-range = not-false _ (passes _ _ (within .plan) .0)
 
     few : length wave ≤ entriesMost
@@ -160,31 +165,23 @@ whole-way y within = record {
     bits =
         most-none-some 1 (y .bits) (passes _ _ (passes _ _ (passes _ _ (passes _ _ (within .plan) .1) .1) .1) .0)
 
-    outer : (subcell (y .a) && subcell (y .b) && rowBits (y .n) && fitting (y .n) (y .leads) (y .trails) (y .bits))
-        ≡ true
+    outer : (subcell (y .a) && subcell (y .b) && rowBits (y .n) && fitting (y .n) (y .leads) (y .bits)) ≡ true
     outer =
-        both-3 (subcell (y .a) && subcell (y .b) && rowBits (y .n) && fitting (y .n) (y .leads) (y .trails) (y .bits))
-        (padded (y .leads)) (padded (y .trails)) in-range .0
+        both (subcell (y .a) && subcell (y .b) && rowBits (y .n) && fitting (y .n) (y .leads) (y .bits))
+        (padded (y .leads)) in-range .0
 
     row-bits : rowBits (y .n) ≡ true
     row-bits =
         both-3 (subcell (y .a)) (subcell (y .b)) (rowBits (y .n))
-        (both (subcell (y .a) && subcell (y .b) && rowBits (y .n)) (fitting (y .n) (y .leads) (y .trails) (y .bits))
-        outer
-        .0) .2
+        (both (subcell (y .a) && subcell (y .b) && rowBits (y .n)) (fitting (y .n) (y .leads) (y .bits)) outer .0) .2
 
-    lists : (leb 1 (length (y .leads)) ≡ true) × (eqb (length (y .trails)) (length (y .leads)) ≡ true)
-        × (eqb (length (y .bits)) (length (y .leads) * y .n) ≡ true)
+    lists : (leb 1 (length (y .leads)) ≡ true) × (eqb (length (y .bits)) (length (y .leads) * y .n) ≡ true)
     lists =
-        both-3 (leb 1 (length (y .leads))) (eqb (length (y .trails)) (length (y .leads)))
-        (eqb (length (y .bits)) (length (y .leads) * y .n))
-        (both (subcell (y .a) && subcell (y .b) && rowBits (y .n)) (fitting (y .n) (y .leads) (y .trails) (y .bits))
-        outer
-        .1)
+        both (leb 1 (length (y .leads))) (eqb (length (y .bits)) (length (y .leads) * y .n))
+        (both (subcell (y .a) && subcell (y .b) && rowBits (y .n)) (fitting (y .n) (y .leads) (y .bits)) outer .1)
 
     plan : Plan x (y .leads) (x .rows)
-    plan =
-        plan-of x (y .leads) (y .trails) (y .bits) (eqb-true _ _ (lists .1)) (eqb-true _ _ (lists .2)) bits
+    plan = plan-of x (y .leads) (y .bits) (eqb-true _ _ (lists .1)) bits
 
     some-rows : 1 ≤ length (x .rows)
     some-rows = omega (arith, leb-true 1 (length (y .leads)) (lists .0), plan .many)
@@ -222,7 +219,7 @@ whole-way y within = record {
 
     -- the four calls
     sends : sending y ≡ (given (length wave), onto wave (y .forWave))
-    sends = answered .send-plan (y .a) (y .b) (y .n) (y .leads) (y .trails) (y .bits) (y .forWave) .gives (within .plan)
+    sends = answered .send-plan (y .a) (y .b) (y .n) (y .leads) (y .bits) (y .forWave) .gives (within .plan)
 
     levels : AtMost 1 wave
     levels = plan-levels (y .a) (y .b) (x .rows)
@@ -272,4 +269,4 @@ whole-way y within = record {
         (omega (arith, length-settle reads (y .choices), within .settled-room))) none-left)))))
 
     reads-front : front (settling y) ≡ planReads x
-    reads-front = ap front settles ∙ front-is (settle reads (y .choices)) (y .forSettled)
+    reads-front = ap front settles ∙ front-is (settle reads (y .choices)) (y .forSettled) ∙ plain

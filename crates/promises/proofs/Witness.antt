@@ -8,8 +8,8 @@ use native.Mathlib.Decide.{decLe}
 use native.Mathlib.Omega.{arith}
 use lib.ListN.{length, replicate}
 use Rattle.measure.proofs.LevelLaws.{most-replicate}
-use Rattle.sender.specs.Sending.{wave}
 use Rattle.counted.specs.Counted.{counted}
+use Rattle.promises.specs.CountedReturns.{followed}
 use Rattle.promises.specs.WhatNoMeans.{OneBit}
 use Rattle.promises.proofs.Timing.{Margins}
 use Rattle.promises.proofs.Need.{unsettled, settledBy, short-mark, late-sample, early-sample}
@@ -17,7 +17,7 @@ use Rattle.promises.proofs.Need.{unsettled, settledBy, short-mark, late
 -- the message is not returned, with the settling count g
 abbrev pub Loses : (a b g k w r : ℕ) → OneBit w → Type 0
 Loses a b g k w r m =
-    counted k 1 1 (settledBy g w r (m .p) (wave a b (m .p1) (m .p2) (m .bit ∷ [])) (m .choices)) ≢ m .bit ∷ []
+    counted k 1 1 (settledBy g w r (m .p) (followed a b (m .p1) (m .after) (m .bit ∷ [])) (m .choices)) ≢ m .bit ∷ []
 
 -- where the margins are not all minus one or more, one of them is minus two or less
 pub margins-or : {P : Type 0} (a b g k w1 w2 r1 r2 : ℕ) → (Margins a b g k w1 w2 r1 r2 → P)
@@ -33,11 +33,11 @@ margins-or a b g k w1 w2 r1 r2 all one two three =
     (λ h. two (omega arith)))
     (λ h. one (omega arith))
 
--- the last phase, no trail, and so many high choices
+-- the last phase, no cycle after the wave, and so many high choices
 abbrev pub highBit : (w lead bit m : ℕ) → 0 < w → bit ≤ 1 → OneBit w
 highBit w lead bit m some is = record {
   p1 = lead;
-  p2 = 0;
+  after = 0;
   p = w - 1;
   bit = bit;
   choices = replicate m 1;
@@ -46,10 +46,10 @@ highBit w lead bit m some is = record {
   are-choices = most-replicate 1 m 1 (omega arith);
 }
 
--- a 1, no trail and no choices
+-- a 1, no cycle after the wave and no choices
 abbrev pub lowBit : (w lead p : ℕ) → p < w → OneBit w
 lowBit w lead p below =
-    record { p1 = lead; p2 = 0; p = p; bit = 1; choices = []; phase = below; is-bit = omega arith; are-choices = tt }
+    record { p1 = lead; after = 0; p = p; bit = 1; choices = []; phase = below; is-bit = omega arith; are-choices = tt }
 
 nothing : (found : List ℕ) (x : ℕ) → found ≡ [] → found ≢ x ∷ []
 nothing found x none one = omega (arith, ap length (sym none ∙ one))
@@ -63,7 +63,7 @@ least w (suc x) h =
 
 -- the number of reads at the last phase, which is as many choices as can be used
 abbrev pub many : (a b g w r lead bit : ℕ) → ℕ
-many a b g w r lead bit = length (unsettled g w r (w - 1) (wave a b lead 0 (bit ∷ [])))
+many a b g w r lead bit = length (unsettled g w r (w - 1) (followed a b lead 0 (bit ∷ [])))
 
 module _ (a b g k w r : ℕ) (ha : 0 < a) (hg : 0 < g) (hk : 0 < k) (hw : 0 < w) (hr : 0 < r) where
   -- read j starts one time unit before the mark has settled

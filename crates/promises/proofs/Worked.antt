@@ -2,11 +2,13 @@
 use mathlib.Core.List.{List, [], _∷_, _++_}
 use Rattle.measure.specs.Table.{Case, Agree}
 use Rattle.sender.specs.Cases as Sender
+use Rattle.stored.specs.Cases as Stored
 use Rattle.line.specs.Cases as Line
 use Rattle.counted.specs.Cases as Counted
 use Rattle.settings.specs.Cases as Settings
 use Rattle.capture.specs.Cases as Capture
 use Rattle.sender.proofs.CasesHold as SenderHold
+use Rattle.stored.proofs.CasesHold as StoredHold
 use Rattle.line.proofs.CasesHold as LineHold
 use Rattle.counted.proofs.CasesHold as CountedHold
 use Rattle.settings.proofs.CasesHold as SettingsHold
@@ -19,7 +21,9 @@ joined (c ∷ one) other x y = (x .0, joined one other (x .1) y)
 
 pub worked-cases-agree : WorkedCasesAgree
 worked-cases-agree =
-    joined Sender.cases (Line.cases ++ Counted.cases ++ Settings.cases ++ Capture.cases) SenderHold.cases-hold
+    joined Sender.cases (Stored.cases ++ Line.cases ++ Counted.cases ++ Settings.cases ++ Capture.cases)
+    SenderHold.cases-hold
+    (joined Stored.cases (Line.cases ++ Counted.cases ++ Settings.cases ++ Capture.cases) StoredHold.cases-hold
     (joined Line.cases (Counted.cases ++ Settings.cases ++ Capture.cases) LineHold.cases-hold
     (joined Counted.cases (Settings.cases ++ Capture.cases) CountedHold.cases-hold
-    (joined Settings.cases Capture.cases SettingsHold.cases-hold CaptureHold.cases-hold)))
+    (joined Settings.cases Capture.cases SettingsHold.cases-hold CaptureHold.cases-hold))))

@@ -13,7 +13,8 @@ use Rattle.measure.specs.Lists.{firstAbove}
 use Rattle.measure.specs.Refusals.{lent, numberOf, placeOf}
 use Rattle.settings.specs.Answers.{judgement, judgedSays, quietJudgement, quietJudgedSays}
 use Rattle.settings.specs.Pick.{Picks, pickedSays}
-use Rattle.sender.specs.Answers.{sentMessage, sentPlan, sentSays}
+use Rattle.sender.specs.Answers.{padded, sentMessage, sentPlan, sentSays}
+use Rattle.stored.specs.Answers.{readPlan, joinedSays}
 use Rattle.line.specs.Answers.{smoothed, smoothedSays, warped, settled, readSays}
 use Rattle.counted.specs.Answers.{countedBits, countedSays}
 use Rattle.board.specs.Rows.{row, broken}
@@ -29,9 +30,11 @@ use Rattle.page.specs.Answers.{putSays}
 use Rattle.siengulot.specs.Crossing.{crossed, crossing, judgedThree, judgedFive, summed}
 use Rattle.siengulot.specs.Receivers.{begunLent, steppedLent, listenedLent, wellFormedLent}
 use Rattle.siengulot.specs.Picking.{PickCrosses}
+use Rattle.siengulot.specs.StoredPlans.{joinedOver}
 use Rattle.measure.proofs as Measure
 use Rattle.settings.proofs as Settings
 use Rattle.sender.proofs as Sender
+use Rattle.stored.proofs as Stored
 use Rattle.line.proofs as Line
 use Rattle.counted.proofs as Counted
 use Rattle.board.proofs as Board
@@ -80,11 +83,18 @@ pub record ByContract : Type 0 where
       Picks (a .0) (b .0) (w .0) (r .0) (pickedSays x)
   -- sender
   pub send : Says Sender.send.ended Sender.send.Reads.Post
-      λ κs (a, (b, (p1, (p2, (bits, (out, _)))))) x (_, (_, (_, (_, (_, (out′, _)))))).
-      sentMessage (a .0) (b .0) (p1 .0) (p2 .0) (now bits) (now out) ≡ (sentSays x, out′)
+      λ κs (a, (b, (p1, (bits, (out, _))))) x (_, (_, (_, (_, (out′, _))))).
+      sentMessage (a .0) (b .0) (p1 .0) (now bits) (now out) ≡ (sentSays x, out′)
   pub send-plan : Says Sender.send_plan.ended Sender.send_plan.Reads.Post
-      λ κs (a, (b, (n, (leads, (trails, (bits, (out, _))))))) x (_, (_, (_, (_, (_, (_, (out′, _))))))).
-      sentPlan (a .0) (b .0) n (now leads) (now trails) (now bits) (now out) ≡ (sentSays x, out′)
+      λ κs (a, (b, (n, (leads, (bits, (out, _)))))) x (_, (_, (_, (_, (_, (out′, _)))))).
+      sentPlan (a .0) (b .0) n (now leads) (now bits) (now out) ≡ (sentSays x, out′)
+  pub pads-in-range : Says Sender.pads_in_range.ended Sender.pads_in_range.Reads.Post
+      λ κs (pads, _) x _.
+      x ≡ padded (now pads)
+  -- stored
+  pub read-plan : Says Stored.read_plan.ended Stored.read_plan.Reads.Post
+      λ κs (leads, (trails, (out, _))) x (_, (_, (out′, _))).
+      readPlan (now leads) (now trails) (now out) ≡ (joinedSays x, out′)
   -- line
   pub smooth : Says Line.smooth.ended Line.smooth.Reads.Post
       λ κs (wave, (out, _)) x (_, (out′, _)).
@@ -169,15 +179,19 @@ pub record ByContract : Type 0 where
       λ κs (a, (b, (w, (r, (k, _))))) x (_, (_, (_, (_, (k′, _))))).
       PickCrosses a b w r x k′
   pub siengulot-send : Says C.siengulot_send.ended C.siengulot_send.Reads.Post
-      λ κs (a, (b, (p1, (p2, (bits, (out, (place, (count, _)))))))) x
-      (_, (_, (_, (_, (_, (out′, (place′, (count′, _)))))))).
-      crossing crossed (sentMessage a b p1 p2 (now bits) (now out))
+      λ κs (a, (b, (p1, (bits, (out, (place, (count, _))))))) x (_, (_, (_, (_, (out′, (place′, (count′, _))))))).
+      crossing crossed (sentMessage a b p1 (now bits) (now out))
       ≡ ((x, place′, count′), out′)
   pub siengulot-plan : Says C.siengulot_plan.ended C.siengulot_plan.Reads.Post
-      λ κs (a, (b, (n, (leads, (trails, (bits, (out, (place, (count, _))))))))) x
-      (_, (_, (_, (_, (_, (_, (out′, (place′, (count′, _))))))))).
-      crossing crossed (sentPlan a b n (now leads) (now trails) (now bits) (now out))
+      λ κs (a, (b, (n, (leads, (bits, (out, (place, (count, _)))))))) x
+      (_, (_, (_, (_, (_, (out′, (place′, (count′, _)))))))).
+      crossing crossed (sentPlan a b n (now leads) (now bits) (now out))
       ≡ ((x, place′, count′), out′)
+  pub siengulot-read-plan : Says C.siengulot_read_plan.ended C.siengulot_read_plan.Reads.Post
+      λ κs (leads, (trails, (out, (place, (count, (dropped, _)))))) x
+      (_, (_, (out′, (place′, (count′, (dropped′, _)))))).
+      crossing joinedOver (readPlan (now leads) (now trails) (now out))
+      ≡ ((x, place′, count′, dropped′), out′)
   pub siengulot-smooth : Says C.siengulot_smooth.ended C.siengulot_smooth.Reads.Post
       λ κs (wave, (out, (place, (count, _)))) x (_, (out′, (place′, (count′, _)))).
       crossing crossed (smoothed (now wave) (now out)) ≡ ((x, place′, count′), out′)

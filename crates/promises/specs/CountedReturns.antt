@@ -3,7 +3,7 @@
 use Prim.Native.Nat.{ℕ, _+_, _*_, _≤_, _<_}
 use mathlib.Core.Path.{_≡_}
 use mathlib.Core.Bool.{true}
-use mathlib.Core.List.{List, [], _∷_}
+use mathlib.Core.List.{List, [], _∷_, _++_}
 use lib.ListN.{length}
 use Rattle.measure.specs.Choose.{between}
 use Rattle.measure.specs.Ranges.{sampling, bitsMost, entriesMost}
@@ -11,24 +11,29 @@ use Rattle.measure.specs.Levels.{Levels}
 use Rattle.measure.specs.Lists.{onto}
 use Rattle.measure.specs.Refusals.{given}
 use Rattle.settings.specs.Margins.{accepted}
-use Rattle.sender.specs.Sending.{wave}
+use Rattle.sender.specs.Sending.{pad, wave}
 use Rattle.line.specs.Passes.{overTheLine}
 use Rattle.counted.specs.Counted.{counted}
 use Rattle.counted.specs.Answers.{countedBits}
 
--- the reads of a message that is sent and goes over the line
-abbrev pub messageReads : (a b w r p1 p2 p : ℕ) (bits choices : List ℕ) → List ℕ
-messageReads a b w r p1 p2 p bits choices = overTheLine w r p (wave a b p1 p2 bits) choices
+-- M20: the wave of a message, followed by so many high cycles, 0 included
+abbrev pub followed : (a b p1 after : ℕ) (bits : List ℕ) → List ℕ
+followed a b p1 after bits = wave a b p1 bits ++ pad after
+
+-- the reads of a message that is sent, is so followed and goes over the line
+abbrev pub messageReads : (a b w r p1 after p : ℕ) (bits choices : List ℕ) → List ℕ
+messageReads a b w r p1 after p bits choices = overTheLine w r p (followed a b p1 after bits) choices
 
 -- M20: what the counted receiver, started high, finds in them
-abbrev pub received : (a b k w r p1 p2 p : ℕ) (bits choices : List ℕ) → List ℕ
-received a b k w r p1 p2 p bits choices = counted k (length bits) 1 (messageReads a b w r p1 p2 p bits choices)
+abbrev pub received : (a b k w r p1 after p : ℕ) (bits choices : List ℕ) → List ℕ
+received a b k w r p1 after p bits choices = counted k (length bits) 1 (messageReads a b w r p1 after p bits choices)
 
--- M20: every message is returned, with any pads, 0 included, at any phase, and with any choices
+-- M20: every message is returned, with any lead and any number of high cycles after it, 0 included, at any phase, and
+-- with any choices
 abbrev pub EveryMessageReturned : (a b k w r : ℕ) → Type 0
 EveryMessageReturned a b k w r =
-    (p1 p2 p : ℕ) (bits choices : List ℕ) → p < w → Levels bits → Levels choices
-    → received a b k w r p1 p2 p bits choices ≡ bits
+    (p1 after p : ℕ) (bits choices : List ℕ) → p < w → Levels bits → Levels choices
+    → received a b k w r p1 after p bits choices ≡ bits
 
 -- M20: the theorem: accepted settings return every message
 abbrev pub AcceptedReturn : Type 0
@@ -37,11 +42,11 @@ AcceptedReturn = (a b k w r : ℕ) → accepted a b k w r ≡ true → EveryMess
 -- M20: What that means for the operation: where its own ranges, limits and room are kept, it answers with the number of
 -- bits, and these stand at the output's front.
 abbrev pub OperationReturns : Type 0
-OperationReturns = (a b k w r p1 p2 p : ℕ) (bits choices output : List ℕ) → accepted a b k w r ≡ true → p < w
+OperationReturns = (a b k w r p1 after p : ℕ) (bits choices output : List ℕ) → accepted a b k w r ≡ true → p < w
     → Levels bits → Levels choices
-    → sampling k ≡ true → length bits ≤ bitsMost → length (messageReads a b w r p1 p2 p bits choices) ≤ entriesMost
+    → sampling k ≡ true → length bits ≤ bitsMost → length (messageReads a b w r p1 after p bits choices) ≤ entriesMost
     → length bits ≤ length output
-    → countedBits k (length bits) 1 (messageReads a b w r p1 p2 p bits choices) output
+    → countedBits k (length bits) 1 (messageReads a b w r p1 after p bits choices) output
     ≡ (given (length bits), onto bits output)
 
 -- M21: w / r is within one part in n of unity: from 1 - 1/n to 1 + 1/n

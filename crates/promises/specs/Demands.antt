@@ -7,7 +7,7 @@ use mathlib.Core.Path.{_≡_}
 use mathlib.Core.Bool.{true, false}
 use mathlib.Core.List.{List}
 use denote.Ref.{RefT, now}
-use lib.ListN.{take}
+use lib.ListN.{length, take}
 use Rattle.measure.specs.Ranges.{rowSettingsFit}
 use Rattle.measure.specs.Lists.{onto}
 use Rattle.measure.specs.Refusals.{Answer, given, refused, numberOf, placeOf}
@@ -16,6 +16,9 @@ use Rattle.settings.specs.Answers.{judgement, quietJudgement}
 use Rattle.settings.specs.Pick.{Best, Picks}
 use Rattle.sender.specs.Sending.{wave, planWave, rowsOf}
 use Rattle.sender.specs.Answers.{sentMessage, sentPlan}
+use Rattle.stored.specs.Stored.{joined, dropped}
+use Rattle.stored.specs.Answers.{readPlan}
+use Rattle.stored.specs.Shown.{SameWave}
 use Rattle.line.specs.Smooth.{smooth as smoothing}
 use Rattle.line.specs.Warp.{warp as warping}
 use Rattle.line.specs.Settle.{settle as settling}
@@ -48,7 +51,8 @@ use Rattle.promises.specs.OneMeaning.{OneMeaning}
 use Rattle.promises.specs.CountedReturns.{OperationReturns}
 use Rattle.promises.specs.Picked.{PickedCounts}
 use Rattle.promises.specs.Places.{Link}
-use Rattle.promises.specs.Demand3.{Fitting, receiverSettings, Demand3, Demand3Holds, GroundsHold}
+use Rattle.promises.specs.Demand3.{Fitting, receiverSettings, Demand3, UserWording, Demand3Holds, GroundsHold}
+use Rattle.promises.specs.StoredPlans.{EveryStoredPlan, StoredPlansHold}
 use Rattle.promises.specs.Hearing.{Caller, hearing, Hears}
 use Rattle.promises.specs.WholeWay.{AcceptedFits, WholeWayHolds}
 
@@ -63,11 +67,15 @@ pub record Demand1 : Type 0 where
   -- the answer that the picker's contract allows, told of the best k
   pub pick : (a b k w r : ℕ) (answer : Answer ℕ) → Picks a b w r answer → Best a b k w r
       → Tells (Good.pick a b k w r) k answer
-  pub send : (a b p1 p2 : ℕ) (bits output : List ℕ)
-      → Fills (Good.send a b p1 p2 bits output) (wave a b p1 p2 bits) output (sentMessage a b p1 p2 bits output)
-  pub send-plan : (a b n : ℕ) (leads trails bits output : List ℕ)
-      → Fills (Good.sendPlan a b n leads trails bits output) (planWave a b (rowsOf n leads trails bits)) output
-      (sentPlan a b n leads trails bits output)
+  pub send : (a b p1 : ℕ) (bits output : List ℕ)
+      → Fills (Good.send a b p1 bits output) (wave a b p1 bits) output (sentMessage a b p1 bits output)
+  pub send-plan : (a b n : ℕ) (leads bits output : List ℕ)
+      → Fills (Good.sendPlan a b n leads bits output) (planWave a b (rowsOf n leads bits)) output
+      (sentPlan a b n leads bits output)
+  pub read-plan : (leads trails output : List ℕ)
+      → Answered (Good.readPlan leads trails output) (readPlan leads trails output)
+      (given (record { rows = length leads; dropped = dropped trails }), onto (joined leads trails) output)
+      (λ number place. (refused number place, output))
   pub smooth : (wave output : List ℕ) → Fills (Good.smooth wave output) (smoothing wave) output (smoothed wave output)
   pub warp : (w r p : ℕ) (wave output : List ℕ)
       → Fills (Good.warp w r p wave output) (warping w r p wave) output (warped w r p wave output)
@@ -126,6 +134,8 @@ pub record Demand1 : Type 0 where
 
 -- D2: what goes over the line is what the rules make of it, from the sender to the receivers and to a capture.
 pub record Demand2 : Type 0 where
+  -- a stored plan is read into a plan with the same wave, but for the cycles that are dropped
+  pub stored : SameWave
   -- what a read looks at, and how many reads there are
   pub line : WarpLawsHold
   -- accepted settings return every message
@@ -144,10 +154,12 @@ pub record Demand2 : Type 0 where
   pub writes-rows : Whole
 
 -- D3: each row of a plan is delivered once and in order; and where a stretch of reads is replaced by any others, each
--- row again from the next lead quiet that is heard. It holds of the rules, with its grounds, and of every caller: of
--- `step` with one read a call, of `listen` with a list a call, and of both from C.
+-- row again from the next lead quiet that is heard. It holds of the rules, with the user's own wording as a case and
+-- with its grounds, and of every caller: of `step` with one read a call, of `listen` with a list a call, and of both
+-- from C.
 pub record Demand3Met : Type 0 where
   pub of-the-rules : Demand3Holds
+  pub in-the-users-words : UserWording
   pub grounds : GroundsHold
   pub of-every-caller : (x : Link) → Fitting x → rowSettingsFit (x .k) (x .n) (x .Q) ≡ true → (caller : Caller)
       → Demand3 x (hearing caller (receiverSettings x))
@@ -155,8 +167,11 @@ pub record Demand3Met : Type 0 where
   -- to the delivered rows, call after call
   pub judged : AcceptedFits
   pub whole-way : WholeWayHolds
+  -- and of a plan that was stored with trail pads, with nothing lost of what it says of the stored plan
+  pub every-stored-plan : EveryStoredPlan
+  pub stored-plans : StoredPlansHold
 
--- D1, D2, D3: what the contracts say, and the three demands, the first also of the sixteen entry points for C
+-- D1, D2, D3: what the contracts say, and the three demands, the first also of the seventeen entry points for C
 pub record Demands : Type 0 where
   pub contracts : ByContract
   pub one-meaning : OneMeaning

@@ -1,5 +1,5 @@
--- Demand 1 of the sixteen entry points for C. The tests are those of the operations. What crosses is a number, 0 for no
--- refusal, and what is left behind each pointer.
+-- Demand 1 of the seventeen entry points for C. The tests are those of the operations. What crosses is a number, 0 for
+-- no refusal, and what is left behind each pointer.
 use Prim.Native.Nat.{ℕ}
 use mathlib.Core.List.{List, [], _∷_}
 use lib.IntN.{ℤ}
@@ -10,6 +10,8 @@ use Rattle.settings.specs.Answers.{judgement, quietJudgement}
 use Rattle.settings.specs.Pick.{Best}
 use Rattle.sender.specs.Sending.{wave, planWave, rowsOf}
 use Rattle.sender.specs.Answers.{sentMessage, sentPlan}
+use Rattle.stored.specs.Stored.{joined, dropped}
+use Rattle.stored.specs.Answers.{readPlan}
 use Rattle.line.specs.Smooth.{smooth as smoothing}
 use Rattle.line.specs.Warp.{warp as warping}
 use Rattle.line.specs.Settle.{settle as settling}
@@ -27,6 +29,7 @@ use Rattle.siengulot.specs.Crossing.{crossed, crossing, flag, judgedThree, judg
 use Rattle.siengulot.specs.Receivers.{Lent, Reply, named, numbersFit, receiverLent, brought, broughtBy, begunLent}
 use Rattle.siengulot.specs.Receivers.{steppedLent, listenedLent, wellFormedLent}
 use Rattle.siengulot.specs.Picking.{PickCrosses}
+use Rattle.siengulot.specs.StoredPlans.{joinedOver}
 use Rattle.promises.specs.GoodInput as Good
 use Rattle.promises.specs.Promised.{Answered, FillsFromC, setting}
 
@@ -54,12 +57,17 @@ pub record Demand1FromC : Type 0 where
   -- H11: picking: the number, and k, which is 0 with a refusal
   pub pick : (a b k w r number picked : ℕ) → PickCrosses a b w r number picked → Best a b k w r
       → Answered {O = ℕ × ℕ} (Good.pick a b k w r) (number, picked) (0, k) (λ number place. (number, 0))
-  pub send : (a b p1 p2 : ℕ) (bits output : List ℕ)
-      → FillsFromC (Good.send a b p1 p2 bits output) (wave a b p1 p2 bits) output
-      (crossing crossed (sentMessage a b p1 p2 bits output))
-  pub plan : (a b n : ℕ) (leads trails bits output : List ℕ)
-      → FillsFromC (Good.sendPlan a b n leads trails bits output) (planWave a b (rowsOf n leads trails bits)) output
-      (crossing crossed (sentPlan a b n leads trails bits output))
+  pub send : (a b p1 : ℕ) (bits output : List ℕ)
+      → FillsFromC (Good.send a b p1 bits output) (wave a b p1 bits) output
+      (crossing crossed (sentMessage a b p1 bits output))
+  pub plan : (a b n : ℕ) (leads bits output : List ℕ)
+      → FillsFromC (Good.sendPlan a b n leads bits output) (planWave a b (rowsOf n leads bits)) output
+      (crossing crossed (sentPlan a b n leads bits output))
+  -- H12: a stored plan: the number of rows and the cycles dropped, both 0 with a refusal
+  pub read-plan : (leads trails output : List ℕ)
+      → Answered (Good.readPlan leads trails output) (crossing joinedOver (readPlan leads trails output))
+      ((0, 0, length leads, dropped trails), onto (joined leads trails) output)
+      (λ number place. ((number, place, 0, 0), output))
   pub smooth : (wave output : List ℕ)
       → FillsFromC (Good.smooth wave output) (smoothing wave) output (crossing crossed (smoothed wave output))
   pub warp : (w r p : ℕ) (wave output : List ℕ)

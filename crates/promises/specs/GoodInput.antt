@@ -13,6 +13,7 @@ use Rattle.settings.specs.Margins.{zeroOrMore}
 use Rattle.settings.specs.Pick.{least, pickable}
 use Rattle.sender.specs.Sending.{wave, planWave, rowsOf}
 use Rattle.sender.specs.Answers.{fitting, padded}
+use Rattle.stored.specs.Stored.{joined}
 use Rattle.line.specs.Smooth.{smooth as smoothing}
 use Rattle.line.specs.Warp.{warp as warping}
 use Rattle.line.specs.Settle.{settle as settling}
@@ -44,24 +45,42 @@ pick a b k w r =
     ∷ record { number = 9; place = 0; failed = not (zeroOrMore (least a b k w r)) }
     ∷ []
 
--- R42: sending; a plan is lent as its lead pads, its trail pads and the bits of all rows
-abbrev pub send : (a b p1 p2 : ℕ) (bits output : List ℕ) → List Test
-send a b p1 p2 bits output =
-    setting (subcell a && subcell b && leb p1 padMost && leb p2 padMost)
+-- R42: sending; a plan is lent as its lead pads and the bits of all rows
+abbrev pub send : (a b p1 : ℕ) (bits output : List ℕ) → List Test
+send a b p1 bits output =
+    setting (subcell a && subcell b && leb p1 padMost)
     ∷ limit bitsMost bits
-    ∷ limit entriesMost (wave a b p1 p2 bits)
+    ∷ limit entriesMost (wave a b p1 bits)
     ∷ entries 1 bits
-    ∷ room (length (wave a b p1 p2 bits)) output
+    ∷ room (length (wave a b p1 bits)) output
     ∷ []
 
 -- R43
-abbrev pub sendPlan : (a b n : ℕ) (leads trails bits output : List ℕ) → List Test
-sendPlan a b n leads trails bits output =
-    setting (subcell a && subcell b && rowBits n && fitting n leads trails bits && padded leads && padded trails)
+abbrev pub sendPlan : (a b n : ℕ) (leads bits output : List ℕ) → List Test
+sendPlan a b n leads bits output =
+    setting (subcell a && subcell b && rowBits n && fitting n leads bits && padded leads)
     ∷ limit rowsMost leads
-    ∷ limit entriesMost (planWave a b (rowsOf n leads trails bits))
+    ∷ limit entriesMost (planWave a b (rowsOf n leads bits))
     ∷ entries 1 bits
-    ∷ room (length (planWave a b (rowsOf n leads trails bits))) output
+    ∷ room (length (planWave a b (rowsOf n leads bits))) output
+    ∷ []
+
+-- R59: reading a stored plan: the first row whose joined lead pad is too long has its place
+abbrev pub tooLong : (leads trails : List ℕ) → Test
+tooLong leads trails =
+    record {
+      number = 1;
+      place = firstAbove padMost (joined leads trails);
+      failed = someAbove padMost (joined leads trails);
+    }
+
+-- R59
+abbrev pub readPlan : (leads trails output : List ℕ) → List Test
+readPlan leads trails output =
+    setting (leb 1 (length leads) && eqb (length trails) (length leads) && padded leads && padded trails)
+    ∷ tooLong leads trails
+    ∷ limit rowsMost leads
+    ∷ room (length leads) output
     ∷ []
 
 -- R44: the three passes: smooth takes levels, warp unknowns too, and settle searches the reads before the choices

@@ -1,6 +1,7 @@
 pub mod Places
 pub mod Replaced
 pub mod Demand3
+pub mod StoredPlans
 pub mod Hearing
 pub mod Promised
 pub mod GoodInput

@@ -16,6 +16,7 @@ use Rattle.capture.specs.declared.held.CaptureReader.{CaptureReader}
 use Rattle.measure.proofs as Measure
 use Rattle.settings.proofs as Settings
 use Rattle.sender.proofs as Sender
+use Rattle.stored.proofs as Stored
 use Rattle.line.proofs as Line
 use Rattle.counted.proofs as Counted
 use Rattle.board.proofs as Board
@@ -59,6 +60,9 @@ pub record OneMeaning : Type 0 where
   -- sender
   pub send : One Sender.send.ended Sender.send.Reads.Asked Sender.send.Reads.Post
   pub send-plan : One Sender.send_plan.ended Sender.send_plan.Reads.Asked Sender.send_plan.Reads.Post
+  pub pads-in-range : One Sender.pads_in_range.ended Sender.pads_in_range.Reads.Asked Sender.pads_in_range.Reads.Post
+  -- stored
+  pub read-plan : One Stored.read_plan.ended Stored.read_plan.Reads.Asked Stored.read_plan.Reads.Post
   -- line
   pub smooth : One Line.smooth.ended Line.smooth.Reads.Asked Line.smooth.Reads.Post
   pub warp : One Line.warp.ended Line.warp.Reads.Asked Line.warp.Reads.Post
@@ -95,6 +99,8 @@ pub record OneMeaning : Type 0 where
   pub siengulot-pick : One C.siengulot_pick.ended C.siengulot_pick.Reads.Asked C.siengulot_pick.Reads.Post
   pub siengulot-send : One C.siengulot_send.ended C.siengulot_send.Reads.Asked C.siengulot_send.Reads.Post
   pub siengulot-plan : One C.siengulot_plan.ended C.siengulot_plan.Reads.Asked C.siengulot_plan.Reads.Post
+  pub siengulot-read-plan :
+      One C.siengulot_read_plan.ended C.siengulot_read_plan.Reads.Asked C.siengulot_read_plan.Reads.Post
   pub siengulot-smooth : One C.siengulot_smooth.ended C.siengulot_smooth.Reads.Asked C.siengulot_smooth.Reads.Post
   pub siengulot-warp : One C.siengulot_warp.ended C.siengulot_warp.Reads.Asked C.siengulot_warp.Reads.Post
   pub siengulot-settle : One C.siengulot_settle.ended C.siengulot_settle.Reads.Asked C.siengulot_settle.Reads.Post

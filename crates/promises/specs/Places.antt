@@ -1,19 +1,20 @@
 -- A plan over a link: its settled reads, with which of them a row's lead quiet has been heard, and where its last
 -- sample falls. None of this asks the row receiver.
-use Prim.Native.Nat.{ℕ, zero, suc, _+_}
+use Prim.Native.Nat.{ℕ, zero, suc, _+_, _-_}
 use mathlib.Core.Bool.{Bool, true, false, _&&_}
-use mathlib.Core.List.{List, [], _∷_}
+use mathlib.Core.List.{List, [], _∷_, _++_}
 use lib.ListN.{length, drop}
 use lib.Dec.{eqb, leb}
 use Rattle.measure.specs.Choose.{choose}
-use Rattle.sender.specs.Sending.{Row, planWave}
+use Rattle.sender.specs.Sending.{Row, pad, planWave}
 use Rattle.line.specs.Warp.{cycleStart, readStart}
 use Rattle.line.specs.Passes.{overTheLine}
 use Rattle.counted.specs.Counted.{fromMark}
 use Rattle.board.specs.Rows.{row as delivered}
 use Rattle.board.specs.Feeding.{Report}
 
--- D10: the settings of a link, the plan sent over it, and what the line chooses for unknown reads
+-- D10: the settings of a link, the plan sent over it, how many high cycles come after the plan, and what the line
+-- chooses for unknown reads
 pub record Link : Type 0 where
   pub a : ℕ
   pub b : ℕ
@@ -24,15 +25,25 @@ pub record Link : Type 0 where
   pub Q : ℕ
   pub p : ℕ
   pub rows : List Row
+  pub highAfter : ℕ
   pub choices : List ℕ
 
--- D10: the settled reads: the plan's wave after the three passes of the line
+-- D10: what goes over the line: the plan's wave, and so many high cycles after it
+abbrev pub lineWave : Link → List ℕ
+lineWave x = planWave (x .a) (x .b) (x .rows) ++ pad (x .highAfter)
+
+-- D10: the settled reads: that wave after the three passes of the line
 unfoldable pub planReads : Link → List ℕ
-planReads x = overTheLine (x .w) (x .r) (x .p) (planWave (x .a) (x .b) (x .rows)) (x .choices)
+planReads x = overTheLine (x .w) (x .r) (x .p) (lineWave x) (x .choices)
 
 -- D14: how many cycles rows have, one after another
 abbrev pub cyclesOf : Link → List Row → ℕ
 cyclesOf x rows = length (planWave (x .a) (x .b) rows)
+
+-- D12, D14: the cycle with which the last m lead cycles of a row begin that comes after these rows; with m its lead it
+-- is the row's first
+abbrev pub lastFrom : (x : Link) (earlier : List Row) (row : Row) (m : ℕ) → ℕ
+lastFrom x earlier row m = cyclesOf x earlier + (row .lead - m)
 
 -- D14: an entry before others, where a test holds
 abbrev pub keep : {A : Type 0} → Bool → A → List A → List A
@@ -57,13 +68,13 @@ wholly x from to read =
     leb (cycleStart (x .w) from) (readStart (x .p) (x .r) read)
     && leb (readStart (x .p) (x .r) (suc read)) (cycleStart (x .w) to)
 
--- D14: the reads that lie wholly within the lead cycles, without the first, of a row whose lead begins with this cycle
-unfoldable pub withinLead : (x : Link) (cycle : ℕ) (row : Row) → List ℕ
-withinLead x cycle row = placesWhere (wholly x (suc cycle) (cycle + row .lead)) 0 (length (planReads x))
+-- D14: the reads that lie wholly within lead cycles, so many from this cycle on, without the first of them
+unfoldable pub withinLead : (x : Link) (cycle lead : ℕ) → List ℕ
+withinLead x cycle lead = placesWhere (wholly x (suc cycle) (cycle + lead)) 0 (length (planReads x))
 
--- D14: the read at which its lead counts as heard: number Q of these
-unfoldable pub heard : (x : Link) (cycle : ℕ) (row : Row) → ℕ
-heard x cycle row = numbered (x .Q) (withinLead x cycle row)
+-- D14: the read at which these lead cycles count as heard: number Q of these
+unfoldable pub heard : (x : Link) (cycle lead : ℕ) → ℕ
+heard x cycle lead = numbered (x .Q) (withinLead x cycle lead)
 
 -- C1: the place of the mark, where the first of these reads has this place
 unfoldable pub markPlace : (level place : ℕ) (reads : List ℕ) → ℕ
@@ -81,10 +92,13 @@ samplePlace k zero level place reads = place
 samplePlace k (suc n) level place reads =
     fromSample (samplePlace k n) (markPlace level place reads + k) (drop k (fromMark level reads))
 
--- D15: a row's last sample: the n-th by that rule, started high at the read after its lead quiet has been heard
+-- D15: the n-th sample by that rule, started high at the read after this one
+abbrev pub lastAfter : (x : Link) (read : ℕ) → ℕ
+lastAfter x read = samplePlace (x .k) (x .n) 1 (suc read) (drop (suc read) (planReads x))
+
+-- D15: a row's last sample: the one after its whole lead has been heard
 unfoldable pub lastSample : (x : Link) (cycle : ℕ) (row : Row) → ℕ
-lastSample x cycle row =
-    samplePlace (x .k) (x .n) 1 (suc (heard x cycle row)) (drop (suc (heard x cycle row)) (planReads x))
+lastSample x cycle row = lastAfter x (heard x cycle (row .lead))
 
 -- D16, D17: rows, the first of which begins with this cycle, each delivered once, at its last sample, in order
 unfoldable pub deliveries : (x : Link) (cycle : ℕ) (rows : List Row) → List Report

@@ -1,11 +1,10 @@
--- A stretch of a link's settled reads that is replaced by any others: which rows are read wholly after it, and where it
--- moves the reports.
+-- A stretch of a link's settled reads that is replaced by any others: which lead cycles are read wholly after it, and
+-- where it moves the reports.
 use Prim.Native.Nat.{ℕ, _+_, _-_, _≤_, _<_}
 use mathlib.Core.Bool.{Bool}
 use mathlib.Core.List.{List, [], _∷_, _++_}
 use lib.ListN.{length, take, drop}
 use lib.Dec.{ltb}
-use Rattle.sender.specs.Sending.{Row}
 use Rattle.line.specs.Warp.{cycleStart, readStart}
 use Rattle.line.specs.Sharing.{Shares}
 use Rattle.board.specs.Feeding.{Report}
@@ -15,11 +14,11 @@ use Rattle.promises.specs.Places.{Link, planReads, keep}
 abbrev pub damaged : (x : Link) (i j : ℕ) (junk : List ℕ) → List ℕ
 damaged x i j junk = take i (planReads x) ++ junk ++ drop j (planReads x)
 
--- D12: which leads count after a stretch that ends before place j, for a row whose lead begins with this cycle:
--- no read that overlaps its lead cycles in time stands before j.
-abbrev pub WhollyAfter : (x : Link) (cycle : ℕ) (row : Row) (j : ℕ) → Type 0
-WhollyAfter x cycle row j =
-    (i read : ℕ) → cycle ≤ i → i < cycle + row .lead → read < length (planReads x)
+-- D12: which lead cycles count after a stretch that ends before place j, so many from this cycle on: no read that
+-- overlaps one of them in time stands before j.
+abbrev pub WhollyAfter : (x : Link) (cycle lead j : ℕ) → Type 0
+WhollyAfter x cycle lead j =
+    (i read : ℕ) → cycle ≤ i → i < cycle + lead → read < length (planReads x)
     → Shares (cycleStart (x .w)) (readStart (x .p) (x .r)) read i → j ≤ read
 
 -- D16, D17: the reports whose places pass a test; those below a place and those above it

@@ -1,5 +1,5 @@
--- Demand 3 tried at P10's settings: two rows, and four reads between their last samples replaced by a false quiet with
--- a false mark after it.
+-- Demand 3 tried at P10's settings: two rows, and reads between their last samples replaced by a false quiet with a
+-- false mark after it; and tried of the same rows stored with a trail pad.
 use Prim.Native.Nat.{ℕ}
 use mathlib.Core.Path.{_≡_}
 use mathlib.Core.List.{List, [], _∷_, _++_}
@@ -11,14 +11,15 @@ use Rattle.promises.specs.Places.{Link, cyclesOf, heard, deliveries}
 use Rattle.promises.specs.Replaced.{WhollyAfter, damaged, below, above}
 use Rattle.promises.specs.Demand3.{Fitting, Demand3, receiverSettings}
 use Rattle.promises.specs.WholeWay.{Way, linkOf, Within, WholeWay}
+use Rattle.promises.specs.StoredPlans.{StoredLink, itself, storedFrom, storedLead, StoredFits}
 
 -- D3
 abbrev pub first : Row
-first = record { lead = 23; trail = 0; bits = 1 ∷ 0 ∷ [] }
+first = record { lead = 23; bits = 1 ∷ 0 ∷ [] }
 
 -- D3
 abbrev pub second : Row
-second = record { lead = 23; trail = 0; bits = 0 ∷ 1 ∷ [] }
+second = record { lead = 23; bits = 0 ∷ 1 ∷ [] }
 
 -- M4 and both M5 are 0. Each read shares time with two cycles; unknown reads fall both ways, and low where the second
 -- row's lead begins.
@@ -33,6 +34,7 @@ p10 = record {
   Q = 21;
   p = 40;
   rows = first ∷ second ∷ [];
+  highAfter = 0;
   choices = 1 ∷ 0 ∷ 0 ∷ 1 ∷ 1 ∷ 0 ∷ [];
 }
 
@@ -48,7 +50,6 @@ p10Lent = record {
   r = p10 .r;
   p = p10 .p;
   leads = 23 ∷ 23 ∷ [];
-  trails = 0 ∷ 0 ∷ [];
   bits = 1 ∷ 0 ∷ 0 ∷ 1 ∷ [];
   choices = p10 .choices;
   forWave = replicate 118 0;
@@ -73,10 +74,10 @@ pub record Tried : Type 0 where
   -- the hypotheses are met, so demand 3 holds here
   pub fits : Fitting p10
   pub demand : Demand3 p10 (reportsOf (receiverSettings p10) fresh 0)
-  pub wholly : WhollyAfter p10 (cyclesOf p10 (first ∷ [])) second 58
+  pub wholly : WhollyAfter p10 (cyclesOf p10 (first ∷ [])) (second .lead) 58
   -- the places that it speaks of: the last samples, and the read with which the second lead quiet has been heard
   pub samples : deliveries p10 0 (first ∷ second ∷ []) ≡ at 51 (row (1 ∷ 0 ∷ [])) ∷ at 111 (row (0 ∷ 1 ∷ [])) ∷ []
-  pub hears : heard p10 (cyclesOf p10 (first ∷ [])) second ≡ 80
+  pub hears : heard p10 (cyclesOf p10 (first ∷ [])) (second .lead) ≡ 80
   -- The reports. The false row is broken with the very read that the second lead quiet is heard with, now at 54 + 24 +
   -- (80 - 58): its own report comes before.
   pub reports : damagedReports ≡ at 51 (row (1 ∷ 0 ∷ [])) ∷ at 100 (broken 1) ∷ at 131 (row (0 ∷ 1 ∷ [])) ∷ []
@@ -86,3 +87,32 @@ pub record Tried : Type 0 where
   pub lent : linkOf p10Lent ≡ p10
   pub within : Within p10Lent
   pub whole-way : WholeWay p10Lent
+
+-- D23: the same two rows as they may be stored, with a trail pad of five cycles and one of three, which is dropped
+abbrev pub stored : StoredLink
+stored = record {
+  a = 5;
+  b = 13;
+  k = 10;
+  w = 100;
+  r = 100;
+  n = 2;
+  Q = 21;
+  p = 40;
+  leads = 23 ∷ 23 ∷ [];
+  trails = 5 ∷ 3 ∷ [];
+  bits = 1 ∷ 0 ∷ 0 ∷ 1 ∷ [];
+  choices = 1 ∷ 0 ∷ 0 ∷ 1 ∷ 1 ∷ 0 ∷ [];
+}
+
+-- D23: Reads 54 up to 63 replaced, which reach into what was a trail pad: into the second row's lead of 28 cycles, and
+-- into none of its last 23.
+pub record TriedStored : Type 0 where
+  pub fits : StoredFits stored
+  pub not-whole : WhollyAfter (itself stored) (cyclesOf (itself stored) (first ∷ [])) 28 63 → ⊥
+  pub wholly : WhollyAfter (itself stored) (storedFrom stored 1) (storedLead stored 1) 63
+  -- the read with which these have been heard, which the stretch moves to 54 + 24 + (85 - 63)
+  pub hears : heard (itself stored) (storedFrom stored 1) (storedLead stored 1) ≡ 85
+  -- so the user's wording says nothing of the second row, and the last 23 cycles still bring it
+  pub after : above 100 (reportsOf (receiverSettings p10) fresh 0 (damaged (itself stored) 54 63 false-quiet))
+      ≡ at 131 (row (0 ∷ 1 ∷ [])) ∷ []

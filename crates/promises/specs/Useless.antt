@@ -22,20 +22,20 @@ use Rattle.promises.specs.Tried.{p10}
 
 -- D34: What could be put in the place of `send`, and demand 1's line for it.
 abbrev pub Sender : Type 0
-Sender = (a b p1 p2 : ℕ) (bits output : List ℕ) → Answer ℕ × List ℕ
+Sender = (a b p1 : ℕ) (bits output : List ℕ) → Answer ℕ × List ℕ
 
 -- D34
 abbrev pub Line : Sender → Type 0
-Line sender = (a b p1 p2 : ℕ) (bits output : List ℕ)
-    → Fills (Good.send a b p1 p2 bits output) (wave a b p1 p2 bits) output (sender a b p1 p2 bits output)
+Line sender = (a b p1 : ℕ) (bits output : List ℕ)
+    → Fills (Good.send a b p1 bits output) (wave a b p1 bits) output (sender a b p1 bits output)
 
 -- D34: one that refuses everything, and one that refuses nothing
 abbrev pub refusesEverything : Sender
-refusesEverything a b p1 p2 bits output = (refused 1 0, output)
+refusesEverything a b p1 bits output = (refused 1 0, output)
 
 -- D34
 abbrev pub refusesNothing : Sender
-refusesNothing a b p1 p2 bits output = (given (length (wave a b p1 p2 bits)), onto (wave a b p1 p2 bits) output)
+refusesNothing a b p1 bits output = (given (length (wave a b p1 bits)), onto (wave a b p1 bits) output)
 
 -- D34: one that sends by the rules and answers a count that is one too high
 abbrev pub oneMore : Answer ℕ → Answer ℕ
@@ -45,18 +45,18 @@ oneMore (refusedAfter number place count) = refusedAfter number place count
 
 -- D34
 abbrev pub inventsCount : Sender
-inventsCount a b p1 p2 bits output =
-    (oneMore (sentMessage a b p1 p2 bits output .0), sentMessage a b p1 p2 bits output .1)
+inventsCount a b p1 bits output =
+    (oneMore (sentMessage a b p1 bits output .0), sentMessage a b p1 bits output .1)
 
 -- D34: one that always sends the same message
 abbrev pub fixedMessage : Sender
-fixedMessage a b p1 p2 bits output = sentMessage a b p1 p2 (1 ∷ []) output
+fixedMessage a b p1 bits output = sentMessage a b p1 (1 ∷ []) output
 
 -- D34: one that sends by the rules and spoils the first entry past the result
 abbrev pub spoilsEntry : Sender
-spoilsEntry a b p1 p2 bits output = (
-  sentMessage a b p1 p2 bits output .0,
-  set (sentMessage a b p1 p2 bits output .1) (length (wave a b p1 p2 bits)) 2,
+spoilsEntry a b p1 bits output = (
+  sentMessage a b p1 bits output .0,
+  set (sentMessage a b p1 bits output .1) (length (wave a b p1 bits)) 2,
 )
 
 -- D34: one that refuses with the right number and always with place 0
@@ -67,8 +67,8 @@ placeless (refusedAfter number place count) = refusedAfter number place count
 
 -- D34
 abbrev pub losesPlace : Sender
-losesPlace a b p1 p2 bits output =
-    (placeless (sentMessage a b p1 p2 bits output .0), sentMessage a b p1 p2 bits output .1)
+losesPlace a b p1 bits output =
+    (placeless (sentMessage a b p1 bits output .0), sentMessage a b p1 bits output .1)
 
 -- D34: The line is false of each. And no line of demand 1 leaves a choice: two outcomes of which it holds are equal, so
 -- what differs from an operation anywhere is shut out there.

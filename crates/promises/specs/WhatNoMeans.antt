@@ -10,8 +10,7 @@ use Rattle.measure.specs.Ranges.{padMost, entriesMost}
 use Rattle.measure.specs.Levels.{Levels}
 use Rattle.settings.specs.Margins.{m1, m2, m3, accepted}
 use Rattle.settings.specs.Answers.{inRange}
-use Rattle.sender.specs.Sending.{wave}
-use Rattle.promises.specs.CountedReturns.{messageReads, received, EveryMessageReturned}
+use Rattle.promises.specs.CountedReturns.{followed, messageReads, received, EveryMessageReturned}
 
 -- M22: minus one or more: times are whole numbers, so a margin has one unit to spare
 abbrev pub minusOneOrMore : ℤ → Bool
@@ -23,10 +22,10 @@ minusOneOrMore (negsuc (suc n)) = false
 unfoldable pub almostAccepted : (a b k w r : ℕ) → Bool
 almostAccepted a b k w r = minusOneOrMore (m1 a w r) && minusOneOrMore (m2 a k w r) && minusOneOrMore (m3 a b k w r)
 
--- M22: a message of one bit on its way: its pads, a phase and choices
+-- M22: a message of one bit on its way: its lead, the high cycles after it, a phase and choices
 pub record OneBit (w : ℕ) : Type 0 where
   pub p1 : ℕ
-  pub p2 : ℕ
+  pub after : ℕ
   pub p : ℕ
   pub bit : ℕ
   pub choices : List ℕ
@@ -36,14 +35,13 @@ pub record OneBit (w : ℕ) : Type 0 where
 
 -- M22: it is not returned
 abbrev pub Lost : (a b k w r : ℕ) → OneBit w → Type 0
-Lost a b k w r m = received a b k w r (m .p1) (m .p2) (m .p) (m .bit ∷ []) (m .choices) ≢ m .bit ∷ []
+Lost a b k w r m = received a b k w r (m .p1) (m .after) (m .p) (m .bit ∷ []) (m .choices) ≢ m .bit ∷ []
 
--- M22: its pads, its cycles, its reads and its choices are within the limits of refusals 1 and 3
+-- M22: its lead, its cycles, its reads and its choices are within the limits of refusals 1 and 3
 pub record WithinLimits (a b w r : ℕ) (m : OneBit w) : Type 0 where
   pub lead : m .p1 ≤ padMost
-  pub trail : m .p2 ≤ padMost
-  pub cycles : length (wave a b (m .p1) (m .p2) (m .bit ∷ [])) ≤ entriesMost
-  pub reads : length (messageReads a b w r (m .p1) (m .p2) (m .p) (m .bit ∷ []) (m .choices)) ≤ entriesMost
+  pub cycles : length (followed a b (m .p1) (m .after) (m .bit ∷ [])) ≤ entriesMost
+  pub reads : length (messageReads a b w r (m .p1) (m .after) (m .p) (m .bit ∷ []) (m .choices)) ≤ entriesMost
   pub chosen : length (m .choices) ≤ entriesMost
 
 -- M22: Every message is returned exactly if M1, M2 and M3 are minus one or more. At all other settings a message of one
@@ -65,7 +63,7 @@ pub record HarmlessNo : Type 0 where
   pub returned : EveryMessageReturned 2 5 4 1 1
 
 -- M22: the rules' limits change nothing: where the settings are in range and some message of one bit is within the
--- limits, one within the limits is lost
+-- limits, one within the limits is lost, and that with nothing after it
 abbrev pub LostWithinLimits : Type 0
 LostWithinLimits = (a b k w r : ℕ) → inRange a b k w r ≡ true → (m : OneBit w) → WithinLimits a b w r m
-    → almostAccepted a b k w r ≡ false → (n : OneBit w) × WithinLimits a b w r n × Lost a b k w r n
+    → almostAccepted a b k w r ≡ false → (n : OneBit w) × (n .after ≡ 0) × WithinLimits a b w r n × Lost a b k w r n

@@ -61,7 +61,6 @@ pub record Way : Type 0 where
   pub r : ℕ
   pub p : ℕ
   pub leads : List ℕ
-  pub trails : List ℕ
   pub bits : List ℕ
   pub choices : List ℕ
   pub forWave : List ℕ
@@ -81,13 +80,14 @@ linkOf y =
       w = y .w;
       r = y .r;
       p = y .p;
-      rows = rowsOf (y .n) (y .leads) (y .trails) (y .bits);
+      rows = rowsOf (y .n) (y .leads) (y .bits);
+      highAfter = 0;
       choices = y .choices;
     }
 
 -- D10: the plan's wave, what smoothing makes of it, and its reads before they settle
 abbrev pub waveOf : Way → List ℕ
-waveOf y = planWave (y .a) (y .b) (rowsOf (y .n) (y .leads) (y .trails) (y .bits))
+waveOf y = planWave (y .a) (y .b) (rowsOf (y .n) (y .leads) (y .bits))
 
 -- D10
 abbrev pub warpedOf : Way → List ℕ
@@ -101,7 +101,7 @@ front (refusedAfter number place count, left) = []
 
 -- R43: the four calls
 abbrev pub sending : Way → Answer ℕ × List ℕ
-sending y = sentPlan (y .a) (y .b) (y .n) (y .leads) (y .trails) (y .bits) (y .forWave)
+sending y = sentPlan (y .a) (y .b) (y .n) (y .leads) (y .bits) (y .forWave)
 
 -- R44
 abbrev pub smoothing : Way → Answer ℕ × List ℕ
@@ -118,7 +118,7 @@ settling y = settled (front (warping y)) (y .choices) (y .forSettled)
 -- D20: what is asked: a plan that is good input, a phase, choices that are such, reads and choices within their limits,
 -- room in each output, and a yes of the quiet judge for each lead
 pub record Within (y : Way) : Type 0 where
-  pub plan : good (Good.sendPlan (y .a) (y .b) (y .n) (y .leads) (y .trails) (y .bits) (y .forWave)) ≡ true
+  pub plan : good (Good.sendPlan (y .a) (y .b) (y .n) (y .leads) (y .bits) (y .forWave)) ≡ true
   pub phase : y .p < y .w
   pub choices : Levels (y .choices)
   pub few-choices : length (y .choices) ≤ entriesMost

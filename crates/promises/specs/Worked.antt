@@ -2,14 +2,15 @@
 use mathlib.Core.List.{List, _++_}
 use Rattle.measure.specs.Table.{Case, Agree}
 use Rattle.sender.specs.Cases as Sender
+use Rattle.stored.specs.Cases as Stored
 use Rattle.line.specs.Cases as Line
 use Rattle.counted.specs.Cases as Counted
 use Rattle.settings.specs.Cases as Settings
 use Rattle.capture.specs.Cases as Capture
 
--- P1; P2 to P6; P7; P8 to P10; P11
+-- P1, as it is sent and as it is stored; P2 to P6; P7; P8 to P10; P11
 abbrev pub table : List Case
-table = Sender.cases ++ Line.cases ++ Counted.cases ++ Settings.cases ++ Capture.cases
+table = Sender.cases ++ Stored.cases ++ Line.cases ++ Counted.cases ++ Settings.cases ++ Capture.cases
 
 -- P1 to P11: what the definitions give is what is printed, in every case of the table
 abbrev pub WorkedCasesAgree : Type 0

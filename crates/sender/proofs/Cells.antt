@@ -34,10 +34,10 @@ length-cells a b before [] = omega arith
 length-cells a b before (bit ∷ bits) =
     simp (length-append, length-replicate) (omega (arith, length-cells a b (codeLevel before bit) bits))
 
--- a message's wave: the pads, and a + b cycles for each bit
-pub length-wave : (a b p1 p2 : ℕ) (bits : List ℕ) → length (wave a b p1 p2 bits) ≡ p1 + length bits * (a + b) + p2
+-- a message's wave: the lead, and a + b cycles for each bit
+pub length-wave : (a b p1 : ℕ) (bits : List ℕ) → length (wave a b p1 bits) ≡ p1 + length bits * (a + b)
 unfolding wave
-length-wave a b p1 p2 bits = simp (length-append, length-replicate) (omega (arith, length-cells a b 1 bits))
+length-wave a b p1 bits = simp (length-append, length-replicate) (omega (arith, length-cells a b 1 bits))
 
 -- the level that a cell leaves is one of the two
 pub code-level-most : (before bit : ℕ) → before ≤ 1 → codeLevel before bit ≤ 1
@@ -60,9 +60,8 @@ cells-placed a b before level bits i at out next h is laid =
     (omega (arith, length-cell a b (opposite before) code))
     ∙ rw is
 
--- 65,535 cycles of pad on either side and 1,024 cells of 510: no message has a longer wave
-pub message-most : (a b p1 p2 n : ℕ) → a ≤ 255 → b ≤ 255 → p1 ≤ 65535 → p2 ≤ 65535 → n ≤ 1024
-    → p1 + n * (a + b) + p2 ≤ 653310
-message-most a b p1 p2 n ha hb h1 h2 hn =
+-- 65,535 cycles of lead and 1,024 cells of 510: no message has a longer wave
+pub message-most : (a b p1 n : ℕ) → a ≤ 255 → b ≤ 255 → p1 ≤ 65535 → n ≤ 1024 → p1 + n * (a + b) ≤ 587775
+message-most a b p1 n ha hb h1 hn =
     let cell : a + b ≤ 510 = omega arith in
     omega (arith, mul-le-mul hn cell)

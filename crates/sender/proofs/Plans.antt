@@ -21,36 +21,32 @@ total-step pads i h = rw (drop-cons pads i 0 h, add-one)
 pub total-end : (pads : List ℕ) (i : ℕ) → length pads ≤ i → total (drop i pads) ≡ 0
 total-end pads i h = rw (drop-of-length-le pads h)
 
-pub plan-step : (a b n : ℕ) (leads trails bits : List ℕ) (i start : ℕ) → i < length leads → i < length trails
-    → planWave a b (rowsOf n (drop i leads) (drop i trails) (drop start bits))
-    ≡ wave a b (getD leads i 0) (getD trails i 0) (take n (drop start bits))
-    ++ planWave a b (rowsOf n (drop (i + 1) leads) (drop (i + 1) trails) (drop (start + n) bits))
+pub plan-step : (a b n : ℕ) (leads bits : List ℕ) (i start : ℕ) → i < length leads
+    → planWave a b (rowsOf n (drop i leads) (drop start bits))
+    ≡ wave a b (getD leads i 0) (take n (drop start bits))
+    ++ planWave a b (rowsOf n (drop (i + 1) leads) (drop (start + n) bits))
 unfolding planWave rowsOf
-plan-step a b n leads trails bits i start h t =
-    rw (drop-cons leads i 0 h, drop-cons trails i 0 t, drop-drop n start bits, add-one)
+plan-step a b n leads bits i start h = rw (drop-cons leads i 0 h, drop-drop n start bits, add-one)
 
-pub plan-end : (a b n : ℕ) (leads trails bits : List ℕ) (i : ℕ) → length leads ≤ i
-    → planWave a b (rowsOf n (drop i leads) trails bits) ≡ []
+pub plan-end : (a b n : ℕ) (leads bits : List ℕ) (i : ℕ) → length leads ≤ i
+    → planWave a b (rowsOf n (drop i leads) bits) ≡ []
 unfolding planWave rowsOf
-plan-end a b n leads trails bits i h = rw (drop-of-length-le leads h)
+plan-end a b n leads bits i h = rw (drop-of-length-le leads h)
 
--- a row's wave: its pads, and a + b cycles for each of its n bits
-pub length-row : (a b p1 p2 n : ℕ) (bits : List ℕ) → n ≤ length bits
-    → length (wave a b p1 p2 (take n bits)) ≡ p1 + n * (a + b) + p2
-length-row a b p1 p2 n bits h = length-wave a b p1 p2 (take n bits) ∙ rw (length-take-le n bits h)
+-- a row's wave: its lead, and a + b cycles for each of its n bits
+pub length-row : (a b p1 n : ℕ) (bits : List ℕ) → n ≤ length bits
+    → length (wave a b p1 (take n bits)) ≡ p1 + n * (a + b)
+length-row a b p1 n bits h = length-wave a b p1 (take n bits) ∙ rw (length-take-le n bits h)
 
--- a plan's wave, whose lists fit one another: all pads, and n times a + b cycles for each row
-pub length-plan : (a b n : ℕ) (leads trails bits : List ℕ) → length trails ≡ length leads
-    → length bits ≡ length leads * n
-    → length (planWave a b (rowsOf n leads trails bits)) ≡ total leads + length leads * (n * (a + b)) + total trails
+-- a plan's wave, whose lists fit one another: all leads, and n times a + b cycles for each row
+pub length-plan : (a b n : ℕ) (leads bits : List ℕ) → length bits ≡ length leads * n
+    → length (planWave a b (rowsOf n leads bits)) ≡ total leads + length leads * (n * (a + b))
 unfolding planWave rowsOf
-length-plan a b n [] [] bits t h = omega arith
-length-plan a b n [] (p2 ∷ trails) bits t h = absurd (omega arith)
-length-plan a b n (p1 ∷ leads) [] bits t h = absurd (omega arith)
-length-plan a b n (p1 ∷ leads) (p2 ∷ trails) bits t h =
+length-plan a b n [] bits h = omega arith
+length-plan a b n (p1 ∷ leads) bits h =
     simp length-append
     (omega (
       arith,
-      length-row a b p1 p2 n bits (omega arith),
-      length-plan a b n leads trails (drop n bits) (omega arith) (rw length-drop (omega arith)),
+      length-row a b p1 n bits (omega arith),
+      length-plan a b n leads (drop n bits) (rw length-drop (omega arith)),
     ))

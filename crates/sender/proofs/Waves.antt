@@ -1,17 +1,17 @@
--- A wave as stretches of one level: the lead, two stretches for each cell, its mark and its code, and the trail, each
--- where the one before it ends.
+-- A wave as stretches of one level: the lead, two stretches for each cell, its mark and its code, and the high cycles
+-- that follow it, each where the one before it ends.
 use mathlib.Core.Path.{_≡_, refl, subst, _∙_}
 use mathlib.Core.List.{List, [], _∷_, _++_, append-assoc}
 use Prim.Native.Nat.{ℕ, zero, suc, _+_, _*_, _≤_, _<_}
 use native.Mathlib.Nat.{add-assoc, zero-add}
 use native.Mathlib.Omega.{arith}
-use lib.ListN.{length, getD, replicate, length-replicate, getD-replicate, List·getD-append}
+use lib.ListN.{length, getD, replicate, length-append, length-replicate, getD-replicate, List·getD-append}
 use Rattle.measure.specs.Cells.{bitOf}
 use Rattle.measure.specs.Levels.{Levels}
 use Rattle.measure.proofs.LevelLaws.{most-append, most-replicate}
 use Rattle.measure.proofs.Stretches.{Stretch, Stands, stands-left, stands-right, stands-stretch}
-use Rattle.sender.specs.Sending.{opposite, codeLevel, cells, wave}
-use Rattle.sender.proofs.Cells.{length-cells, code-level-most}
+use Rattle.sender.specs.Sending.{opposite, codeLevel, cells, pad, wave}
+use Rattle.sender.proofs.Cells.{length-cells, length-wave, code-level-most}
 
 -- a cell's mark and code, as mark and sample, are its bit
 pub bit-code : (before bit : ℕ) → before ≤ 1 → bit ≤ 1 → bitOf (opposite before) (codeLevel before bit) ≡ bit
@@ -31,17 +31,17 @@ Carries a b W c v (x ∷ xs) =
     × Stretch W (c + a) b (codeLevel v x)
     × Carries a b W (c + (a + b)) (codeLevel v x) xs
 
--- one cell before the others, and a wave's parts, each with what follows it
+-- one cell before the others, and a wave's parts before what follows it
 cells-first : (a b v x : ℕ) (xs : List ℕ)
     → cells a b v (x ∷ xs) ≡ replicate a (opposite v) ++ (replicate b (codeLevel v x) ++ cells a b (codeLevel v x) xs)
 unfolding cells
 cells-first a b v x xs =
     append-assoc (replicate a (opposite v)) (replicate b (codeLevel v x)) (cells a b (codeLevel v x) xs)
 
-pub wave-parts : (a b p1 p2 : ℕ) (bits : List ℕ)
-    → wave a b p1 p2 bits ≡ replicate p1 1 ++ (cells a b 1 bits ++ replicate p2 1)
+pub wave-followed : (a b p1 : ℕ) (bits more : List ℕ)
+    → wave a b p1 bits ++ more ≡ replicate p1 1 ++ (cells a b 1 bits ++ more)
 unfolding wave
-wave-parts a b p1 p2 bits = append-assoc (replicate p1 1) (cells a b 1 bits) (replicate p2 1)
+wave-followed a b p1 bits more = append-assoc (replicate p1 1) (cells a b 1 bits) more
 
 -- cells that stand in a wave are carried there
 pub carries : (a b : ℕ) (W : ℕ → ℕ) (bits : List ℕ) (c v : ℕ) → Stands W c (cells a b v bits) → Carries a b W c v bits
@@ -84,41 +84,48 @@ cells-levels a b v (x ∷ xs) h =
     (most-replicate 1 b (codeLevel v x) (code-level-most v x h))
     (cells-levels a b (codeLevel v x) xs (code-level-most v x h))))
 
-module _ (a b p1 p2 : ℕ) (bits : List ℕ) where
-  pub wave-levels : Levels (wave a b p1 p2 bits)
-  wave-levels =
-      rw (wave-parts a b p1 p2 bits)
-      (most-append 1 (replicate p1 1) (cells a b 1 bits ++ replicate p2 1) (most-replicate 1 p1 1 (omega arith))
-      (most-append 1 (cells a b 1 bits) (replicate p2 1) (cells-levels a b 1 bits (omega arith))
-      (most-replicate 1 p2 1 (omega arith))))
+pub wave-levels : (a b p1 : ℕ) (bits : List ℕ) → Levels (wave a b p1 bits)
+unfolding wave
+wave-levels a b p1 bits =
+    most-append 1 (replicate p1 1) (cells a b 1 bits) (most-replicate 1 p1 1 (omega arith))
+    (cells-levels a b 1 bits (omega arith))
+
+-- a wave that is followed by so many high cycles, which may be none
+module _ (a b p1 after : ℕ) (bits : List ℕ) where
+  pub followed-length : length (wave a b p1 bits ++ pad after) ≡ p1 + length bits * (a + b) + after
+  followed-length = simp (length-append, length-replicate) (omega (arith, length-wave a b p1 bits))
+
+  pub followed-levels : Levels (wave a b p1 bits ++ pad after)
+  followed-levels =
+      most-append 1 (wave a b p1 bits) (pad after) (wave-levels a b p1 bits) (most-replicate 1 after 1 (omega arith))
 
   abbrev W : ℕ → ℕ
-  W i = getD (wave a b p1 p2 bits) i 2
+  W i = getD (wave a b p1 bits ++ pad after) i 2
 
-  -- the wave of a message, from its first cell on
-  from-cells : Stands W p1 (cells a b 1 bits ++ replicate p2 1)
+  -- from its first cell on
+  from-cells : Stands W p1 (cells a b 1 bits ++ pad after)
   from-cells =
-      subst (λ (c : ℕ). Stands W c (cells a b 1 bits ++ replicate p2 1)) (zero-add _ ∙ length-replicate p1 1)
-      (stands-right W 0 (replicate p1 1) (cells a b 1 bits ++ replicate p2 1)
-      (subst (Stands W 0) (wave-parts a b p1 p2 bits) whole))
+      subst (λ (c : ℕ). Stands W c (cells a b 1 bits ++ pad after)) (zero-add _ ∙ length-replicate p1 1)
+      (stands-right W 0 (pad p1) (cells a b 1 bits ++ pad after)
+      (subst (Stands W 0) (wave-followed a b p1 bits (pad after)) whole))
     where
-      whole : Stands W 0 (wave a b p1 p2 bits)
+      whole : Stands W 0 (wave a b p1 bits ++ pad after)
       whole i p = rw zero-add
 
   -- it carries the message after the lead
-  pub wave-carries : Carries a b W p1 1 bits
-  wave-carries = carries a b W bits p1 1 (stands-left W p1 (cells a b 1 bits) (replicate p2 1) from-cells)
+  pub followed-carries : Carries a b W p1 1 bits
+  followed-carries = carries a b W bits p1 1 (stands-left W p1 (cells a b 1 bits) (pad after) from-cells)
 
   -- and is high after that
-  pub wave-trails : Stretch W (p1 + length bits * (a + b)) p2 1
-  wave-trails =
-      stands-stretch W (p1 + length bits * (a + b)) p2 1
-      (subst (λ (n : ℕ). Stands W (p1 + n) (replicate p2 1)) (length-cells a b 1 bits)
-      (stands-right W p1 (cells a b 1 bits) (replicate p2 1) from-cells))
+  pub followed-high : Stretch W (p1 + length bits * (a + b)) after 1
+  followed-high =
+      stands-stretch W (p1 + length bits * (a + b)) after 1
+      (subst (λ (n : ℕ). Stands W (p1 + n) (pad after)) (length-cells a b 1 bits)
+      (stands-right W p1 (cells a b 1 bits) (pad after) from-cells))
 
   -- and before it
-  pub wave-leads : (i : ℕ) → i < p1 → W i ≡ 1
-  wave-leads i p =
-      rw (wave-parts a b p1 p2 bits)
-      (List·getD-append (replicate p1 1) (cells a b 1 bits ++ replicate p2 1) 2 i (rw length-replicate p)
+  pub followed-leads : (i : ℕ) → i < p1 → W i ≡ 1
+  followed-leads i p =
+      rw (wave-followed a b p1 bits (pad after))
+      (List·getD-append (pad p1) (cells a b 1 bits ++ pad after) 2 i (rw length-replicate p)
       ∙ getD-replicate p1 i 1 2 p)

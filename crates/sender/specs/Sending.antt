@@ -24,25 +24,21 @@ cells a b before (bit ∷ bits) =
 abbrev pub pad : ℕ → List ℕ
 pad cycles = replicate cycles 1
 
--- S1, S10, S11: a wave: the lead pad, the cells from high, the trail pad
-unfoldable pub wave : (a b p1 p2 : ℕ) (bits : List ℕ) → List ℕ
-wave a b p1 p2 bits = pad p1 ++ cells a b 1 bits ++ pad p2
+-- S1, S10, S11: a wave: the lead pad, and the cells from high
+unfoldable pub wave : (a b p1 : ℕ) (bits : List ℕ) → List ℕ
+wave a b p1 bits = pad p1 ++ cells a b 1 bits
 
--- S20: a row of a plan: its own lead pad, trail pad and bits
+-- S20: a row of a plan: its own lead pad and bits
 pub record Row : Type 0 where
   pub lead : ℕ
-  pub trail : ℕ
   pub bits : List ℕ
 
 -- S21: a plan's wave: those of its rows in order, with nothing carried over from one to the next
 unfoldable pub planWave : (a b : ℕ) (rows : List Row) → List ℕ
 planWave a b [] = []
-planWave a b (row ∷ rows) = wave a b (row .lead) (row .trail) (row .bits) ++ planWave a b rows
+planWave a b (row ∷ rows) = wave a b (row .lead) (row .bits) ++ planWave a b rows
 
--- S22: The rows of a plan that is lent as three lists: lead pads, trail pads, and the bits of all rows one after
--- another, n for each.
-unfoldable pub rowsOf : (n : ℕ) (leads trails bits : List ℕ) → List Row
-rowsOf n [] trails bits = []
-rowsOf n (p1 ∷ leads) [] bits = []
-rowsOf n (p1 ∷ leads) (p2 ∷ trails) bits =
-    record { lead = p1; trail = p2; bits = take n bits } ∷ rowsOf n leads trails (drop n bits)
+-- S22: the rows of a plan that is lent as two lists: lead pads, and the bits of all rows one after another, n for each
+unfoldable pub rowsOf : (n : ℕ) (leads bits : List ℕ) → List Row
+rowsOf n [] bits = []
+rowsOf n (p1 ∷ leads) bits = record { lead = p1; bits = take n bits } ∷ rowsOf n leads (drop n bits)

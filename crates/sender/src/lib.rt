@@ -79,23 +79,13 @@ fn cells_into(a: usize, b: usize, bits: &[u8], out: &mut [u8], at: usize) -> usi
 }
 
 // Writes a message's wave at a place and gives the place after it.
-fn wave_into(
-    a: usize,
-    b: usize,
-    p1: usize,
-    p2: usize,
-    bits: &[u8],
-    out: &mut [u8],
-    at: usize,
-) -> usize
-    requires { ⌜ at + p1 + length (now bits) * (a + b) + p2 ≤ length (now out) ⌝ }
-    ensures { λ after. ⌜ (after ≡ at + p1 + length (now (bits .entry)) * (a + b) + p2)
-        × (sets (now (out .entry)) at (wave a b p1 p2 (now (bits .entry))) ≡ now (out .exit)) ⌝ }
+fn wave_into(a: usize, b: usize, p1: usize, bits: &[u8], out: &mut [u8], at: usize) -> usize
+    requires { ⌜ at + p1 + length (now bits) * (a + b) ≤ length (now out) ⌝ }
+    ensures { λ after. ⌜ (after ≡ at + p1 + length (now (bits .entry)) * (a + b))
+        × (sets (now (out .entry)) at (wave a b p1 (now (bits .entry))) ≡ now (out .exit)) ⌝ }
 {
     fill(out, at, p1, HIGH);
-    let trail = cells_into(a, b, bits, out, at + p1);
-    fill(out, trail, p2, HIGH);
-    trail + p2
+    cells_into(a, b, bits, out, at + p1)
 }
 
 // Tells whether a and b are in range.
@@ -106,33 +96,25 @@ fn cell_in_range(a: usize, b: usize) -> bool
         & measure::between(SUBCELL_LEAST, SUBCELL_MOST, b)
 }
 
-// Tells whether a, b and both pads of a message are in range.
-fn in_range(a: usize, b: usize, p1: usize, p2: usize) -> bool
-    ensures { λ fits. ⌜ fits ≡ messageInRange a b p1 p2 ⌝ }
+// Tells whether a, b and the lead pad of a message are in range.
+fn in_range(a: usize, b: usize, p1: usize) -> bool
+    ensures { λ fits. ⌜ fits ≡ messageInRange a b p1 ⌝ }
 {
-    cell_in_range(a, b) & (p1 <= PAD_MOST) & (p2 <= PAD_MOST)
+    cell_in_range(a, b) & (p1 <= PAD_MOST)
 }
 
 // Sends a message. Gives the number of cycles of its wave.
-// Refuses with 1 (a, b or a pad), 3 (more than 1,024 bits; up to that number no wave is over its own limit), 2 (the
+// Refuses with 1 (a, b or the pad), 3 (more than 1,024 bits; up to that number no wave is over its own limit), 2 (the
 // place of the first entry that is no bit), 4.
 // The output holds the wave at its front and is otherwise untouched; every refusal leaves all of it.
-pub fn send(
-    a: WriterCycles,
-    b: WriterCycles,
-    p1: WriterCycles,
-    p2: WriterCycles,
-    bits: &[u8],
-    out: &mut [u8],
-) -> Sent
-    ensures { λ x. ⌜ sentMessage (a .0) (b .0) (p1 .0) (p2 .0) (now (bits .entry)) (now (out .entry))
+pub fn send(a: WriterCycles, b: WriterCycles, p1: WriterCycles, bits: &[u8], out: &mut [u8]) -> Sent
+    ensures { λ x. ⌜ sentMessage (a .0) (b .0) (p1 .0) (now (bits .entry)) (now (out .entry))
         ≡ (sentSays x, now (out .exit)) ⌝ }
 {
     let mark = a.0;
     let code = b.0;
     let lead = p1.0;
-    let trail = p2.0;
-    if !in_range(mark, code, lead, trail) {
+    if !in_range(mark, code, lead) {
         return Sent::Refused(Refusal::Setting(0));
     }
     if bits.len() > BITS_MOST {
@@ -143,11 +125,11 @@ pub fn send(
         return Sent::Refused(Refusal::Entry(bad));
     }
     let cell = mark + code;
-    let cycles = lead + bits.len() * cell + trail;
+    let cycles = lead + bits.len() * cell;
     if out.len() < cycles {
         return Sent::Refused(Refusal::Room);
     }
-    let end = wave_into(mark, code, lead, trail, bits, out, 0);
+    let end = wave_into(mark, code, lead, bits, out, 0);
     Sent::Wave(WriterCycles(end))
 }
 
@@ -159,7 +141,7 @@ fn numbers_in_range(a: usize, b: usize, n: usize) -> bool
 }
 
 // Tells whether each pad of a list is in range.
-fn pads_in_range(pads: &[usize]) -> bool
+pub fn pads_in_range(pads: &[usize]) -> bool
     ensures { λ fits. ⌜ fits ≡ padded (now (pads .entry)) ⌝ }
 {
     let mut i = 0;
@@ -173,67 +155,48 @@ fn pads_in_range(pads: &[usize]) -> bool
 }
 
 // Tells whether the lists of a plan fit one another. It divides, since rows times n may be more than a usize holds.
-fn lists_fit(n: usize, leads: &[usize], trails: &[usize], bits: &[u8]) -> bool
+fn lists_fit(n: usize, leads: &[usize], bits: &[u8]) -> bool
     requires { ⌜ 0 < n ⌝ }
-    ensures { λ fits. ⌜ fits ≡ fitting n (now (leads .entry)) (now (trails .entry)) (now (bits .entry)) ⌝ }
+    ensures { λ fits. ⌜ fits ≡ fitting n (now (leads .entry)) (now (bits .entry)) ⌝ }
 {
     let rows = bits.len() / n;
-    (leads.len() >= 1)
-        & (trails.len() == leads.len())
-        & (rows == leads.len())
-        & (bits.len() == rows * n)
+    (leads.len() >= 1) & (rows == leads.len()) & (bits.len() == rows * n)
 }
 
 // Tells whether a, b, n and all pads of a plan are in range and its lists fit one another.
-fn plan_in_range(
-    a: usize,
-    b: usize,
-    n: usize,
-    leads: &[usize],
-    trails: &[usize],
-    bits: &[u8],
-) -> bool
-    ensures { λ fits. ⌜ fits ≡ planInRange a b n (now (leads .entry)) (now (trails .entry)) (now (bits .entry)) ⌝ }
+fn plan_in_range(a: usize, b: usize, n: usize, leads: &[usize], bits: &[u8]) -> bool
+    ensures { λ fits. ⌜ fits ≡ planInRange a b n (now (leads .entry)) (now (bits .entry)) ⌝ }
 {
     if !numbers_in_range(a, b, n) {
         return false;
     }
-    lists_fit(n, leads, trails, bits) & pads_in_range(leads) & pads_in_range(trails)
+    lists_fit(n, leads, bits) & pads_in_range(leads)
 }
 
 // Gives the number of cycles of a plan's wave, whatever its bits.
-fn plan_cycles(a: usize, b: usize, n: usize, leads: &[usize], trails: &[usize]) -> usize
-    requires { ⌜ (a ≤ 255) × (b ≤ 255) × (n ≤ 1024) × (length (now leads) ≤ 1024)
-        × (length (now trails) ≡ length (now leads)) × (padded (now leads) ≡ true) × (padded (now trails) ≡ true) ⌝ }
+fn plan_cycles(a: usize, b: usize, n: usize, leads: &[usize]) -> usize
+    requires { ⌜ (a ≤ 255) × (b ≤ 255) × (n ≤ 1024) × (length (now leads) ≤ 1024) × (padded (now leads) ≡ true) ⌝ }
     ensures { λ cycles. ⌜
         ((bits : List ℕ) → length bits ≡ length (now (leads .entry)) * n
-        → length (planWave a b (rowsOf n (now (leads .entry)) (now (trails .entry)) bits)) ≡ cycles) ⌝ }
+        → length (planWave a b (rowsOf n (now (leads .entry)) bits)) ≡ cycles) ⌝ }
 {
     let cell = a + b;
     let row = n * cell;
     let mut cycles = 0;
     let mut i = 0;
     while i < leads.len() {
-        cycles = cycles + leads[i] + row + trails[i];
+        cycles = cycles + leads[i] + row;
         i += 1;
     }
     cycles
 }
 
 // Writes the waves of a plan's rows one after another.
-fn plan_into(
-    a: usize,
-    b: usize,
-    n: usize,
-    leads: &[usize],
-    trails: &[usize],
-    bits: &[u8],
-    out: &mut [u8],
-)
-    requires { ⌜ (length (now trails) ≡ length (now leads)) × (length (now bits) ≡ length (now leads) * n)
-        × (length (planWave a b (rowsOf n (now leads) (now trails) (now bits))) ≤ length (now out)) ⌝ }
+fn plan_into(a: usize, b: usize, n: usize, leads: &[usize], bits: &[u8], out: &mut [u8])
+    requires { ⌜ (length (now bits) ≡ length (now leads) * n)
+        × (length (planWave a b (rowsOf n (now leads) (now bits))) ≤ length (now out)) ⌝ }
     ensures { λ _. ⌜ sets (now (out .entry)) 0
-        (planWave a b (rowsOf n (now (leads .entry)) (now (trails .entry)) (now (bits .entry)))) ≡ now (out .exit) ⌝ }
+        (planWave a b (rowsOf n (now (leads .entry)) (now (bits .entry)))) ≡ now (out .exit) ⌝ }
 {
     let mut at = 0;
     let mut start = 0;
@@ -241,14 +204,14 @@ fn plan_into(
     while i < leads.len() {
         let end = start + n;
         let row = &bits[start..end];
-        at = wave_into(a, b, leads[i], trails[i], row, out, at);
+        at = wave_into(a, b, leads[i], row, out, at);
         start = end;
         i += 1;
     }
 }
 
-// Sends a plan: for each row a lead pad, a trail pad, and n bits of the one list of bits. Gives the number of cycles of
-// the plan's wave.
+// Sends a plan: for each row a lead pad, and n bits of the one list of bits. Gives the number of cycles of the plan's
+// wave.
 // Refuses with 1 (a, b, n or a pad; no row; lists that do not fit one another), 3 (more than 1,024 rows, or 1,048,576
 // cycles), 2 (the place of the first entry that is no bit), 4.
 // The output holds the wave at its front and is otherwise untouched; every refusal leaves all of it.
@@ -257,22 +220,21 @@ pub fn send_plan(
     b: WriterCycles,
     n: usize,
     leads: &[usize],
-    trails: &[usize],
     bits: &[u8],
     out: &mut [u8],
 ) -> Sent
-    ensures { λ x. ⌜ sentPlan (a .0) (b .0) n (now (leads .entry)) (now (trails .entry)) (now (bits .entry))
-        (now (out .entry)) ≡ (sentSays x, now (out .exit)) ⌝ }
+    ensures { λ x. ⌜ sentPlan (a .0) (b .0) n (now (leads .entry)) (now (bits .entry)) (now (out .entry))
+        ≡ (sentSays x, now (out .exit)) ⌝ }
 {
     let mark = a.0;
     let code = b.0;
-    if !plan_in_range(mark, code, n, leads, trails, bits) {
+    if !plan_in_range(mark, code, n, leads, bits) {
         return Sent::Refused(Refusal::Setting(0));
     }
     if leads.len() > ROWS_MOST {
         return Sent::Refused(Refusal::Limit);
     }
-    let total = plan_cycles(mark, code, n, leads, trails);
+    let total = plan_cycles(mark, code, n, leads);
     if total > ENTRIES_MOST {
         return Sent::Refused(Refusal::Limit);
     }
@@ -283,6 +245,6 @@ pub fn send_plan(
     if out.len() < total {
         return Sent::Refused(Refusal::Room);
     }
-    plan_into(mark, code, n, leads, trails, bits, out);
+    plan_into(mark, code, n, leads, bits, out);
     Sent::Wave(WriterCycles(total))
 }

@@ -9,6 +9,7 @@ pub mod NearlyMet
 pub mod Peak
 pub mod Slopes
 pub mod Shifted
+pub mod Grows
 pub mod PickRanges
 pub mod BestCount
 pub mod PickHolds

@@ -1,3 +1,4 @@
 pub mod Crossing
 pub mod Picking
+pub mod StoredPlans
 pub mod Receivers

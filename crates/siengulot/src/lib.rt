@@ -5,6 +5,7 @@ mod captures;
 mod judging;
 mod link;
 mod picking;
+mod plans;
 mod receiver;
 mod state;
 
@@ -20,6 +21,7 @@ pub use link::siengulot_settle;
 pub use link::siengulot_smooth;
 pub use link::siengulot_warp;
 pub use picking::siengulot_pick;
+pub use plans::siengulot_read_plan;
 pub use receiver::siengulot_fresh;
 pub use receiver::siengulot_listen;
 pub use receiver::siengulot_step;

@@ -20,34 +20,32 @@ use measure::WriterCycles;
 const LEVEL_MOST: usize = HIGH as usize;
 
 // Sends a message. Gives its wave.
-// Refuses with 1 (a, b or a pad), 3 (more than 1,024 bits), 2 (the place of the first entry that is no bit), 4: the
+// Refuses with 1 (a, b or the pad), 3 (more than 1,024 bits), 2 (the place of the first entry that is no bit), 4: the
 // output is left, and `count` is 0.
 #[no_mangle]
 pub extern "C" fn siengulot_send(
     a: usize,
     b: usize,
     p1: usize,
-    p2: usize,
     bits: &[u8],
     out: &mut [u8],
     place: &mut usize,
     count: &mut usize,
 ) -> usize
-    ensures { λ x. ⌜ crossing crossed (sentMessage a b p1 p2 (now (bits .entry)) (now (out .entry)))
+    ensures { λ x. ⌜ crossing crossed (sentMessage a b p1 (now (bits .entry)) (now (out .entry)))
         ≡ ((x, now (place .exit), now (count .exit)), now (out .exit)) ⌝ }
 {
     let answer = sender::send(
         WriterCycles(a),
         WriterCycles(b),
         WriterCycles(p1),
-        WriterCycles(p2),
         bits,
         out,
     );
     of_sent(answer, place, count)
 }
 
-// Sends a plan: for each row a lead pad, a trail pad, and n bits of the one list of bits. Gives the plan's wave.
+// Sends a plan: for each row a lead pad, and n bits of the one list of bits. Gives the plan's wave.
 // Refuses with 1 (a, b, n or a pad; no row; lists that do not fit one another), 3 (more than 1,024 rows, or 1,048,576
 // cycles), 2 (the place of the first entry that is no bit), 4: the output is left, and `count` is 0.
 #[no_mangle]
@@ -56,25 +54,16 @@ pub extern "C" fn siengulot_plan(
     b: usize,
     n: usize,
     leads: &[usize],
-    trails: &[usize],
     bits: &[u8],
     out: &mut [u8],
     place: &mut usize,
     count: &mut usize,
 ) -> usize
     ensures { λ x. ⌜ crossing crossed
-        (sentPlan a b n (now (leads .entry)) (now (trails .entry)) (now (bits .entry)) (now (out .entry)))
+        (sentPlan a b n (now (leads .entry)) (now (bits .entry)) (now (out .entry)))
         ≡ ((x, now (place .exit), now (count .exit)), now (out .exit)) ⌝ }
 {
-    let answer = sender::send_plan(
-        WriterCycles(a),
-        WriterCycles(b),
-        n,
-        leads,
-        trails,
-        bits,
-        out,
-    );
+    let answer = sender::send_plan(WriterCycles(a), WriterCycles(b), n, leads, bits, out);
     of_sent(answer, place, count)
 }
 

@@ -6,8 +6,9 @@
 //!
 //! A number stands after its name, as in `k 10`; numbers come in the order in which the operation takes them. A
 //! list has its entries: `1x15` is fifteen times 1, and `1 0 0 .. 2048` goes over 1 0 0 again and again until
-//! there are 2,048. The list `out` is what the case before has written. ROOM is how many entries the lent output
-//! has, which are all 9 before. A line that is empty or begins with # is no case.
+//! there are 2,048. The list `out` is what the case before has written; entries may follow the word, as in
+//! `out 1x10`. ROOM is how many entries the lent output has, which are all 9 before. A line that is empty or
+//! begins with # is no case.
 //!
 //! What is not written so stops the program.
 
@@ -84,14 +85,13 @@ impl Case {
 
     /// Its list at a place, where `out` is what the case before has written.
     pub fn list(&self, place: usize, out: &[u8]) -> Vec<u8> {
-        match self.text(place) {
-            "out" => out.to_vec(),
-            text => {
-                let entries = list(&self.line, text).into_iter();
-                let byte = |entry| u8::try_from(entry).expect(&self.line);
-                entries.map(byte).collect()
-            }
-        }
+        let (mut bytes, text) = match self.text(place).strip_prefix("out") {
+            Some(after) => (out.to_vec(), after),
+            None => (Vec::new(), self.text(place)),
+        };
+        let entries = list(&self.line, text).into_iter();
+        bytes.extend(entries.map(|entry| u8::try_from(entry).expect(&self.line)));
+        bytes
     }
 
     /// A lent output with the room that it says.

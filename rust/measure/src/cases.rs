@@ -5,12 +5,13 @@ use crate::library::*;
 use crate::numbers::{at, numbers_of, NUMBERS};
 use crate::picking;
 use siengulot_plain::board::{Event, Listener, Receiver, Report};
-use siengulot_plain::{capture, counted, line, sender, settings};
+use siengulot_plain::{capture, counted, line, sender, settings, stored};
 
-/// What an operation leaves: lent bytes, and the numbers it tells. Both sides have to leave the same.
+/// What an operation leaves: lent bytes, lent pads, and the numbers it tells. Both sides have to leave the same.
 #[derive(PartialEq)]
 pub struct Lent {
     pub out: Vec<u8>,
+    pub pads: Vec<usize>,
     pub told: [i64; 4],
 }
 
@@ -83,6 +84,7 @@ pub fn all() -> Vec<Case> {
         ),
         case("send, 5/13 cells", "cycle", "1.5", [100, 1_000], send),
         case("plan, 5/13 cells, n 80", "cycle", "1.5", [66, 660], plan),
+        case("stored plan read", "row", "1.5", [100, 1_000], read_plan),
         case("smooth", "cycle", "1.1", SIZES, smooth),
         case("warp, w 100 r 100", "cycle", "1.5", SIZES, |size| {
             warp(100, 100, 50, inputs::smoothed(size))
@@ -254,7 +256,6 @@ fn send(bits: usize) -> Work {
                     A,
                     B,
                     LEAD,
-                    0,
                     ours.as_ptr(),
                     ours.len(),
                     lent.out.as_mut_ptr(),
@@ -266,7 +267,7 @@ fn send(bits: usize) -> Work {
             lent.told = [refused as i64, count as i64, place as i64, 0];
         },
         move |lent| {
-            let sent = sender::message(A, B, LEAD, 0, &plain, &mut lent.out);
+            let sent = sender::message(A, B, LEAD, &plain, &mut lent.out);
             lent.told = [0, sent.expect("can be sent") as i64, 0, 0];
         },
     )
@@ -274,9 +275,9 @@ fn send(bits: usize) -> Work {
 
 fn plan(rows: usize) -> Work {
     let bits = inputs::random(rows * N, 5);
-    let (leads, trails) = (vec![LEAD; rows], vec![5; rows]);
-    let cycles = rows * (LEAD + N * (A + B) + 5);
-    let plain = (leads.clone(), trails.clone(), bits.clone());
+    let leads = vec![LEAD; rows];
+    let cycles = rows * (LEAD + N * (A + B));
+    let plain = (leads.clone(), bits.clone());
     two(
         cycles,
         cycles,
@@ -289,8 +290,6 @@ fn plan(rows: usize) -> Work {
                     N,
                     leads.as_ptr(),
                     leads.len(),
-                    trails.as_ptr(),
-                    trails.len(),
                     bits.as_ptr(),
                     bits.len(),
                     lent.out.as_mut_ptr(),
@@ -302,8 +301,39 @@ fn plan(rows: usize) -> Work {
             lent.told = [refused as i64, count as i64, place as i64, 0];
         },
         move |lent| {
-            let sent = sender::plan(A, B, N, &plain.0, &plain.1, &plain.2, &mut lent.out);
+            let sent = sender::plan(A, B, N, &plain.0, &plain.1, &mut lent.out);
             lent.told = [0, sent.expect("can be sent") as i64, 0, 0];
+        },
+    )
+}
+
+fn read_plan(rows: usize) -> Work {
+    let leads: Vec<usize> = (0..rows).map(|i| LEAD + i % 7).collect();
+    let trails: Vec<usize> = (0..rows).map(|i| i % 5).collect();
+    let plain = (leads.clone(), trails.clone());
+    two(
+        rows,
+        0,
+        move |lent| {
+            let (mut place, mut count, mut dropped) = (0, 0, 0);
+            let refused = unsafe {
+                siengulot_read_plan(
+                    leads.as_ptr(),
+                    leads.len(),
+                    trails.as_ptr(),
+                    trails.len(),
+                    lent.pads.as_mut_ptr(),
+                    lent.pads.len(),
+                    &mut place,
+                    &mut count,
+                    &mut dropped,
+                )
+            };
+            lent.told = [refused as i64, count as i64, place as i64, dropped as i64];
+        },
+        move |lent| {
+            let read = stored::read_plan(&plain.0, &plain.1, &mut lent.pads).expect("can be read");
+            lent.told = [0, read.rows as i64, 0, read.dropped as i64];
         },
     )
 }

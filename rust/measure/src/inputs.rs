@@ -30,7 +30,7 @@ pub fn wave(cycles: usize) -> Vec<u8> {
     while wave.len() < cycles {
         let mut one = vec![0; row];
         let bits = random(N, seed);
-        sender::message(A, B, LEAD, 0, &bits, &mut one).expect("a row can be sent");
+        sender::message(A, B, LEAD, &bits, &mut one).expect("a row can be sent");
         wave.extend(one);
         seed += 1;
     }
@@ -64,7 +64,7 @@ pub fn rows(reads: usize) -> Vec<u8> {
 /// The reads of a message of so many bits in cells of `a` and `b`.
 pub fn message(a: usize, b: usize, bits: usize) -> Vec<u8> {
     let mut out = vec![0; bits * (a + b)];
-    sender::message(a, b, 0, 0, &random(bits, 5), &mut out).expect("a message can be sent");
+    sender::message(a, b, 0, &random(bits, 5), &mut out).expect("a message can be sent");
     out
 }
 

@@ -14,18 +14,21 @@ mod numbers;
 mod picking;
 
 use cases::{Lent, Work};
+use siengulot_plain::settings::MAX_ROWS;
 use std::os::unix::process::parent_id;
 use std::time::{Duration, Instant};
 
 /// How many runs the best time is taken from. They are many and short, so that other work leaves some alone.
 const RUNS: usize = 200;
 
-/// A lent output whose every byte has been written, so that no run is the first to touch it.
+/// A lent output whose every byte has been written, so that no run is the first to touch it, and as many pads as a plan
+/// may have rows, likewise.
 fn lent(work: &Work) -> Lent {
-    let mut out = vec![7; work.room];
+    let (mut out, mut pads) = (vec![7; work.room], vec![7; MAX_ROWS]);
     out.fill(0);
+    pads.fill(0);
     let told = [0; 4];
-    Lent { out, told }
+    Lent { out, pads, told }
 }
 
 /// Stops if the sides have not left the same: a refused run would be a false figure.

@@ -31,7 +31,7 @@ mul-result c = omega (arith, div-mul-le-self (length (c .args .bits .now)) (c .a
 returns : tie.Need-returns
 returns c =
     let leads = length (c .args .leads .now) in
-    goes-into (leb 1 leads && eqb (length (c .args .trails .now)) leads) (length (c .args .bits .now)) leads _ (c .pre)
+    goes-into (leb 1 leads) (length (c .args .bits .now)) leads _ (c .pre)
 
 pub lists-fit-spec : {M : Type 1} → statement M
 lists-fit-spec = tie.close (tie.spec div-rows mul-result returns)

@@ -18,12 +18,11 @@ row-most a b n ha hb hn =
     omega (arith, mul-le-mul hn cell)
 
 abbrev Inv-loop : tie.InvT-loop
-Inv-loop a b n leads trails cell row cycles₀ i₀ cycles i =
-    (i ≤ length leads) × (cycles ≤ i * 653310)
-    × (cycles + total (drop i leads) + total (drop i trails) ≡ i * row + total leads + total trails)
+Inv-loop a b n leads cell row cycles₀ i₀ cycles i =
+    (i ≤ length leads) × (cycles ≤ i * 587775) × (cycles + total (drop i leads) ≡ i * row + total leads)
 
 abbrev μ-loop : tie.MeasureT-loop
-μ-loop a b n leads trails cell row cycles₀ i₀ cycles i = length leads - i
+μ-loop a b n leads cell row cycles₀ i₀ cycles i = length leads - i
 
 add-cell : tie.Need-add-cell Inv-loop μ-loop
 add-cell c = omega arith
@@ -46,10 +45,7 @@ module _ (c : tie.In-loop Inv-loop μ-loop) where
   start = c .before .before
 
   lead-most : getD (start .args .leads .now) (c .before .loop .i) 0 ≤ 65535
-  lead-most = pads-most (start .args .leads .now) (start .pre .5) (c .before .loop .i) (c .loop-test .taken)
-
-  trail-most : getD (start .args .trails .now) (c .before .loop .i) 0 ≤ 65535
-  trail-most = pads-most (start .args .trails .now) (start .pre .6) (c .before .loop .i) (omega arith)
+  lead-most = pads-most (start .args .leads .now) (start .pre .4) (c .before .loop .i) (c .loop-test .taken)
 
   cells-most : start .args .n * (start .args .a + start .args .b) ≤ 522240
   cells-most =
@@ -61,16 +57,6 @@ add-cycles c = omega (arith, lead-most (c .before))
 add-cycles-2 : tie.Need-add-cycles-2 Inv-loop μ-loop
 add-cycles-2 c = omega (arith, lead-most (c .before), cells-most (c .before))
 
-mul-cycles-2 : tie.Need-mul-cycles-2 Inv-loop μ-loop
-mul-cycles-2 c = omega arith
-
-shared-slice-read-cycles-2 : tie.Need-shared-slice-read-cycles-2 Inv-loop μ-loop
-shared-slice-read-cycles-2 c = omega arith
-
-add-cycles-3 : tie.Need-add-cycles-3 Inv-loop μ-loop
-add-cycles-3 c =
-    omega (arith, lead-most (c .before .before), cells-most (c .before .before), trail-most (c .before .before))
-
 add-i : tie.Need-add-i Inv-loop μ-loop
 add-i c = omega arith
 
@@ -79,17 +65,10 @@ loop-less c = omega arith
 
 loop-again : tie.Need-loop-again Inv-loop μ-loop
 loop-again c =
-    let turn = c .before .before in
+    let turn = c .before in
     let i = turn .before .loop .i in
     let args = turn .before .before .args in
-    omega (
-      arith,
-      lead-most turn,
-      cells-most turn,
-      trail-most turn,
-      total-step (args .leads .now) i (turn .loop-test .taken),
-      total-step (args .trails .now) i (omega arith),
-    )
+    omega (arith, lead-most turn, cells-most turn, total-step (args .leads .now) i (turn .loop-test .taken))
 
 returns : tie.Need-returns Inv-loop μ-loop
 returns c bits fit =
@@ -97,14 +76,12 @@ returns c bits fit =
     let args = start .args in
     let i = c .before .loop .i in
     let leads = args .leads .now in
-    let trails = args .trails .now in
     let all : i ≡ length leads = omega arith in
     let sum = rw all at (c .before .loop .inv .2) in
     omega (
       arith,
-      length-plan (args .a) (args .b) (args .n) leads trails bits (start .pre .4) fit,
+      length-plan (args .a) (args .b) (args .n) leads bits fit,
       total-end leads (length leads) (omega arith),
-      total-end trails (length leads) (omega arith),
     )
 
 pub plan-cycles-spec : {M : Type 1} → statement M
@@ -120,9 +97,6 @@ plan-cycles-spec =
     shared-slice-read-cycles
     add-cycles
     add-cycles-2
-    mul-cycles-2
-    shared-slice-read-cycles-2
-    add-cycles-3
     add-i
     loop-less
     loop-again

@@ -14,24 +14,20 @@ returns c = simp (failed (c .before .numbers-in-range .ensures) (c .if1 .taken))
 
 lists-fit-requires : tie.Need-lists-fit-requires
 lists-fit-requires c κs =
-    let args = c .before .before .before .before .before .args in
+    let args = c .before .before .before .before .args in
     let fits = passed (c .before .numbers-in-range .ensures) (c .if1 .left) in
     range-ends 1 1024 (args .n) (each (subcell (args .a)) (subcell (args .b) ∷ rowBits (args .n) ∷ []) fits 2) .0
 
 pads-in-range-requires : tie.Need-pads-in-range-requires
 pads-in-range-requires c κs = search needs
 
-pads-in-range-requires-2 : tie.Need-pads-in-range-requires-2
-pads-in-range-requires-2 c κs = search needs
-
 returns-2 : tie.Need-returns-2
 returns-2 c =
-    let first = c .before .before .before in
+    let first = c .before .before in
     rw (
       passed (first .before .numbers-in-range .ensures) (first .if1 .left),
-      ← c .before .before .lists-fit .ensures,
-      ← c .before .pads-in-range .ensures,
-      ← c .pads-in-range2 .ensures,
+      ← c .before .lists-fit .ensures,
+      ← c .pads-in-range .ensures,
     )
 
 pub plan-in-range-spec : {M : Type 1} → statement M
@@ -42,5 +38,4 @@ plan-in-range-spec =
     returns
     lists-fit-requires
     pads-in-range-requires
-    pads-in-range-requires-2
     returns-2)

@@ -29,7 +29,7 @@ returns c = simp (failed (c .before .in-range .ensures) (c .if1 .taken))
 -- past the first test the settings are in range
 accepts : (c : tie.Else1)
     → let args = c .before .before .before .before .args in
-    messageInRange (args .a .0) (args .b .0) (args .p1 .0) (args .p2 .0) ≡ true
+    messageInRange (args .a .0) (args .b .0) (args .p1 .0) ≡ true
 accepts c = passed (c .before .in-range .ensures) (c .if1 .left)
 
 returns-2 : tie.Need-returns-2
@@ -40,23 +40,23 @@ returns-2 c = simp (accepts (c .before), lt-ltb _ _ (c .if2 .taken))
 abbrev message : tie.Else2 → List ℕ
 message c =
     let args = c .before .before .before .before .before .args in
-    wave (args .a .0) (args .b .0) (args .p1 .0) (args .p2 .0) (args .bits .now)
+    wave (args .a .0) (args .b .0) (args .p1 .0) (args .bits .now)
 
 cycles : (c : tie.Else2)
     → let args = c .before .before .before .before .before .args in
-    length (message c) ≡ args .p1 .0 + length (args .bits .now) * (args .a .0 + args .b .0) + args .p2 .0
-cycles c = length-wave _ _ _ _ _
+    length (message c) ≡ args .p1 .0 + length (args .bits .now) * (args .a .0 + args .b .0)
+cycles c = length-wave _ _ _ _
 
 bounded : (c : tie.Else1) → let args = c .before .before .before .before .args in
-    Message (args .a .0) (args .b .0) (args .p1 .0) (args .p2 .0)
-bounded c = message-bounded _ _ _ _ (accepts c)
+    Message (args .a .0) (args .b .0) (args .p1 .0)
+bounded c = message-bounded _ _ _ (accepts c)
 
 most : (c : tie.Else2)
     → let args = c .before .before .before .before .before .args in
-    args .p1 .0 + length (args .bits .now) * (args .a .0 + args .b .0) + args .p2 .0 ≤ 653310
+    args .p1 .0 + length (args .bits .now) * (args .a .0 + args .b .0) ≤ 587775
 most c =
     let ok = bounded (c .before) in
-    message-most _ _ _ _ _ (ok .a-most) (ok .b-most) (ok .p1-most) (ok .p2-most) (c .if2 .left)
+    message-most _ _ _ _ (ok .a-most) (ok .b-most) (ok .p1-most) (c .if2 .left)
 
 limit : (c : tie.Else2) → ltb entriesMost (length (message c)) ≡ false
 limit c = le-ltb entriesMost (length (message c)) (omega (arith, most c, cycles c))
@@ -84,9 +84,6 @@ mul-cycles c = omega (arith, most (c .before .before))
 
 add-cycles : tie.Need-add-cycles
 add-cycles c = omega (arith, most (c .before .before))
-
-add-cycles-2 : tie.Need-add-cycles-2
-add-cycles-2 c = omega (arith, most (c .before .before))
 
 returns-4 : tie.Need-returns-4
 unfolding sentMessage
@@ -137,7 +134,6 @@ send-spec =
     add-cell
     mul-cycles
     add-cycles
-    add-cycles-2
     returns-4
     wave-into-requires
     same-length

@@ -27,25 +27,22 @@ returns c = simp (failed (c .before .plan-in-range .ensures) (c .if1 .taken))
 -- past the first test the plan is in range
 module _ (c : tie.Else1) where
   abbrev begin : tie.Start
-  begin = c .before .before .before .before .before .before
+  begin = c .before .before .before .before .before
 
   abbrev leads : List ℕ
   leads = begin .args .leads .now
 
-  abbrev trails : List ℕ
-  trails = begin .args .trails .now
-
   abbrev bits : List ℕ
   bits = begin .args .bits .now
 
-  accepts : planInRange (begin .args .a .0) (begin .args .b .0) (begin .args .n) leads trails bits ≡ true
+  accepts : planInRange (begin .args .a .0) (begin .args .b .0) (begin .args .n) leads bits ≡ true
   accepts = passed (c .before .plan-in-range .ensures) (c .if1 .left)
 
-  bounded : Plan (begin .args .a .0) (begin .args .b .0) (begin .args .n) leads trails bits
-  bounded = plan-bounded _ _ _ _ _ _ accepts
+  bounded : Plan (begin .args .a .0) (begin .args .b .0) (begin .args .n) leads bits
+  bounded = plan-bounded _ _ _ _ _ accepts
 
   abbrev plan : List ℕ
-  plan = planWave (begin .args .a .0) (begin .args .b .0) (rowsOf (begin .args .n) leads trails bits)
+  plan = planWave (begin .args .a .0) (begin .args .b .0) (rowsOf (begin .args .n) leads bits)
 
 returns-2 : tie.Need-returns-2
 unfolding sentPlan
@@ -54,7 +51,7 @@ returns-2 c = simp (accepts (c .before), lt-ltb _ _ (c .if2 .taken))
 plan-cycles-requires : tie.Need-plan-cycles-requires
 plan-cycles-requires c κs =
     let ok = bounded (c .before) in
-    (ok .a-most, ok .b-most, ok .n-most, c .if2 .left, ok .trails-fit, ok .leads-padded, ok .trails-padded)
+    (ok .a-most, ok .b-most, ok .n-most, c .if2 .left, ok .leads-padded)
 
 -- what was counted is the wave's length
 cycles : (c : tie.After-plan-cycles) → length (plan (c .before .before)) ≡ c .plan-cycles .result
@@ -110,7 +107,7 @@ plan-into-requires c κs =
     let fifth = c .before in
     let counted = fifth .before .before .before .before in
     let ok = bounded (counted .before .before) in
-    (ok .trails-fit, ok .bits-fit, omega (arith, cycles counted))
+    (ok .bits-fit, omega (arith, cycles counted))
 
 same-length : tie.Need-same-length
 same-length c = search needs

@@ -7,10 +7,10 @@ use Rattle.cases.proofs.reading.entries.Statement.{statement}
 use Rattle.cases.proofs.reading.entries.Tie as tie
 
 abbrev Inv-loop : tie.InvT-loop
-Inv-loop text list₀ size₀ at₀ list size at = (size ≤ length list₀) × (length list ≡ length list₀)
+Inv-loop text list₀ from size₀ at₀ list size at = (size ≤ length list₀) × (length list ≡ length list₀)
 
 abbrev μ-loop : tie.MeasureT-loop
-μ-loop text list₀ size₀ at₀ list size at = length text - at
+μ-loop text list₀ from size₀ at₀ list size at = length text - at
 
 loop-holds : tie.Need-loop-holds Inv-loop μ-loop
 loop-holds c = search needs

@@ -1,0 +1,217 @@
+-- A stored plan and the plan that it is read into. They have the same wave but for the dropped cycles, and each stored
+-- lead pad is the end of a lead pad, at the same cycles: so all is a case of demand 3.
+use Prim.Native.Nat.{ℕ, suc, _+_, _*_, _-_, _≤_, _<_}
+use mathlib.Core.Path.{_≡_, refl, subst, sym, ap, _∙_}
+use mathlib.Core.Bool.{true}
+use mathlib.Core.List.{List, [], _∷_, _++_, append-nil}
+use native.Mathlib.Nat.{zero-add}
+use native.Mathlib.Omega.{arith}
+use lib.ListN.{length, getD, take, drop, length-append}
+use lib.Seq.{take-append-seam}
+use Rattle.settings.specs.Margins.{m5 as M5, zeroOrMore}
+use Rattle.settings.proofs.Grows.{m5-grows, m5-stays}
+use Rattle.sender.specs.Sending.{Row, pad, planWave, rowsOf}
+use Rattle.sender.proofs.PlanRows.{rows-none, rows-more}
+use Rattle.sender.proofs.PlanWaves.{length-rows, plan-none}
+use Rattle.stored.specs.Stored.{storedWave, storedRowsOf, joinedLeads, joined, dropped}
+use Rattle.stored.proofs.Joins.{joined-none, joined-more, stored-rows-more}
+use Rattle.stored.proofs.Lengths.{stored-none, stored-length}
+use Rattle.stored.proofs.ShownHolds.{same-wave, every-lead-grows}
+use Rattle.line.specs.Passes.{overTheLine}
+use Rattle.line.proofs.Fronts.{GoesOn, over-front}
+use Rattle.board.specs.Rows.{fresh, next}
+use Rattle.board.specs.Feeding.{Report, Step, reportsBy}
+use Rattle.promises.specs.Places.{Link, planReads, cyclesOf, heard, lastAfter, lastSample}
+use Rattle.promises.specs.Replaced.{below}
+use Rattle.promises.specs.Demand3.{RowsFit, Fitting, LongEnough, After, receiverSettings}
+use Rattle.promises.specs.StoredPlans.{StoredLink, linkWith, readInto, itself, storedReads, storedFrom}
+use Rattle.promises.specs.StoredPlans.{storedLead, EveryStoredPlan, StoredFits, StoredPlansHold}
+use Rattle.promises.proofs.Seams.{first-part}
+use Rattle.promises.proofs.Deliveries.{placed-below}
+use Rattle.promises.proofs.Demand3.{timed, in-rows, placed, demand-3, grounds}
+
+module _ (y : StoredLink) where
+  -- the rows of lists from some row on, with so many cycles before the first lead pad
+  abbrev rowsFrom : (before : ℕ) (leads trails bits : List ℕ) → List Row
+  rowsFrom before leads trails bits = rowsOf (y .n) (joinedLeads before leads trails) bits
+
+  abbrev StoredRowsFit : (leads bits : List ℕ) → Type 0
+  StoredRowsFit leads bits = RowsFit (linkWith y (y .leads) 0) (rowsOf (y .n) leads bits)
+
+  rows-fit : (high before : ℕ) (leads trails bits : List ℕ) → length trails ≡ length leads → StoredRowsFit leads bits
+      → RowsFit (readInto y high) (rowsFrom before leads trails bits)
+  rows-fit high before [] trails bits h all = rw (joined-none before trails, rows-none (y .n) bits) tt
+  rows-fit high before (lead ∷ leads) [] bits h all = absurd (omega arith)
+  rows-fit high before (lead ∷ leads) (trail ∷ trails) bits h all =
+      let parts = rw (rows-more (y .n) lead leads bits) at all in
+      rw (
+        joined-more before lead trail leads trails,
+        rows-more (y .n) (before + lead) (joinedLeads trail leads trails) bits,
+      ) (
+        parts .0,
+        parts .1,
+        m5-stays (y .w) (y .r) (y .Q) lead (before + lead) (omega arith) (parts .2),
+        rows-fit high trail leads trails (drop (y .n) bits) (omega arith) (parts .3),
+      )
+
+  -- a row and its lead pad as it is stored: the last cycles of the row's lead pad, where they stood
+  pub record Kept (before : ℕ) (leads trails bits : List ℕ) (earlier : List Row) (row : Row) : Type 0 where
+    pub within : getD leads (length earlier) 0 ≤ row .lead
+    pub m5 : zeroOrMore (M5 (y .w) (y .r) (y .Q) (getD leads (length earlier) 0)) ≡ true
+    pub begins : length (planWave (y .a) (y .b) earlier) + (row .lead - getD leads (length earlier) 0)
+        ≡ before + length (storedWave (y .a) (y .b) (take (length earlier) (storedRowsOf (y .n) leads trails bits)))
+
+  kept : (before : ℕ) (leads trails bits : List ℕ) → length trails ≡ length leads → StoredRowsFit leads bits
+      → (earlier : List Row) (row : Row) (later : List Row)
+      → rowsFrom before leads trails bits ≡ earlier ++ row ∷ later → Kept before leads trails bits earlier row
+  kept before [] trails bits h all earlier row later same =
+      absurd (omega (arith, ap (λ (l : List Row). length l) none, length-append earlier (row ∷ later)))
+    where
+      none : [] ≡ earlier ++ row ∷ later
+      none = rw (joined-none before trails, rows-none (y .n) bits) at same
+  kept before (lead ∷ leads) [] bits h all earlier row later same = absurd (omega arith)
+  kept before (lead ∷ leads) (trail ∷ trails) bits h all earlier row later same =
+      go earlier
+      (rw (
+        joined-more before lead trail leads trails,
+        rows-more (y .n) (before + lead) (joinedLeads trail leads trails) bits,
+      ) at same)
+      (λ earlier rest. kept trail leads trails (drop (y .n) bits) (omega arith) (parts .3) earlier row later rest)
+    where
+      parts : RowsFit (linkWith y (y .leads) 0)
+          (record { lead = lead; bits = take (y .n) bits } ∷ rowsOf (y .n) leads (drop (y .n) bits))
+      parts = rw (rows-more (y .n) lead leads bits) at all
+
+      this : Row
+      this = record { lead = before + lead; bits = take (y .n) bits }
+
+      go : (earlier : List Row)
+          → this ∷ rowsFrom trail leads trails (drop (y .n) bits) ≡ earlier ++ row ∷ later
+          → ((earlier : List Row) → rowsFrom trail leads trails (drop (y .n) bits) ≡ earlier ++ row ∷ later
+          → Kept trail leads trails (drop (y .n) bits) earlier row)
+          → Kept before (lead ∷ leads) (trail ∷ trails) bits earlier row
+      go [] e more = record {
+        within = omega (arith, lead-is);
+        m5 = parts .2;
+        begins = rw (plan-none (y .a) (y .b), stored-none (y .a) (y .b)) (omega (arith, lead-is));
+      }
+        where
+          lead-is : before + lead ≡ row .lead
+          lead-is = ap (λ (l : List Row). getD l 0 row .lead) e
+      go (first ∷ earlier) e more =
+          let rest = more earlier (ap (λ (l : List Row). drop 1 l) e) in
+          record {
+            within = rest .within;
+            m5 = rest .m5;
+            begins =
+                rw (stored-rows-more (y .n) lead trail leads trails bits)
+                (omega (
+                  arith,
+                  rest .begins,
+                  cycles,
+                  length-rows (y .a) (y .b) (first ∷ earlier),
+                  length-rows (y .a) (y .b) earlier,
+                  stored-length (y .a) (y .b) (record { lead = lead; trail = trail; bits = take (y .n) bits })
+                      (take (length earlier) (storedRowsOf (y .n) leads trails (drop (y .n) bits))),
+                ));
+          }
+        where
+          cycles : before + lead + length (take (y .n) bits) * (y .a + y .b)
+              ≡ first .lead + length (first .bits) * (y .a + y .b)
+          cycles = ap (λ (l : List Row). getD l 0 first .lead + length (getD l 0 first .bits) * (y .a + y .b)) e
+
+  abbrev x : Link
+  x = itself y
+
+  abbrev plan : List ℕ
+  plan = planWave (y .a) (y .b) (x .rows)
+
+  abbrev R : List ℕ
+  R = planReads (readInto y 0)
+
+  all : length (y .trails) ≡ length (y .leads) → planReads x ≡ storedReads y
+  unfolding planReads
+  all lists =
+      ap (λ (l : List ℕ). overTheLine (y .w) (y .r) (y .p) l (y .choices))
+      (sym (same-wave (y .a) (y .b) (y .n) (y .leads) (y .trails) (y .bits) lists))
+
+  goes-on : 0 < y .r → y .p < y .w → GoesOn R (planReads x)
+  unfolding planReads
+  goes-on some-r phase =
+      let (rest, e) = over-front (y .w) (y .r) (y .p) plan (pad (dropped (y .trails))) (y .choices) some-r phase in
+      (rest, e ∙ ap (λ (l : List ℕ). overTheLine (y .w) (y .r) (y .p) l (y .choices) ++ rest) plain)
+    where
+      plain : plan ≡ plan ++ pad 0
+      plain = sym (append-nil plan)
+
+  front : length (y .trails) ≡ length (y .leads) → 0 < y .r → y .p < y .w → R ≡ take (length R) (storedReads y)
+  front lists some-r phase =
+      let (rest, e) = goes-on some-r phase in
+      sym (take-append-seam R rest) ∙ ap (λ (l : List ℕ). take (length R) l) (sym e ∙ all lists)
+
+  module _ (stored : StoredFits y) where
+    abbrev margins : Fitting (linkWith y (y .leads) 0)
+    margins = stored .margins
+
+    fits : (high : ℕ) → Fitting (readInto y high)
+    fits high = record {
+      phase = margins .phase;
+      choices = margins .choices;
+      some-bits = margins .some-bits;
+      rows = rows-fit high 0 (y .leads) (y .trails) (y .bits) (stored .lists) (margins .rows);
+      m1 = margins .m1;
+      m2 = margins .m2;
+      m3 = margins .m3;
+      m4 = margins .m4;
+    }
+
+    abbrev G : Step
+    G = next (receiverSettings x)
+
+    -- each report is of a read of the plan alone
+    same-rows : reportsBy G fresh 0 (storedReads y) ≡ reportsBy G fresh 0 R
+    same-rows =
+        let (rest, e) = goes-on (timed x (fits (dropped (y .trails)))) (margins .phase) in
+        let few : length R ≤ length (planReads x) = rw e (rw length-append (omega arith)) in
+        ap (λ (l : List ℕ). reportsBy G fresh 0 l) (sym (all (stored .lists)))
+        ∙ sym (placed-below (placed x (fits (dropped (y .trails))) (length R) few (in-rows (readInto y 0) (fits 0))))
+        ∙ ap (λ (l : List ℕ). below (length R) (reportsBy G fresh 0 l)) e
+        ∙ first-part G R rest fresh (length R) refl
+
+    module _ (earlier : List Row) (row : Row) (later : List Row) (same : x .rows ≡ earlier ++ row ∷ later) where
+      here : Kept 0 (y .leads) (y .trails) (y .bits) earlier row
+      here =
+          kept 0 (y .leads) (y .trails) (y .bits) (stored .lists) (margins .rows) earlier row later same
+
+      long : LongEnough x row (storedLead y (length earlier))
+      long = record { within = here .within; m5 = here .m5 }
+
+      begins : cyclesOf x earlier + (row .lead - storedLead y (length earlier)) ≡ storedFrom y (length earlier)
+      begins = here .begins ∙ zero-add _
+
+pub every-stored-plan : EveryStoredPlan
+every-stored-plan y lists = record {
+  all = all y lists;
+  front = front y lists;
+  m5-no-smaller = λ number.
+      m5-grows (y .w) (y .r) (y .Q) _ _ (every-lead-grows (y .leads) (y .trails) lists .longer number);
+}
+
+pub stored-plans-hold : StoredPlansHold
+stored-plans-hold y stored = record {
+  same-rows = same-rows y stored;
+  fits = fits y stored;
+  demand = λ high. demand-3 (readInto y high) (fits y stored high);
+  same-cycles = begins y stored;
+  as-it-was = λ hear demand earlier row later same.
+      subst (λ (c : ℕ). After (itself y) hear c (storedLead y (length earlier)) earlier row later)
+      (begins y stored earlier row later same)
+      (demand .after earlier row later same (storedLead y (length earlier))
+      (long y stored earlier row later same));
+  same-samples = λ earlier row later same.
+      subst (λ (c : ℕ). lastAfter (itself y) (heard (itself y) c (storedLead y (length earlier)))
+      ≡ lastSample (itself y) (cyclesOf (itself y) earlier) row)
+      (begins y stored earlier row later same)
+      (grounds (itself y) (fits y stored (dropped (y .trails))) .same-sample earlier row later same
+      (storedLead y (length earlier)) (long y stored earlier row later same));
+}

@@ -1,0 +1,4 @@
+pub mod CasesHold
+pub mod Joins
+pub mod Lengths
+pub mod ShownHolds

@@ -1,0 +1,4 @@
+pub mod Stored
+pub mod Answers
+pub mod Shown
+pub mod Cases
