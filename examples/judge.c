@@ -1,7 +1,7 @@
 /*
  * judge: tells whether a board can be fitted with these settings.
  *
- *     judge A B K W R Q P1
+ *     judge A B G K W R Q P1
  *
  * Prints the five margins, and "yes" if all of them are zero or more, else "no"; or the refusal of a setting that is out of range. Its exit status
  * is 0 for yes, 1 for no, and 2 for a refusal or for a word that is no number.
@@ -11,7 +11,7 @@
 #include <stdio.h>
 #include <stdlib.h>
 
-enum { SETTINGS = 7, MARGINS = 5 };
+enum { SETTINGS = 8, MARGINS = 5 };
 
 int main(int argc, char **argv)
 {
@@ -20,7 +20,7 @@ int main(int argc, char **argv)
     size_t accepted, refusal;
 
     if (argc != 1 + SETTINGS) {
-        fprintf(stderr, "usage: judge A B K W R Q P1\n");
+        fprintf(stderr, "usage: judge A B G K W R Q P1\n");
         return 2;
     }
     for (int i = 0; i < SETTINGS; i++) {
@@ -33,7 +33,8 @@ int main(int argc, char **argv)
             return 2;
         }
     }
-    refusal = siengulot_judge_quiet(setting[0], setting[1], setting[2], setting[3], setting[4], setting[5], setting[6], margins, &accepted);
+    refusal = siengulot_judge_quiet(setting[0], setting[1], setting[2], setting[3], setting[4], setting[5], setting[6], setting[7], margins,
+                                    &accepted);
     if (refusal != SIENGULOT_NO_REFUSAL) {
         printf("refused %zu\n", refusal);
         return 2;

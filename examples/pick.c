@@ -1,7 +1,7 @@
 /*
  * pick: gives the best sampling count for these settings.
  *
- *     pick A B W R
+ *     pick A B G W R
  *
  * Prints k, which has the greatest least margin of all from 1 to 511, and its margins M1, M2 and M3; or the refusal. Its exit status is 0 for a k,
  * 1 where no k will do, and 2 for a setting that is out of range or for a word that is no number.
@@ -11,7 +11,7 @@
 #include <stdio.h>
 #include <stdlib.h>
 
-enum { SETTINGS = 4, MARGINS = 3 };
+enum { SETTINGS = 5, MARGINS = 3 };
 
 int main(int argc, char **argv)
 {
@@ -20,7 +20,7 @@ int main(int argc, char **argv)
     size_t k, accepted;
 
     if (argc != 1 + SETTINGS) {
-        fprintf(stderr, "usage: pick A B W R\n");
+        fprintf(stderr, "usage: pick A B G W R\n");
         return 2;
     }
     for (int i = 0; i < SETTINGS; i++) {
@@ -33,17 +33,17 @@ int main(int argc, char **argv)
             return 2;
         }
     }
-    switch (siengulot_pick(setting[0], setting[1], setting[2], setting[3], &k)) {
+    switch (siengulot_pick(setting[0], setting[1], setting[2], setting[3], setting[4], &k)) {
     case SIENGULOT_NO_REFUSAL:
         break;
     case SIENGULOT_NO_COUNT:
         puts("refused 9: no k from 1 to 511 has three margins of zero or more");
         return 1;
     default:
-        puts("refused 1: a or b is out of 1 to 255, or w or r out of 1 to 65535");
+        puts("refused 1: a or b is out of 1 to 255, g out of 1 to 64, or w or r out of 1 to 65535");
         return 2;
     }
-    siengulot_judge(setting[0], setting[1], k, setting[2], setting[3], margins, &accepted);
+    siengulot_judge(setting[0], setting[1], setting[2], k, setting[3], setting[4], margins, &accepted);
     printf("k %zu\n", k);
     for (int i = 0; i < MARGINS; i++) {
         printf("M%d %" PRId64 "\n", i + 1, margins[i]);

@@ -1,6 +1,6 @@
 /*
  * way: one row on its way. Judges the settings, sends the row, takes its wave over the three passes of the line, and gives the reads one by one to
- * a receiver. Prints each stage as a name and numbers. The pictures of docs/pictures are drawn from what it prints.
+ * a receiver. Prints each stage as a name and numbers, and what the first two passes make of the same wave on a longer cable. The pictures of docs/pictures are drawn from what it prints.
  *
  *     way
  */
@@ -10,7 +10,10 @@
 #include <stdlib.h>
 
 /* The first board of docs/FITTER.md, with the least p1 that the judge accepts for it. */
-enum { A = 5, B = 13, K = 10, W = 100, R = 141, Q = 16, P1 = 25 };
+enum { A = 5, B = 13, G = 1, K = 10, W = 100, R = 141, Q = 16, P1 = 25 };
+
+/* A settling count as of a longer cable, to show what it does to the same wave. */
+enum { SLOW = 3 };
 
 /* The row, and how it happens to be read: the phase, and how unknown reads fall. */
 enum { N = 3, P = 30, CHOICES = 7 };
@@ -69,14 +72,14 @@ static void print_event(const siengulot_heard *heard, size_t read)
 
 int main(void)
 {
-    static uint8_t wave[ROOM], smoothed[ROOM], warped[ROOM], settled[ROOM];
+    static uint8_t wave[ROOM], smoothed[ROOM], warped[ROOM], settled[ROOM], slow_smoothed[ROOM], slow_warped[ROOM];
     int64_t margins[MARGINS];
     siengulot_receiver receiver;
     siengulot_heard heard;
-    size_t accepted, cycles, reads;
+    size_t accepted, cycles, reads, slow_reads;
 
-    succeed(siengulot_judge_quiet(A, B, K, W, R, Q, P1, margins, &accepted));
-    printf("settings %d %d %d %d %d %d %d %d\n", A, B, K, W, R, Q, P1, P);
+    succeed(siengulot_judge_quiet(A, B, G, K, W, R, Q, P1, margins, &accepted));
+    printf("settings %d %d %d %d %d %d %d %d %d\n", A, B, G, K, W, R, Q, P1, P);
     printf("margins");
     for (int i = 0; i < MARGINS; i++) {
         printf(" %" PRId64, margins[i]);
@@ -86,12 +89,18 @@ int main(void)
 
     succeed(siengulot_send(A, B, P1, bits, N, wave, ROOM, &place, &cycles));
     print_levels("wave", wave, cycles);
-    succeed(siengulot_smooth(wave, cycles, smoothed, ROOM, &place, &cycles));
+    succeed(siengulot_smooth(G, wave, cycles, smoothed, ROOM, &place, &cycles));
     print_levels("smoothed", smoothed, cycles);
     succeed(siengulot_warp(W, R, P, smoothed, cycles, warped, ROOM, &place, &reads));
     print_levels("warped", warped, reads);
     succeed(siengulot_settle(warped, reads, choices, CHOICES, settled, ROOM, &place, &reads));
     print_levels("settled", settled, reads);
+
+    printf("slow %d\n", SLOW);
+    succeed(siengulot_smooth(SLOW, wave, cycles, slow_smoothed, ROOM, &place, &cycles));
+    print_levels("slow_smoothed", slow_smoothed, cycles);
+    succeed(siengulot_warp(W, R, P, slow_smoothed, cycles, slow_warped, ROOM, &place, &slow_reads));
+    print_levels("slow_warped", slow_warped, slow_reads);
 
     succeed(siengulot_receiver_fresh(&receiver, K, N, Q));
     for (size_t j = 0; j < reads; j++) {

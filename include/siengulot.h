@@ -35,6 +35,8 @@ extern "C" {
 enum {
     SIENGULOT_SUBCELL_LEAST = 1, /* a and b, in writer cycles */
     SIENGULOT_SUBCELL_MOST = 255,
+    SIENGULOT_SETTLING_LEAST = 1, /* g, in writer cycles */
+    SIENGULOT_SETTLING_MOST = 64,
     SIENGULOT_SAMPLING_LEAST = 1, /* k, in read cycles */
     SIENGULOT_SAMPLING_MOST = 511,
     SIENGULOT_CYCLE_LEAST = 1, /* w and r, in time units */
@@ -73,34 +75,36 @@ enum siengulot_refusal {
 
 /*
  * The judge. Gives the margins M1, M2 and M3, in time units, and in `accepted` 1 if all three are zero or more, else 0:
- *   M1 = (a - 1) * w - 2 * r
- *   M2 = (k - 1) * r - (a + 1) * w
- *   M3 = (a + b - 1) * w - (k + 2) * r
+ *   M1 = (a - g) * w - 2 * r
+ *   M2 = (k - 1) * r - (a + g) * w
+ *   M3 = (a + b - g) * w - (k + 2) * r
+ * The settling count g is how many writer cycles a change of level takes on the cable, its own cycle among them.
  * Refuses with
- *   1  a or b out of 1 to 255, k out of 1 to 511, or w or r out of 1 to 65,535.
+ *   1  a or b out of 1 to 255, g out of 1 to 64, k out of 1 to 511, or w or r out of 1 to 65,535.
  * Leaves with a refusal `margins` as they were, and 0 in `accepted`.
  */
-size_t siengulot_judge(size_t a, size_t b, size_t k, size_t w, size_t r, int64_t margins[3], size_t *accepted);
+size_t siengulot_judge(size_t a, size_t b, size_t g, size_t k, size_t w, size_t r, int64_t margins[3], size_t *accepted);
 
 /*
  * The quiet judge. Gives the margins M1 to M5, the first three as above, and in `accepted` 1 if all five are zero or more, else 0:
- *   M4 = (Q - 2) * r - (a + b + 1) * w
- *   M5 = (p1 - 1) * w - (Q + 1) * r
+ *   M4 = (Q - 2) * r - (a + b + g) * w
+ *   M5 = (p1 - g) * w - (Q + 1) * r
  * Refuses with
  *   1  what the judge refuses, Q out of 2 to 8,191, or p1 above 65,535.
  * Leaves with a refusal `margins` as they were, and 0 in `accepted`.
  */
-size_t siengulot_judge_quiet(size_t a, size_t b, size_t k, size_t w, size_t r, size_t q, size_t p1, int64_t margins[5], size_t *accepted);
+size_t siengulot_judge_quiet(size_t a, size_t b, size_t g, size_t k, size_t w, size_t r, size_t q, size_t p1, int64_t margins[5],
+                             size_t *accepted);
 
 /*
  * The picker. Gives in `k` the sampling count from 1 to 511 for which the least of M1, M2 and M3 is the greatest, and of equals the smallest. With
  * that k the judge says yes.
  * Refuses with
- *   1  a or b out of 1 to 255, or w or r out of 1 to 65,535;
+ *   1  a or b out of 1 to 255, g out of 1 to 64, or w or r out of 1 to 65,535;
  *   9  settings for which no k from 1 to 511 has three margins of zero or more.
  * Leaves with a refusal 0 in `k`.
  */
-size_t siengulot_pick(size_t a, size_t b, size_t w, size_t r, size_t *k);
+size_t siengulot_pick(size_t a, size_t b, size_t g, size_t w, size_t r, size_t *k);
 
 /*
  * Sending
@@ -151,15 +155,16 @@ size_t siengulot_read_plan(const size_t *leads, size_t leads_length, const size_
  */
 
 /*
- * Pass 1, smooth. Gives `wave` at the front of `out` with each cycle unknown whose level is not that of the cycle before (the first is held to
- * high), and in `count` how many cycles it has, which is wave_length.
+ * Pass 1, smooth. Gives `wave` at the front of `out`, in which a cycle is unknown if the level changes at it or at one of the g - 1 cycles before it
+ * (high stands before the first cycle), and in `count` how many cycles it has, which is wave_length.
  * Refuses with
+ *   1  g out of 1 to 64;
  *   3  more than 1,048,576 cycles;
  *   2  an entry of `wave` above 1, at `place`;
  *   4  `out` shorter than `wave`.
  * Leaves with a refusal `out` as it was, and 0 in `count`.
  */
-size_t siengulot_smooth(const uint8_t *wave, size_t wave_length, uint8_t *out, size_t out_length, size_t *place, size_t *count);
+size_t siengulot_smooth(size_t g, const uint8_t *wave, size_t wave_length, uint8_t *out, size_t out_length, size_t *place, size_t *count);
 
 /*
  * Pass 2, warp. Gives the reads of `wave` at the front of `out`, and in `count` how many there are: (wave_length * w - p) / r rounded down,

@@ -208,7 +208,7 @@ impl Bench {
         self.meets(operation, REFUSALS[got]);
     }
 
-    pub fn judge(&mut self, [a, b, k, w, r]: [usize; 5]) {
+    pub fn judge(&mut self, [a, b, g, k, w, r]: [usize; 6]) {
         if !self.tries("judge") {
             return;
         }
@@ -216,17 +216,26 @@ impl Bench {
         let margins = lent.numbers("margins", 3, &mut self.rng);
         let accepted = lent.number("accepted", &mut self.rng);
         let mut expected = lent.clone();
-        let answer = settings::judge(a, b, k, w as u64, r as u64);
+        let answer = settings::judge(a, b, g, k, w as u64, r as u64);
         let number = self.judged("judge", &mut expected, margins, accepted, answer);
         let got = unsafe {
-            siengulot_judge(a, b, k, w, r, lent.pointer(margins), lent.pointer(accepted))
+            siengulot_judge(
+                a,
+                b,
+                g,
+                k,
+                w,
+                r,
+                lent.pointer(margins),
+                lent.pointer(accepted),
+            )
         };
         self.compare("judge", (got, &lent), (number, &expected), || {
-            format!("{:?}", [a, b, k, w, r])
+            format!("{:?}", [a, b, g, k, w, r])
         });
     }
 
-    pub fn judge_quiet(&mut self, [a, b, k, w, r, q, p1]: [usize; 7]) {
+    pub fn judge_quiet(&mut self, [a, b, g, k, w, r, q, p1]: [usize; 8]) {
         if !self.tries("judge_quiet") {
             return;
         }
@@ -234,12 +243,13 @@ impl Bench {
         let margins = lent.numbers("margins", 5, &mut self.rng);
         let accepted = lent.number("accepted", &mut self.rng);
         let mut expected = lent.clone();
-        let answer = settings::judge_quiet(a, b, k, w as u64, r as u64, q, p1);
+        let answer = settings::judge_quiet(a, b, g, k, w as u64, r as u64, q, p1);
         let number = self.judged("judge_quiet", &mut expected, margins, accepted, answer);
         let got = unsafe {
             siengulot_judge_quiet(
                 a,
                 b,
+                g,
                 k,
                 w,
                 r,
@@ -250,7 +260,7 @@ impl Bench {
             )
         };
         self.compare("judge_quiet", (got, &lent), (number, &expected), || {
-            format!("{:?}", [a, b, k, w, r, q, p1])
+            format!("{:?}", [a, b, g, k, w, r, q, p1])
         });
     }
 
@@ -279,24 +289,24 @@ impl Bench {
         }
     }
 
-    pub fn pick(&mut self, [a, b, w, r]: [usize; 4]) {
+    pub fn pick(&mut self, [a, b, g, w, r]: [usize; 5]) {
         if !self.tries("pick") {
             return;
         }
         let mut lent = Lent::new();
         let k = lent.number("k", &mut self.rng);
         let mut expected = lent.clone();
-        let answer = settings::pick(a, b, w as u64, r as u64);
+        let answer = settings::pick(a, b, g, w as u64, r as u64);
         expected.set(k, &[answer.unwrap_or(0)]);
         let number = answer
             .err()
             .map_or(0, |refusal| usize::from(refusal.number));
-        let got = unsafe { siengulot_pick(a, b, w, r, lent.pointer(k)) };
+        let got = unsafe { siengulot_pick(a, b, g, w, r, lent.pointer(k)) };
         self.compare("pick", (got, &lent), (number, &expected), || {
-            format!("{:?}", [a, b, w, r])
+            format!("{:?}", [a, b, g, w, r])
         });
         // What is easy to miss: the ends of the range and of the margins, and equals.
-        let least = |k| match settings::judge(a, b, k, w as u64, r as u64) {
+        let least = |k| match settings::judge(a, b, g, k, w as u64, r as u64) {
             Ok(verdict) => *verdict.margins.iter().min().expect("three margins"),
             Err(_) => i64::MIN,
         };
@@ -442,19 +452,20 @@ impl Bench {
         }
     }
 
-    pub fn smooth(&mut self, wave: &[u8], room: Room) {
+    pub fn smooth(&mut self, g: usize, wave: &[u8], room: Room) {
         if !self.tries("smooth") {
             return;
         }
-        let result = line::smooth(wave, &mut self.scratch);
+        let result = line::smooth(g, wave, &mut self.scratch);
         let room = room.of(result.unwrap_or(0));
         let (mut lent, out, [place, count]) = self.lend(room);
         let mut expected = lent.clone();
-        let answer = line::smooth(wave, expected.part(out));
+        let answer = line::smooth(g, wave, expected.part(out));
         let number = told(&mut expected, place, count, answer);
         let list = self.edges[0].lend(wave, &mut self.rng);
         let got = unsafe {
             siengulot_smooth(
+                g,
                 list,
                 wave.len(),
                 lent.bytes_pointer(out),
@@ -464,7 +475,7 @@ impl Bench {
             )
         };
         self.compare("smooth", (got, &lent), (number, &expected), || {
-            format!("{:?} room {}", shown(wave), room)
+            format!("g {} {:?} room {}", g, shown(wave), room)
         });
     }
 

@@ -3,7 +3,7 @@
 use crate::numbers::{at, numbers_of, NUMBERS};
 use siengulot_plain::board::{Mode, Receiver, ROW_BYTES};
 use siengulot_plain::settings::{
-    MAX_BITS, MAX_CYCLE, MAX_K, MAX_LIST, MAX_PAD, MAX_QUIET, MAX_ROWS, MAX_SUBCELL, MIN_QUIET,
+    MAX_BITS, MAX_CYCLE, MAX_G, MAX_K, MAX_LIST, MAX_PAD, MAX_QUIET, MAX_ROWS, MAX_SUBCELL, MIN_QUIET,
 };
 
 const CYCLE_MOST: usize = MAX_CYCLE as usize;
@@ -149,6 +149,10 @@ impl Rng {
         self.setting(1, 8, MAX_SUBCELL)
     }
 
+    pub fn g(&mut self) -> usize {
+        self.setting(1, 8, MAX_G)
+    }
+
     pub fn k(&mut self) -> usize {
         self.setting(1, 12, MAX_K)
     }
@@ -200,11 +204,12 @@ impl Rng {
     }
 
     /// Settings near those that are accepted, so that a margin of exactly 0 and the next one below it come often.
-    pub fn judged(&mut self) -> [usize; 7] {
+    pub fn judged(&mut self) -> [usize; 8] {
         if self.one_in(3) {
             return [
                 self.subcell(),
                 self.subcell(),
+                self.g(),
                 self.k(),
                 self.setting(1, 150, CYCLE_MOST),
                 self.setting(1, 150, CYCLE_MOST),
@@ -216,28 +221,35 @@ impl Rng {
         let (w, r) = (self.within(1, most), self.within(1, most));
         let up = |dividend: usize, divisor: usize| (dividend + divisor - 1) / divisor;
         let off = |rng: &mut Rng| rng.pick(&[0, 0, 0, 1, 2, usize::MAX]);
-        let a = (1 + up(2 * r, w)).wrapping_add(off(self)).min(300);
-        let k = (1 + up((a + 1) * w, r)).wrapping_add(off(self)).min(600);
-        let b = (1 + up((k + 2) * r, w))
+        let g = match self.below(4) {
+            0 => 1,
+            1 => self.within(1, MAX_G),
+            2 => self.pick(&[MAX_G - 1, MAX_G, MAX_G + 1]),
+            _ => self.within(1, 6),
+        };
+        let a = (g + up(2 * r, w)).wrapping_add(off(self)).min(300);
+        let k = (1 + up((a + g) * w, r)).wrapping_add(off(self)).min(600);
+        let b = (g + up((k + 2) * r, w))
             .saturating_sub(a)
             .wrapping_add(off(self))
             .min(300);
-        let q = (2 + up((a + b + 1) * w, r))
+        let q = (2 + up((a + b + g) * w, r))
             .wrapping_add(off(self))
             .min(9_000);
-        let p1 = (1 + up((q + 1) * r, w)).wrapping_add(off(self)).min(70_000);
-        [a, b, k, w, r, q, p1]
+        let p1 = (g + up((q + 1) * r, w)).wrapping_add(off(self)).min(70_000);
+        [a, b, g, k, w, r, q, p1]
     }
 
     /// Settings to pick a sampling count for, near those for which there is one and near those for which it is the last.
-    pub fn clocks(&mut self) -> [usize; 4] {
+    pub fn clocks(&mut self) -> [usize; 5] {
         if self.one_in(4) {
             let a = self.within(200, MAX_SUBCELL);
             let r = self.within(1, 300);
-            return [a, self.within(1, MAX_SUBCELL), (r * 511 / a).max(1), r];
+            let g = self.within(1, MAX_G);
+            return [a, self.within(1, MAX_SUBCELL), g, (r * 511 / a).max(1), r];
         }
-        let [a, b, _, w, r, _, _] = self.judged();
-        [a, b, w, r]
+        let [a, b, g, _, w, r, _, _] = self.judged();
+        [a, b, g, w, r]
     }
 
     /// How many rows a plan has.

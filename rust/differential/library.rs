@@ -4,6 +4,7 @@ extern "C" {
     pub fn siengulot_judge(
         a: usize,
         b: usize,
+        g: usize,
         k: usize,
         w: usize,
         r: usize,
@@ -14,6 +15,7 @@ extern "C" {
     pub fn siengulot_judge_quiet(
         a: usize,
         b: usize,
+        g: usize,
         k: usize,
         w: usize,
         r: usize,
@@ -23,7 +25,14 @@ extern "C" {
         accepted: *mut usize,
     ) -> usize;
 
-    pub fn siengulot_pick(a: usize, b: usize, w: usize, r: usize, k: *mut usize) -> usize;
+    pub fn siengulot_pick(
+        a: usize,
+        b: usize,
+        g: usize,
+        w: usize,
+        r: usize,
+        k: *mut usize,
+    ) -> usize;
 
     pub fn siengulot_send(
         a: usize,
@@ -64,6 +73,7 @@ extern "C" {
     ) -> usize;
 
     pub fn siengulot_smooth(
+        g: usize,
         wave: *const u8,
         wave_length: usize,
         out: *mut u8,

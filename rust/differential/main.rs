@@ -47,7 +47,7 @@ const MUST: [(&str, &[&str], &[&str]); 17] = [
             "a joined lead of 65,536",
         ],
     ),
-    ("smooth", &["0", "2", "3", "4"], &[]),
+    ("smooth", &["0", "1", "2", "3", "4"], &[]),
     ("warp", &["0", "1", "2", "3", "4"], &["3 by its reads"]),
     ("settle", &["0", "2", "3", "4"], &["2 by a choice"]),
     (
@@ -108,6 +108,7 @@ fn main() {
         round(&mut bench);
         if rounds == 0 {
             pick_corners(&mut bench);
+            smooth_corners(&mut bench);
         }
         if rounds == 200 {
             longest_rows(&mut bench);
@@ -132,18 +133,38 @@ fn pick_corners(bench: &mut Bench) {
         for b in [0, 1, 2, 3, 128, 254, 255, 256] {
             for w in [0, 1, 2, 3, 100, 32_768, 65_534, 65_535, 65_536] {
                 for r in [0, 1, 2, 3, 100, 32_768, 65_534, 65_535, 65_536] {
-                    bench.pick([a, b, w, r]);
+                    for g in [1, 2, 64] {
+                        bench.pick([a, b, g, w, r]);
+                    }
                 }
             }
         }
     }
 }
 
+/// Every settling count, on waves whose length, and whose changes, lie about the ends of the blocks in which a wave is smoothed.
+fn smooth_corners(bench: &mut Bench) {
+    for g in 0..=65 {
+        for length in [g, 63, 64, 65, 64 + g, 1_087, 1_088, 1_089, 1_088 + g, 2_113] {
+            let wave = bench.rng.entries(length, 1);
+            bench.smooth(g, &wave, FULL);
+            let mut wave = vec![1; length];
+            for end in [0, 64, 1_088, 2_112] {
+                let place = (end + bench.rng.below(2 * g + 1)).saturating_sub(g);
+                if place < length {
+                    wave[place] = 0;
+                }
+            }
+            bench.smooth(g, &wave, FULL);
+        }
+    }
+}
+
 /// Every operation on input of its own.
 fn round(bench: &mut Bench) {
-    let [a, b, k, w, r, q, p1] = bench.rng.judged();
-    bench.judge([a, b, k, w, r]);
-    bench.judge_quiet([a, b, k, w, r, q, p1]);
+    let [a, b, g, k, w, r, q, p1] = bench.rng.judged();
+    bench.judge([a, b, g, k, w, r]);
+    bench.judge_quiet([a, b, g, k, w, r, q, p1]);
     let clocks = bench.rng.clocks();
     bench.pick(clocks);
 
@@ -170,7 +191,8 @@ fn round(bench: &mut Bench) {
     let length = bench.rng.length();
     let wave = bench.rng.list(length, 1);
     let room = Room::random(&mut bench.rng);
-    bench.smooth(&wave, room);
+    let g = bench.rng.g();
+    bench.smooth(g, &wave, room);
 
     let (w, r) = bench.rng.cycles();
     let p = bench.rng.phase(w);
@@ -342,8 +364,9 @@ fn longest_lists(bench: &mut Bench) {
         let mut bad = levels.clone();
         bad[length - 1] = 3;
         for room in [FULL, SHORT] {
-            bench.smooth(&levels, room);
-            bench.smooth(&bad, room);
+            bench.smooth(1, &levels, room);
+            bench.smooth(64, &levels, room);
+            bench.smooth(1, &bad, room);
             bench.settle(&reads, &levels, room);
             bench.settle(&levels, &reads, room);
             bench.settle(&levels[..9], &bad, room);
@@ -428,7 +451,7 @@ fn vast(bench: &mut Bench) {
         let room = Room::More(5);
         bench.send([2, 3, 2], list, room);
         bench.plan([2, 3, 2], &[1], list, room);
-        bench.smooth(list, room);
+        bench.smooth(1, list, room);
         bench.warp([4, 4, 1], list, room);
         bench.settle(list, &[1], room);
         bench.settle(&[2], list, room);
@@ -443,12 +466,12 @@ fn vast(bench: &mut Bench) {
 
 /// A plan's rows on their way through the whole link, each operation on what the one before it gave.
 fn hallway(bench: &mut Bench) {
-    let [a, b, k, w, r, q, p1] = loop {
+    let [a, b, g, k, w, r, q, p1] = loop {
         let judged = bench.rng.judged();
-        let [a, b, k, w, r, q, p1] = judged;
-        let verdict = siengulot_plain::settings::judge_quiet(a, b, k, w as u64, r as u64, q, p1);
+        let [a, b, g, k, w, r, q, p1] = judged;
+        let verdict = siengulot_plain::settings::judge_quiet(a, b, g, k, w as u64, r as u64, q, p1);
         let accepted = verdict.map_or(false, |verdict| verdict.accepted);
-        if accepted && a + b < 100 && p1 < 400 && w / r < 20 {
+        if accepted && a + b < 300 && p1 < 900 && w / r < 20 {
             break judged;
         }
     };
@@ -461,9 +484,9 @@ fn hallway(bench: &mut Bench) {
     let length = siengulot_plain::sender::plan(a, b, n, &leads, &bits, &mut wave)
         .expect("a plan of few rows");
     wave.truncate(length);
-    bench.smooth(&wave, room);
+    bench.smooth(g, &wave, room);
     let mut smoothed = vec![0; length];
-    siengulot_plain::line::smooth(&wave, &mut smoothed).expect("a wave");
+    siengulot_plain::line::smooth(g, &wave, &mut smoothed).expect("a wave");
     let p = bench.rng.below(w);
     bench.warp([w, r, p], &smoothed, room);
     let mut warped = vec![0; MAX_LIST];

@@ -44,12 +44,12 @@ fn joined(leads: &[usize], trails: &[usize], room: usize) -> (String, usize) {
 fn operate(case: &Case, one: &[u8], two: &[u8], out: &mut [u8]) -> (String, usize) {
     match case.operation() {
         "judge" => {
-            let [a, b, k, w, r] = case.numbers(["a", "b", "k", "w", "r"]);
-            judged(settings::judge(a, b, k, w as u64, r as u64))
+            let [a, b, g, k, w, r] = case.numbers(["a", "b", "g", "k", "w", "r"]);
+            judged(settings::judge(a, b, g, k, w as u64, r as u64))
         }
         "judge_quiet" => {
-            let [a, b, k, w, r, q, p1] = case.numbers(["a", "b", "k", "w", "r", "Q", "lead"]);
-            judged(settings::judge_quiet(a, b, k, w as u64, r as u64, q, p1))
+            let [a, b, g, k, w, r, q, p1] = case.numbers(["a", "b", "g", "k", "w", "r", "Q", "lead"]);
+            judged(settings::judge_quiet(a, b, g, k, w as u64, r as u64, q, p1))
         }
         "send" => {
             let [a, b, p1] = case.numbers(["a", "b", "lead"]);
@@ -64,8 +64,8 @@ fn operate(case: &Case, one: &[u8], two: &[u8], out: &mut [u8]) -> (String, usiz
             joined(&case.number_list(0), &case.number_list(1), room)
         }
         "smooth" => {
-            let [] = case.numbers([]);
-            made(line::smooth(one, out))
+            let [g] = case.numbers(["g"]);
+            made(line::smooth(g, one, out))
         }
         "warp" => {
             let [w, r, p] = case.numbers(["w", "r", "p"]);

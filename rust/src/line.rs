@@ -1,23 +1,29 @@
 //! The rules of docs/RULES.md on "The line, three passes": smooth, warp, settle.
 
 use crate::refusal::{need_entries, need_output, need_setting, need_size, Refusal};
-use crate::settings::{cycle_fits, MAX_LIST};
+use crate::settings::{cycle_fits, g_fits, MAX_LIST};
 
 /// An unknown level.
 const UNKNOWN: u8 = 2;
 
-/// Pass 1: makes every cycle unknown whose level is not that of the cycle before, and
-/// returns how many cycles there are. The line is high before the first.
+/// Pass 1: makes every cycle unknown at which the level changes, or at one of the g - 1 cycles
+/// before it, and returns how many cycles there are. The line is high before the first.
 ///
-/// Refuses with 3 for too long a wave, 2 for an entry that is no level, 4 for too short an
-/// output.
-pub fn smooth(wave: &[u8], out: &mut [u8]) -> Result<usize, Refusal> {
+/// Refuses with 1 for g, 3 for too long a wave, 2 for an entry that is no level, 4 for too short
+/// an output.
+pub fn smooth(g: usize, wave: &[u8], out: &mut [u8]) -> Result<usize, Refusal> {
+    need_setting(g_fits(g))?;
     need_size(wave.len(), MAX_LIST)?;
     need_entries(wave, 1)?;
     let out = need_output(out, wave.len())?;
     let mut before = 1;
+    let mut unsettled = 0; // how many cycles, from this one on, the last change makes unknown
     for (smoothed, &level) in out.iter_mut().zip(wave) {
-        *smoothed = if level == before { level } else { UNKNOWN };
+        if level != before {
+            unsettled = g;
+        }
+        *smoothed = if unsettled == 0 { level } else { UNKNOWN };
+        unsettled = unsettled.saturating_sub(1);
         before = level;
     }
     Ok(wave.len())

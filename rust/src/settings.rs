@@ -5,6 +5,8 @@ use crate::refusal::{need_setting, Refusal};
 
 /// Greatest mark or code subcell, in writer cycles; the least is 1.
 pub const MAX_SUBCELL: usize = 255;
+/// Greatest settling count, in writer cycles; the least is 1.
+pub const MAX_G: usize = 64;
 /// Greatest sampling count, in read cycles; the least is 1.
 pub const MAX_K: usize = 511;
 /// Greatest length of a writer or read cycle, in time units; the least is 1.
@@ -50,6 +52,10 @@ pub(crate) fn subcell_fits(cycles: usize) -> bool {
     (1..=MAX_SUBCELL).contains(&cycles)
 }
 
+pub(crate) fn g_fits(g: usize) -> bool {
+    (1..=MAX_G).contains(&g)
+}
+
 pub(crate) fn k_fits(k: usize) -> bool {
     (1..=MAX_K).contains(&k)
 }
@@ -75,21 +81,33 @@ pub(crate) fn quiet_fits(q: usize) -> bool {
 /// margins too.
 ///
 /// Refuses with 1 for a setting out of range.
-pub fn judge(a: usize, b: usize, k: usize, w: u64, r: u64) -> Result<Verdict<3>, Refusal> {
+pub fn judge(
+    a: usize,
+    b: usize,
+    g: usize,
+    k: usize,
+    w: u64,
+    r: u64,
+) -> Result<Verdict<3>, Refusal> {
     need_setting(
-        subcell_fits(a) && subcell_fits(b) && k_fits(k) && cycle_fits(w) && cycle_fits(r),
+        subcell_fits(a)
+            && subcell_fits(b)
+            && g_fits(g)
+            && k_fits(k)
+            && cycle_fits(w)
+            && cycle_fits(r),
     )?;
-    Ok(Verdict::of(three(a, b, k, w, r)))
+    Ok(Verdict::of(three(a, b, g, k, w, r)))
 }
 
 /// M1, M2 and M3 of settings in range.
-fn three(a: usize, b: usize, k: usize, w: u64, r: u64) -> [i64; 3] {
-    let (a, b, k) = (a as i64, b as i64, k as i64);
+fn three(a: usize, b: usize, g: usize, k: usize, w: u64, r: u64) -> [i64; 3] {
+    let (a, b, g, k) = (a as i64, b as i64, g as i64, k as i64);
     let (w, r) = (w as i64, r as i64);
     [
-        (a - 1) * w - 2 * r,
-        (k - 1) * r - (a + 1) * w,
-        (a + b - 1) * w - (k + 2) * r,
+        (a - g) * w - 2 * r,
+        (k - 1) * r - (a + g) * w,
+        (a + b - g) * w - (k + 2) * r,
     ]
 }
 
@@ -98,11 +116,13 @@ fn three(a: usize, b: usize, k: usize, w: u64, r: u64) -> [i64; 3] {
 ///
 /// Refuses with 1 for a setting out of range, and with 9 if no sampling count has three margins
 /// of zero or more.
-pub fn pick(a: usize, b: usize, w: u64, r: u64) -> Result<usize, Refusal> {
-    need_setting(subcell_fits(a) && subcell_fits(b) && cycle_fits(w) && cycle_fits(r))?;
+pub fn pick(a: usize, b: usize, g: usize, w: u64, r: u64) -> Result<usize, Refusal> {
+    need_setting(
+        subcell_fits(a) && subcell_fits(b) && g_fits(g) && cycle_fits(w) && cycle_fits(r),
+    )?;
     let mut best = (0, i64::MIN);
     for k in 1..=MAX_K {
-        let [m1, m2, m3] = three(a, b, k, w, r);
+        let [m1, m2, m3] = three(a, b, g, k, w, r);
         let least = m1.min(m2).min(m3);
         if least > best.1 {
             best = (k, least);
@@ -120,6 +140,7 @@ pub fn pick(a: usize, b: usize, w: u64, r: u64) -> Result<usize, Refusal> {
 pub fn quiet_margins(
     a: usize,
     b: usize,
+    g: usize,
     w: u64,
     r: u64,
     q: usize,
@@ -128,14 +149,15 @@ pub fn quiet_margins(
     need_setting(
         subcell_fits(a)
             && subcell_fits(b)
+            && g_fits(g)
             && cycle_fits(w)
             && cycle_fits(r)
             && quiet_fits(q)
             && pad_fits(p1),
     )?;
-    let (a, b, q, p1) = (a as i64, b as i64, q as i64, p1 as i64);
+    let (a, b, g, q, p1) = (a as i64, b as i64, g as i64, q as i64, p1 as i64);
     let (w, r) = (w as i64, r as i64);
-    Ok([(q - 2) * r - (a + b + 1) * w, (p1 - 1) * w - (q + 1) * r])
+    Ok([(q - 2) * r - (a + b + g) * w, (p1 - g) * w - (q + 1) * r])
 }
 
 /// "Margins": all five, and whether the quiet settings are accepted.
@@ -144,13 +166,14 @@ pub fn quiet_margins(
 pub fn judge_quiet(
     a: usize,
     b: usize,
+    g: usize,
     k: usize,
     w: u64,
     r: u64,
     q: usize,
     p1: usize,
 ) -> Result<Verdict<5>, Refusal> {
-    let [m1, m2, m3] = judge(a, b, k, w, r)?.margins;
-    let [m4, m5] = quiet_margins(a, b, w, r, q, p1)?;
+    let [m1, m2, m3] = judge(a, b, g, k, w, r)?.margins;
+    let [m4, m5] = quiet_margins(a, b, g, w, r, q, p1)?;
     Ok(Verdict::of([m1, m2, m3, m4, m5]))
 }

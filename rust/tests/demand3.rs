@@ -39,14 +39,21 @@ struct Sent {
 fn send(rng: &mut Rng) -> Sent {
     let settings = Accepted::random(rng);
     let Accepted {
-        a, b, k, w, r, q, ..
+        a,
+        b,
+        g,
+        k,
+        w,
+        r,
+        q,
+        ..
     } = settings;
     let (n, count) = (rng.within(1, 6), rng.within(1, 5));
     let leads: Vec<usize> = (0..count)
         .map(|_| settings.p1 + rng.below(2) * rng.below(40))
         .collect();
     for &lead in &leads {
-        assert!(judge_quiet(a, b, k, w, r, q, lead).unwrap().accepted);
+        assert!(judge_quiet(a, b, g, k, w, r, q, lead).unwrap().accepted);
     }
     let bits = rng.bits(count * n);
     let cells = n * (a + b);
@@ -57,7 +64,7 @@ fn send(rng: &mut Rng) -> Sent {
     let p = rng.below(w as usize) as u64;
     let many = [0, rng.below(50), 2_000][rng.below(3)];
     let choices = rng.reads(many);
-    let reads = through_the_line(&wave, w, r, p, &choices);
+    let reads = through_the_line(&wave, g, w, r, p, &choices);
 
     let mut rows = Vec::new();
     let mut first_cycle = 0;
@@ -69,7 +76,7 @@ fn send(rng: &mut Rng) -> Sent {
             .find(|&j| span(j).0 < end && span(j).1 > start)
             .expect("the quiet is read");
         let heard = (0..reads.len())
-            .filter(|&j| span(j).0 >= start + w && span(j).1 <= end)
+            .filter(|&j| span(j).0 >= start + g as u64 * w && span(j).1 <= end)
             .nth(q - 1)
             .expect("M5 leaves room for Q reads");
         let (found, samples) = counted_model(n, 1, k, &reads[heard + 1..]);

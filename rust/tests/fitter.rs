@@ -10,6 +10,7 @@ use siengulot_plain::{counted, line, sender, settings};
 struct Fit {
     a: usize,
     b: usize,
+    g: usize,
     k: usize,
     w: usize,
     r: usize,
@@ -19,27 +20,28 @@ struct Fit {
 
 impl Fit {
     fn judged(self) -> ([i64; 5], bool) {
+        let Fit { a, b, g, k, .. } = self;
         let (w, r) = (self.w as u64, self.r as u64);
-        let verdict = settings::judge_quiet(self.a, self.b, self.k, w, r, self.q, self.p1);
+        let verdict = settings::judge_quiet(a, b, g, k, w, r, self.q, self.p1);
         let verdict = verdict.expect("settings in range");
         (verdict.margins, verdict.accepted)
     }
 
-    /// The k that the picker gives, which looks at a, b, w and r alone.
+    /// The k that the picker gives, which looks at a, b, g, w and r alone.
     fn picked(self) -> usize {
-        let picked = settings::pick(self.a, self.b, self.w as u64, self.r as u64);
+        let picked = settings::pick(self.a, self.b, self.g, self.w as u64, self.r as u64);
         picked.expect("settings with a sampling count")
     }
 
     /// The page's bounds: for a, for k from below and from above, for Q and for p1.
     fn within_bounds(self) -> [bool; 5] {
-        let Fit { a, b, w, r, .. } = self;
+        let Fit { a, b, g, w, r, .. } = self;
         [
-            self.a >= 1 + up(2 * r, w),
-            self.k >= 1 + up((a + 1) * w, r),
-            self.k + 2 <= (a + b - 1) * w / r,
-            self.q >= 2 + up((a + b + 1) * w, r),
-            self.p1 >= 1 + up((self.q + 1) * r, w),
+            self.a >= g + up(2 * r, w),
+            self.k >= 1 + up((a + g) * w, r),
+            g <= a + b && self.k + 2 <= (a + b - g) * w / r,
+            self.q >= 2 + up((a + b + g) * w, r),
+            self.p1 >= g + up((self.q + 1) * r, w),
         ]
     }
 }
@@ -53,19 +55,22 @@ fn up(x: usize, by: usize) -> usize {
 fn near(rng: &mut Rng) -> Fit {
     let w = rng.within(1, 300);
     let r = rng.within(1, 300);
-    let a = (up(2 * r, w) + rng.below(4)).clamp(1, 255);
+    let most = [1, 4, 64][rng.below(3)];
+    let g = rng.within(1, most);
+    let a = (up(2 * r, w) + g - 1 + rng.below(4)).clamp(1, 255);
     let b = rng.within(1, 255);
     let k = if rng.below(2) == 0 {
-        up((a + 1) * w, r) + rng.below(3)
+        up((a + g) * w, r) + rng.below(3)
     } else {
-        ((a + b - 1) * w / r + rng.below(3)).saturating_sub(3)
+        ((a + b).saturating_sub(g) * w / r + rng.below(3)).saturating_sub(3)
     };
-    let q = (up((a + b + 1) * w, r) + 1 + rng.below(3)).clamp(2, 8191);
-    let p1 = (up((q + 1) * r, w) + rng.below(3)).clamp(0, 65535);
+    let q = (up((a + b + g) * w, r) + 1 + rng.below(3)).clamp(2, 8191);
+    let p1 = (up((q + 1) * r, w) + g - 1 + rng.below(3)).clamp(0, 65535);
     let k = k.clamp(1, 511);
     Fit {
         a,
         b,
+        g,
         k,
         w,
         r,
@@ -99,15 +104,16 @@ fn the_bounds_are_those_of_the_margins() {
 }
 
 /// The page's table from top to bottom, each number at its least.
-fn least(w: usize, r: usize) -> Fit {
-    let a = 1 + up(2 * r, w);
-    let k = 1 + up((a + 1) * w, r);
-    let b = up((k + 2) * r, w) + 1 - a;
-    let q = 2 + up((a + b + 1) * w, r);
-    let p1 = 1 + up((q + 1) * r, w);
+fn least(g: usize, w: usize, r: usize) -> Fit {
+    let a = g + up(2 * r, w);
+    let k = 1 + up((a + g) * w, r);
+    let b = up((k + 2) * r, w) + g - a;
+    let q = 2 + up((a + b + g) * w, r);
+    let p1 = g + up((q + 1) * r, w);
     Fit {
         a,
         b,
+        g,
         k,
         w,
         r,
@@ -121,7 +127,8 @@ fn the_order_of_the_table_leads_to_a_yes() {
     let mut rng = Rng::new(73);
     let mut fits = 0;
     for _ in 0..2_000 {
-        let fit = least(rng.within(1, 300), rng.within(1, 300));
+        let most = [1, 4, 64][rng.below(3)];
+        let fit = least(rng.within(1, most), rng.within(1, 300), rng.within(1, 300));
         if fit.a > 255 || fit.b > 255 || fit.k > 510 || fit.q > 8191 || fit.p1 > 65535 {
             continue;
         }
@@ -143,7 +150,7 @@ fn the_order_of_the_table_leads_to_a_yes() {
 
 #[test]
 fn the_shortest_settings_of_the_first_board() {
-    let fit = least(100, 141);
+    let fit = least(1, 100, 141);
     let Fit { a, b, k, q, p1, .. } = fit;
     assert_eq!([a, b, k, q, p1], [4, 7, 5, 11, 18]);
     assert_eq!(fit.judged(), ([18, 64, 13, 69, 8], true));
@@ -190,6 +197,19 @@ fn the_shortest_settings_of_the_first_board() {
 }
 
 #[test]
+fn the_same_board_on_a_long_cable() {
+    // An edge of 23 microseconds takes three cycles of 10.
+    let short = least(up(8, 10), 100, 141);
+    let long = least(up(23, 10), 100, 141);
+    let Fit { a, b, g, k, .. } = long;
+    assert_eq!([a, b, g, k, long.q, long.p1], [6, 12, 3, 8, 17, 29]);
+    assert_eq!(long.judged(), ([18, 87, 90, 15, 62], true));
+    assert_eq!(long.picked(), 8);
+    let misfit = Fit { g, ..short };
+    assert_eq!(misfit.judged(), ([-182, -136, -187, -131, -192], false));
+}
+
+#[test]
 fn a_yes_at_both_corners_is_a_yes_between_them() {
     let mut rng = Rng::new(72);
     let mut both = 0;
@@ -222,6 +242,7 @@ fn the_two_boards() {
     let first = Fit {
         a: 5,
         b: 13,
+        g: 1,
         k: 10,
         w: 100,
         r: 141,
@@ -266,7 +287,7 @@ fn a_message_that_the_second_board_loses() {
     let sent = sender::message(5, 13, 0, &[0], &mut wave);
     assert_eq!(sent, Ok(18));
     let mut smoothed = [9; 28];
-    line::smooth(&wave, &mut smoothed).unwrap();
+    line::smooth(1, &wave, &mut smoothed).unwrap();
     let mut reads = [9; 28];
     let count = line::warp(100, 142, 97, &smoothed, &mut reads).unwrap();
     let mut settled = [9; 28];

@@ -46,23 +46,36 @@ fn sent_waves_follow_the_cell_rule() {
 #[test]
 fn smoothing_marks_the_changes() {
     let mut rng = Rng::new(22);
-    for _ in 0..500 {
-        let length = rng.below(60);
-        let wave = rng.reads(length);
+    let (mut known, mut unknown) = (0, 0);
+    for _ in 0..2_000 {
+        let most = [60, 400][rng.below(2)];
+        let length = rng.below(most);
+        let wave = if rng.below(2) == 0 {
+            rng.reads(length)
+        } else {
+            rng.runs(length, 90)
+        };
+        let most = [1, 2, 9, 64][rng.below(4)];
+        let g = rng.within(1, most);
+        let changes = |i: usize| wave[i] != if i == 0 { 1 } else { wave[i - 1] };
         let expected: Vec<u8> = (0..length)
             .map(|i| {
-                let before = if i == 0 { 1 } else { wave[i - 1] };
-                if wave[i] == before {
-                    wave[i]
-                } else {
+                // At the cycle itself or at one of the g - 1 before it.
+                if (0..g).any(|back| back <= i && changes(i - back)) {
                     2
+                } else {
+                    wave[i]
                 }
             })
             .collect();
         let mut out = lent(length + 2);
-        assert_eq!(line::smooth(&wave, &mut out), Ok(length));
+        assert_eq!(line::smooth(g, &wave, &mut out), Ok(length));
         assert!(holds(&out, &expected));
+        let settled = expected.iter().filter(|&&level| level < 2).count();
+        known += settled;
+        unknown += length - settled;
     }
+    assert!(known > 20_000 && unknown > 20_000, "{} {}", known, unknown);
 }
 
 #[test]
@@ -104,7 +117,7 @@ fn reads_look_at_the_cycles_they_share_time_with() {
         } else {
             let wave = rng.runs(length, 6);
             let mut smoothed = lent(length);
-            line::smooth(&wave, &mut smoothed).unwrap();
+            line::smooth(rng.within(1, 3), &wave, &mut smoothed).unwrap();
             smoothed
         };
         let expected = warp_model(w, r, p, &cycles);
@@ -161,8 +174,10 @@ fn counted_receiver_follows_its_rule() {
 fn accepted_settings_return_every_message() {
     let mut rng = Rng::new(27);
     for _ in 0..2_000 {
-        let Accepted { a, b, k, w, r, .. } = Accepted::random(&mut rng);
-        assert!(judge(a, b, k, w, r).unwrap().accepted);
+        let Accepted {
+            a, b, g, k, w, r, ..
+        } = Accepted::random(&mut rng);
+        assert!(judge(a, b, g, k, w, r).unwrap().accepted);
         let n = rng.below(10);
         let bits = rng.bits(n);
         // The wave may be followed by any number of high cycles.
@@ -173,7 +188,7 @@ fn accepted_settings_return_every_message() {
         let many = rng.below(200);
         let choices = rng.reads(many);
         let p = rng.below(w as usize) as u64;
-        let reads = through_the_line(&wave, w, r, p, &choices);
+        let reads = through_the_line(&wave, g, w, r, p, &choices);
         let mut out = lent(n + 2);
         assert_eq!(counted::receive(n, 1, k, &reads, &mut out), Ok(()));
         assert!(holds(&out, &bits));
@@ -188,13 +203,14 @@ fn generated_settings_have_no_margin_below_zero() {
         let Accepted {
             a,
             b,
+            g,
             k,
             w,
             r,
             q,
             p1,
         } = Accepted::random(&mut rng);
-        let verdict = judge_quiet(a, b, k, w, r, q, p1).unwrap();
+        let verdict = judge_quiet(a, b, g, k, w, r, q, p1).unwrap();
         assert!(verdict.accepted);
         for (tight, margin) in tight.iter_mut().zip(verdict.margins) {
             *tight += u32::from(margin == 0);

@@ -1,4 +1,4 @@
-//! The worked numbers: P1 to P11, the failing run of source 002, and the named slips.
+//! The worked numbers: P1 to P14, the failing run of source 002, and the named slips.
 
 mod common;
 
@@ -35,7 +35,7 @@ fn p1_reads_a_stored_plan() {
 #[test]
 fn p2_smooths_p1() {
     let mut out = lent(15);
-    assert_eq!(line::smooth(&P1, &mut out), Ok(13));
+    assert_eq!(line::smooth(1, &P1, &mut out), Ok(13));
     assert!(holds(&out, &P2));
 }
 
@@ -97,39 +97,67 @@ fn p7_counts_p1() {
 
 #[test]
 fn p8_judges_eighteen_cycles() {
-    let verdict = judge(5, 13, 10, 100, 141).unwrap();
+    let verdict = judge(5, 13, 1, 10, 100, 141).unwrap();
     assert_eq!((verdict.margins, verdict.accepted), ([118, 669, 8], true));
-    let verdict = judge(5, 13, 10, 100, 142).unwrap();
+    let verdict = judge(5, 13, 1, 10, 100, 142).unwrap();
     assert_eq!((verdict.margins, verdict.accepted), ([116, 678, -4], false));
-    let verdict = judge(5, 13, 10, 100, 67).unwrap();
+    let verdict = judge(5, 13, 1, 10, 100, 67).unwrap();
     assert_eq!((verdict.margins, verdict.accepted), ([266, 3, 896], true));
-    let verdict = judge(5, 13, 10, 100, 66).unwrap();
+    let verdict = judge(5, 13, 1, 10, 100, 66).unwrap();
     assert_eq!((verdict.margins[1], verdict.accepted), (-6, false));
 }
 
 #[test]
 fn p9_judges_margins_of_zero() {
-    let verdict = judge(5, 13, 10, 12, 17).unwrap();
+    let verdict = judge(5, 13, 1, 10, 12, 17).unwrap();
     assert_eq!((verdict.margins[2], verdict.accepted), (0, true));
-    let verdict = judge(5, 13, 10, 3, 2).unwrap();
+    let verdict = judge(5, 13, 1, 10, 3, 2).unwrap();
     assert_eq!((verdict.margins[1], verdict.accepted), (0, true));
 }
 
 #[test]
 fn p10_judges_the_quiet() {
-    assert_eq!(quiet_margins(5, 13, 100, 100, 21, 23), Ok([0, 0]));
-    assert_eq!(quiet_margins(5, 13, 100, 100, 20, 23).unwrap()[0], -100);
-    assert_eq!(quiet_margins(5, 13, 100, 100, 21, 22).unwrap()[1], -100);
+    assert_eq!(quiet_margins(5, 13, 1, 100, 100, 21, 23), Ok([0, 0]));
+    assert_eq!(quiet_margins(5, 13, 1, 100, 100, 20, 23).unwrap()[0], -100);
+    assert_eq!(quiet_margins(5, 13, 1, 100, 100, 21, 22).unwrap()[1], -100);
 
-    let verdict = judge_quiet(5, 13, 10, 100, 100, 21, 23).unwrap();
+    let verdict = judge_quiet(5, 13, 1, 10, 100, 100, 21, 23).unwrap();
     assert_eq!(verdict.margins, [200, 300, 500, 0, 0]);
     assert!(verdict.accepted);
-    let verdict = judge_quiet(5, 13, 10, 100, 100, 20, 23).unwrap();
+    let verdict = judge_quiet(5, 13, 1, 10, 100, 100, 20, 23).unwrap();
     assert_eq!(verdict.margins, [200, 300, 500, -100, 100]);
     assert!(!verdict.accepted);
-    let verdict = judge_quiet(5, 13, 10, 100, 100, 21, 22).unwrap();
+    let verdict = judge_quiet(5, 13, 1, 10, 100, 100, 21, 22).unwrap();
     assert_eq!(verdict.margins, [200, 300, 500, 0, -100]);
     assert!(!verdict.accepted);
+}
+
+#[test]
+fn p12_smooths_p1_for_longer() {
+    let mut out = lent(15);
+    assert_eq!(line::smooth(2, &P1, &mut out), Ok(13));
+    assert!(holds(&out, &[1, 1, 2, 2, 2, 2, 1, 2, 2, 0, 0, 0, 2]));
+    let mut out = lent(15);
+    assert_eq!(line::smooth(64, &P1, &mut out), Ok(13));
+    assert!(holds(&out, &[1, 1, 2, 2, 2, 2, 2, 2, 2, 2, 2, 2, 2]));
+}
+
+#[test]
+fn p13_judges_longer_settling() {
+    let verdict = judge(5, 13, 2, 10, 100, 100).unwrap();
+    assert_eq!((verdict.margins, verdict.accepted), ([100, 200, 400], true));
+    let verdict = judge(5, 13, 4, 10, 100, 100).unwrap();
+    assert_eq!((verdict.margins, verdict.accepted), ([-100, 0, 200], false));
+    let verdict = judge(5, 13, 64, 10, 100, 100).unwrap();
+    let expected = [-6_100, -6_000, -5_800];
+    assert_eq!((verdict.margins, verdict.accepted), (expected, false));
+}
+
+#[test]
+fn p14_judges_the_quiet_for_longer_settling() {
+    let verdict = judge_quiet(80, 160, 64, 160, 100, 100, 306, 371).unwrap();
+    assert_eq!(verdict.margins, [1_400, 1_500, 1_400, 0, 0]);
+    assert!(verdict.accepted);
 }
 
 #[test]
@@ -168,14 +196,14 @@ fn failing_reads() -> Vec<u8> {
     assert_eq!(length, Ok(82));
     wave.extend(vec![1; read.dropped]);
     assert_eq!(wave.len(), 92);
-    let reads = through_the_line(&wave, 100, 143, 84, &[1, 1, 0, 0]);
+    let reads = through_the_line(&wave, 1, 100, 143, 84, &[1, 1, 0, 0]);
     assert_eq!(reads.len(), 63);
     reads
 }
 
 #[test]
 fn failing_run_with_three_bits() {
-    assert!(!judge(5, 13, 10, 100, 143).unwrap().accepted);
+    assert!(!judge(5, 13, 1, 10, 100, 143).unwrap().accepted);
     let mut out = lent(5);
     let reads = failing_reads();
     assert_eq!(counted::receive(3, 1, 10, &reads, &mut out), Ok(()));
@@ -198,18 +226,18 @@ fn failing_run_with_four_bits() {
 fn sources_results_lie_inside_the_margins() {
     // Within 1/18 of unity with 5, 13 and 10; within 1/32 with 16, 16 and 23.
     for r in 17..=19 {
-        assert!(judge(5, 13, 10, 18, r).unwrap().accepted);
+        assert!(judge(5, 13, 1, 10, 18, r).unwrap().accepted);
     }
     for r in 31..=33 {
-        assert!(judge(16, 16, 23, 32, r).unwrap().accepted);
+        assert!(judge(16, 16, 1, 23, 32, r).unwrap().accepted);
     }
 }
 
 #[test]
 fn named_slips_are_not_made() {
     // Five percent is not the test for eighteen cycles.
-    assert!(judge(5, 13, 10, 100, 141).unwrap().accepted);
+    assert!(judge(5, 13, 1, 10, 100, 141).unwrap().accepted);
     // A quiet longer than a cell (18 cycles here) is not yet enough.
-    let verdict = judge_quiet(5, 13, 10, 100, 100, 20, 65_535).unwrap();
+    let verdict = judge_quiet(5, 13, 1, 10, 100, 100, 20, 65_535).unwrap();
     assert!(!verdict.accepted);
 }

@@ -25,18 +25,21 @@ fn refuses<T: std::fmt::Debug>(
 #[test]
 fn judge_refuses_each_setting_out_of_range() {
     for bad in [0, 256, usize::MAX] {
-        assert_eq!(judge(bad, 13, 10, 100, 100), Err(refusal(1, 0)));
-        assert_eq!(judge(5, bad, 10, 100, 100), Err(refusal(1, 0)));
+        assert_eq!(judge(bad, 13, 1, 10, 100, 100), Err(refusal(1, 0)));
+        assert_eq!(judge(5, bad, 1, 10, 100, 100), Err(refusal(1, 0)));
     }
     for bad in [0, 512, usize::MAX] {
-        assert_eq!(judge(5, 13, bad, 100, 100), Err(refusal(1, 0)));
+        assert_eq!(judge(5, 13, 1, bad, 100, 100), Err(refusal(1, 0)));
     }
     for bad in [0, 65_536, u64::MAX] {
-        assert_eq!(judge(5, 13, 10, bad, 100), Err(refusal(1, 0)));
-        assert_eq!(judge(5, 13, 10, 100, bad), Err(refusal(1, 0)));
+        assert_eq!(judge(5, 13, 1, 10, bad, 100), Err(refusal(1, 0)));
+        assert_eq!(judge(5, 13, 1, 10, 100, bad), Err(refusal(1, 0)));
     }
-    for (a, b, k, w, r) in [(1, 1, 1, 1, 1), (255, 255, 511, 65_535, 65_535)] {
-        assert!(judge(a, b, k, w, r).is_ok());
+    for bad in [0, 65, usize::MAX] {
+        assert_eq!(judge(5, 13, bad, 10, 100, 100), Err(refusal(1, 0)));
+    }
+    for (a, b, g, k, w, r) in [(1, 1, 1, 1, 1, 1), (255, 255, 64, 511, 65_535, 65_535)] {
+        assert!(judge(a, b, g, k, w, r).is_ok());
     }
 }
 
@@ -44,33 +47,39 @@ fn judge_refuses_each_setting_out_of_range() {
 fn quiet_judge_refuses_each_setting_out_of_range() {
     for bad in [0, 256] {
         for (a, b) in [(bad, 13), (5, bad)] {
-            let refused = judge_quiet(a, b, 10, 100, 100, 21, 23);
+            let refused = judge_quiet(a, b, 1, 10, 100, 100, 21, 23);
             assert_eq!(refused, Err(refusal(1, 0)));
-            let refused = quiet_margins(a, b, 100, 100, 21, 23);
+            let refused = quiet_margins(a, b, 1, 100, 100, 21, 23);
             assert_eq!(refused, Err(refusal(1, 0)));
         }
     }
+    for bad in [0, 65] {
+        let refused = judge_quiet(5, 13, bad, 10, 100, 100, 21, 23);
+        assert_eq!(refused, Err(refusal(1, 0)));
+        let refused = quiet_margins(5, 13, bad, 100, 100, 21, 23);
+        assert_eq!(refused, Err(refusal(1, 0)));
+    }
     for bad in [0, 512] {
-        let refused = judge_quiet(5, 13, bad, 100, 100, 21, 23);
+        let refused = judge_quiet(5, 13, 1, bad, 100, 100, 21, 23);
         assert_eq!(refused, Err(refusal(1, 0)));
     }
     for bad in [0, 65_536] {
         for (w, r) in [(bad, 100), (100, bad)] {
-            let refused = judge_quiet(5, 13, 10, w, r, 21, 23);
+            let refused = judge_quiet(5, 13, 1, 10, w, r, 21, 23);
             assert_eq!(refused, Err(refusal(1, 0)));
-            let refused = quiet_margins(5, 13, w, r, 21, 23);
+            let refused = quiet_margins(5, 13, 1, w, r, 21, 23);
             assert_eq!(refused, Err(refusal(1, 0)));
         }
     }
     for (q, p1) in [(1, 23), (0, 23), (8_192, 23), (21, 65_536)] {
-        let refused = judge_quiet(5, 13, 10, 100, 100, q, p1);
+        let refused = judge_quiet(5, 13, 1, 10, 100, 100, q, p1);
         assert_eq!(refused, Err(refusal(1, 0)));
-        let refused = quiet_margins(5, 13, 100, 100, q, p1);
+        let refused = quiet_margins(5, 13, 1, 100, 100, q, p1);
         assert_eq!(refused, Err(refusal(1, 0)));
     }
     for (q, p1) in [(2, 0), (8_191, 65_535)] {
-        assert!(judge_quiet(5, 13, 10, 100, 100, q, p1).is_ok());
-        assert!(quiet_margins(5, 13, 100, 100, q, p1).is_ok());
+        assert!(judge_quiet(5, 13, 1, 10, 100, 100, q, p1).is_ok());
+        assert!(quiet_margins(5, 13, 1, 100, 100, q, p1).is_ok());
     }
 }
 
@@ -169,12 +178,16 @@ fn plan_refuses_in_order() {
 fn smooth_refuses_in_order() {
     let mut long = vec![1; MAX_LIST + 1];
     long[3] = 2;
-    refuses(0, 3, 0, |out| line::smooth(&long, out));
-    refuses(0, 2, 2, |out| line::smooth(&long[1..4], out));
-    refuses(0, 2, 3, |out| line::smooth(&long[..9], out));
-    refuses(9, 2, 1, |out| line::smooth(&[1, 255, 2], out));
-    refuses(2, 4, 0, |out| line::smooth(&[1, 0, 1], out));
-    assert_eq!(line::smooth(&[], &mut []), Ok(0));
+    for g in [0, 65, usize::MAX] {
+        refuses(0, 1, 0, |out| line::smooth(g, &long, out));
+        refuses(9, 1, 0, |out| line::smooth(g, &[1, 0], out));
+    }
+    refuses(0, 3, 0, |out| line::smooth(64, &long, out));
+    refuses(0, 2, 2, |out| line::smooth(1, &long[1..4], out));
+    refuses(0, 2, 3, |out| line::smooth(1, &long[..9], out));
+    refuses(9, 2, 1, |out| line::smooth(1, &[1, 255, 2], out));
+    refuses(2, 4, 0, |out| line::smooth(1, &[1, 0, 1], out));
+    assert_eq!(line::smooth(1, &[], &mut []), Ok(0));
 }
 
 #[test]

@@ -10,19 +10,19 @@ use siengulot_plain::{counted, line, sender};
 
 #[test]
 fn margins_at_the_ends_of_the_ranges() {
-    let verdict = judge_quiet(1, 1, 1, 1, 1, 2, 0).unwrap();
+    let verdict = judge_quiet(1, 1, 1, 1, 1, 1, 2, 0).unwrap();
     assert_eq!(verdict.margins, [-2, -2, -2, -3, -4]);
     assert!(!verdict.accepted);
-    let verdict = judge_quiet(255, 255, 511, 65_535, 65_535, 8_191, 65_535).unwrap();
+    let verdict = judge_quiet(255, 255, 1, 511, 65_535, 65_535, 8_191, 65_535).unwrap();
     let w = 65_535;
     let expected = [252 * w, 254 * w, -4 * w, 7_678 * w, 57_342 * w];
     assert_eq!(verdict.margins, expected);
     assert!(!verdict.accepted);
     // The greatest M5 and the least.
-    let verdict = judge_quiet(255, 255, 511, 65_535, 1, 2, 65_535).unwrap();
+    let verdict = judge_quiet(255, 255, 1, 511, 65_535, 1, 2, 65_535).unwrap();
     assert_eq!(verdict.margins[4], 65_534 * 65_535 - 3);
-    let verdict = judge_quiet(1, 1, 1, 65_535, 65_535, 8_191, 0).unwrap();
-    assert_eq!(verdict.margins[4], -65_535 - 8_192 * 65_535);
+    let verdict = judge_quiet(1, 1, 64, 1, 65_535, 65_535, 8_191, 0).unwrap();
+    assert_eq!(verdict.margins[4], -64 * 65_535 - 8_192 * 65_535);
 }
 
 #[test]
@@ -43,7 +43,7 @@ fn longest_message() {
 
 #[test]
 fn accepted_settings_may_still_warp_too_far() {
-    assert!(judge(2, 3, 511, 170, 1).unwrap().accepted);
+    assert!(judge(2, 3, 1, 511, 170, 1).unwrap().accepted);
     let mut wave = lent(587_775);
     let length = sender::message(2, 3, 65_535, &[0; 1_024], &mut wave);
     let length = length.unwrap();
@@ -78,7 +78,7 @@ fn longest_lists_through_the_line() {
     let mut rng = Rng::new(42);
     let wave = rng.runs(MAX_LIST, 30);
     let mut smoothed = lent(MAX_LIST + 1);
-    assert_eq!(line::smooth(&wave, &mut smoothed), Ok(MAX_LIST));
+    assert_eq!(line::smooth(1, &wave, &mut smoothed), Ok(MAX_LIST));
     assert!(holds(&smoothed, &smoothed[..MAX_LIST]));
     let smoothed = &smoothed[..MAX_LIST];
     // The same clock leaves everything as it is, and at the greatest cycles too.

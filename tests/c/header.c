@@ -60,30 +60,33 @@ static void judging(void)
     int64_t three[3] = {7, 7, 7}, five[5] = {7, 7, 7, 7, 7};
     size_t accepted = 9;
 
-    expect(siengulot_judge(5, 13, 10, 100, 141, three, &accepted) == SIENGULOT_NO_REFUSAL, "judge refuses P8");
+    expect(siengulot_judge(5, 13, 1, 10, 100, 141, three, &accepted) == SIENGULOT_NO_REFUSAL, "judge refuses P8");
     expect(three[0] == 118 && three[1] == 669 && three[2] == 8 && accepted == 1, "judge of P8, r 141");
-    siengulot_judge(5, 13, 10, 100, 142, three, &accepted);
+    siengulot_judge(5, 13, 1, 10, 100, 142, three, &accepted);
     expect(three[0] == 116 && three[1] == 678 && three[2] == -4 && accepted == 0, "judge of P8, r 142");
     accepted = 9;
-    expect(siengulot_judge(SIENGULOT_SUBCELL_MOST + 1, 13, 10, 100, 141, three, &accepted) == SIENGULOT_SETTING, "judge takes a 256");
+    expect(siengulot_judge(SIENGULOT_SUBCELL_MOST + 1, 13, 1, 10, 100, 141, three, &accepted) == SIENGULOT_SETTING, "judge takes a 256");
+    expect(siengulot_judge(5, 13, SIENGULOT_SETTLING_MOST + 1, 10, 100, 141, three, &accepted) == SIENGULOT_SETTING, "judge takes g 65");
     expect(three[2] == -4 && accepted == 0, "judge writes margins though it refuses");
 
-    expect(siengulot_judge_quiet(5, 13, 10, 100, 100, 21, 23, five, &accepted) == SIENGULOT_NO_REFUSAL, "quiet judge refuses P10");
+    expect(siengulot_judge_quiet(5, 13, 1, 10, 100, 100, 21, 23, five, &accepted) == SIENGULOT_NO_REFUSAL, "quiet judge refuses P10");
     expect(five[0] == 200 && five[1] == 300 && five[2] == 500 && five[3] == 0 && five[4] == 0 && accepted == 1, "quiet judge of P10");
-    siengulot_judge_quiet(5, 13, 10, 100, 100, 21, 22, five, &accepted);
+    siengulot_judge_quiet(5, 13, 1, 10, 100, 100, 21, 22, five, &accepted);
     expect(five[4] == -100 && accepted == 0, "quiet judge of P10, p1 22");
-    expect(siengulot_judge_quiet(5, 13, 10, 100, 100, SIENGULOT_QUIET_LEAST - 1, 22, five, &accepted) == SIENGULOT_SETTING, "quiet judge takes Q 1");
+    siengulot_judge_quiet(80, 160, SIENGULOT_SETTLING_MOST, 160, 100, 100, 306, 371, five, &accepted);
+    expect(five[0] == 1400 && five[1] == 1500 && five[2] == 1400 && five[3] == 0 && five[4] == 0 && accepted == 1, "quiet judge of P14");
+    expect(siengulot_judge_quiet(5, 13, 1, 10, 100, 100, SIENGULOT_QUIET_LEAST - 1, 22, five, &accepted) == SIENGULOT_SETTING, "quiet judge takes Q 1");
 }
 
 static void picking(void)
 {
     size_t k = 99;
 
-    expect(siengulot_pick(5, 13, 100, 142, &k) == SIENGULOT_NO_REFUSAL && k == 7, "pick for r 142");
-    expect(siengulot_pick(2, 3, 4, 1, &k) == SIENGULOT_NO_REFUSAL && k == 13, "pick of equals");
-    expect(siengulot_pick(5, 13, 65535, 1, &k) == SIENGULOT_NO_COUNT && k == 0, "pick where no k will do");
+    expect(siengulot_pick(5, 13, 1, 100, 142, &k) == SIENGULOT_NO_REFUSAL && k == 7, "pick for r 142");
+    expect(siengulot_pick(2, 3, 1, 4, 1, &k) == SIENGULOT_NO_REFUSAL && k == 13, "pick of equals");
+    expect(siengulot_pick(5, 13, 1, 65535, 1, &k) == SIENGULOT_NO_COUNT && k == 0, "pick where no k will do");
     k = 99;
-    expect(siengulot_pick(SIENGULOT_SUBCELL_MOST + 1, 13, 100, 142, &k) == SIENGULOT_SETTING && k == 0, "pick takes a 256");
+    expect(siengulot_pick(SIENGULOT_SUBCELL_MOST + 1, 13, 1, 100, 142, &k) == SIENGULOT_SETTING && k == 0, "pick takes a 256");
 }
 
 static void sending(void)
@@ -140,10 +143,14 @@ static void line(void)
     static const uint8_t choices[4] = {1, 0, 0, 1}, bad[4] = {1, 0, 0, 2};
 
     lend();
-    expect_answer("smooth", siengulot_smooth(wave, 13, out, ROOM, &place, &count), 0, 0, 13);
+    expect_answer("smooth", siengulot_smooth(1, wave, 13, out, ROOM, &place, &count), 0, 0, 13);
     expect_out("P2", "1120211200002");
     lend();
-    expect_answer("smooth of an unknown level", siengulot_smooth(smoothed, 13, out, ROOM, &place, &count), SIENGULOT_ENTRY, 2, 0);
+    expect_answer("smooth with g 2", siengulot_smooth(2, wave, 13, out, ROOM, &place, &count), 0, 0, 13);
+    expect_out("P12", "1122221220002");
+    lend();
+    expect_answer("smooth with g 0", siengulot_smooth(0, wave, 13, out, ROOM, &place, &count), SIENGULOT_SETTING, 0, 0);
+    expect_answer("smooth of an unknown level", siengulot_smooth(1, smoothed, 13, out, ROOM, &place, &count), SIENGULOT_ENTRY, 2, 0);
     expect_out("smooth writes though it refuses", "");
 
     lend();

@@ -39,16 +39,16 @@ static volatile size_t expected;
         expected = (refusal);                                                                                                                         \
     }
 
-CALL(judge_yes, 0, siengulot_judge(5, 13, 10, 100, 141, margins, &accepted))
-CALL(judge_no, 0, siengulot_judge(5, 13, 10, 100, 142, margins, &accepted))
-CALL(judge_refused, 1, siengulot_judge(0, 13, 10, 100, 142, margins, &accepted))
-CALL(quiet_yes, 0, siengulot_judge_quiet(5, 13, 10, 100, 141, 16, 26, margins, &accepted))
-CALL(quiet_no, 0, siengulot_judge_quiet(5, 13, 10, 100, 142, 16, 26, margins, &accepted))
-CALL(quiet_refused, 1, siengulot_judge_quiet(5, 13, 10, 100, 142, 1, 26, margins, &accepted))
-CALL(pick_given, 0, siengulot_pick(255, 255, 7, 5, &k))
-CALL(pick_equals, 0, siengulot_pick(2, 3, 4, 1, &k))
-CALL(pick_setting, 1, siengulot_pick(5, 13, 100, 65536, &k))
-CALL(pick_none, 9, siengulot_pick(255, 255, 65535, 1, &k))
+CALL(judge_yes, 0, siengulot_judge(5, 13, 1, 10, 100, 141, margins, &accepted))
+CALL(judge_no, 0, siengulot_judge(5, 13, 1, 10, 100, 142, margins, &accepted))
+CALL(judge_refused, 1, siengulot_judge(0, 13, 1, 10, 100, 142, margins, &accepted))
+CALL(quiet_yes, 0, siengulot_judge_quiet(5, 13, 1, 10, 100, 141, 16, 26, margins, &accepted))
+CALL(quiet_no, 0, siengulot_judge_quiet(5, 13, 1, 10, 100, 142, 16, 26, margins, &accepted))
+CALL(quiet_refused, 1, siengulot_judge_quiet(5, 13, 1, 10, 100, 142, 1, 26, margins, &accepted))
+CALL(pick_given, 0, siengulot_pick(255, 255, 1, 7, 5, &k))
+CALL(pick_equals, 0, siengulot_pick(2, 3, 1, 4, 1, &k))
+CALL(pick_setting, 1, siengulot_pick(5, 13, 1, 100, 65536, &k))
+CALL(pick_none, 9, siengulot_pick(255, 255, 1, 65535, 1, &k))
 
 CALL(send_most, 0, siengulot_send(255, 255, 65535, turns, 1024, out, sizeof out, &place, &count))
 CALL(send_least, 0, siengulot_send(1, 1, 0, turns, 0, out, 0, &place, &count))
@@ -69,10 +69,12 @@ CALL(stored_row, 1, siengulot_read_plan(long_pads, ROWS + 1, long_pads, ROWS + 1
 CALL(stored_limit, 3, siengulot_read_plan(pads, ROWS + 1, pads, ROWS + 1, joined, ROWS, &place, &count, &dropped))
 CALL(stored_room, 4, siengulot_read_plan(pads, ROWS, pads, ROWS, joined, 9, &place, &count, &dropped))
 
-CALL(smooth_most, 0, siengulot_smooth(mixed, LIST, out, sizeof out, &place, &count))
-CALL(smooth_entry, 2, siengulot_smooth(unknown, LIST, out, sizeof out, &place, &count))
-CALL(smooth_limit, 3, siengulot_smooth(high, LIST + 1, out, sizeof out, &place, &count))
-CALL(smooth_room, 4, siengulot_smooth(mixed, LIST, out, 9, &place, &count))
+CALL(smooth_most, 0, siengulot_smooth(1, mixed, LIST, out, sizeof out, &place, &count))
+CALL(smooth_slow, 0, siengulot_smooth(64, mixed, LIST, out, sizeof out, &place, &count))
+CALL(smooth_setting, 1, siengulot_smooth(65, mixed, LIST, out, sizeof out, &place, &count))
+CALL(smooth_entry, 2, siengulot_smooth(1, unknown, LIST, out, sizeof out, &place, &count))
+CALL(smooth_limit, 3, siengulot_smooth(1, high, LIST + 1, out, sizeof out, &place, &count))
+CALL(smooth_room, 4, siengulot_smooth(1, mixed, LIST, out, 9, &place, &count))
 
 /* One read over as many cycles as it can take, all of them alike, is as deep as the recursion goes. */
 CALL(warp_deepest, 0, siengulot_warp(1, 65535, 0, high, LIST, out, sizeof out, &place, &count))
@@ -146,7 +148,7 @@ static const struct {
     {"siengulot_send", {send_most, send_least, send_setting, send_entry, send_limit, send_room}},
     {"siengulot_plan", {plan_most, plan_setting, plan_entry, plan_limit, plan_room}},
     {"siengulot_read_plan", {stored_most, stored_setting, stored_row, stored_limit, stored_room}},
-    {"siengulot_smooth", {smooth_most, smooth_entry, smooth_limit, smooth_room}},
+    {"siengulot_smooth", {smooth_most, smooth_slow, smooth_setting, smooth_entry, smooth_limit, smooth_room}},
     {"siengulot_warp",
      {warp_deepest, warp_mixed, warp_unknown, warp_even, warp_short, warp_setting, warp_entry, warp_limit,
       warp_room}},

@@ -180,6 +180,7 @@ pub struct Numbers {
     pub n4: usize,
     pub n5: usize,
     pub n6: usize,
+    pub n7: usize,
 }
 
 pub fn numbers_of(case: &[u8]) -> Numbers {
@@ -192,6 +193,7 @@ pub fn numbers_of(case: &[u8]) -> Numbers {
         n4: at_place(words, 4),
         n5: at_place(words, 5),
         n6: at_place(words, 6),
+        n7: at_place(words, 7),
     }
 }
 

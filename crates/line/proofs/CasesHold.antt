@@ -8,4 +8,4 @@ use Rattle.line.specs.Cases.{cases}
 
 pub cases-hold : Agree cases
 unfolding smoothFrom look dropped warpFrom warp settle
-cases-hold = (refl, (refl, (refl, (refl, (refl, (refl, (refl, (refl, tt))))))))
+cases-hold = (refl, (refl, (refl, (refl, (refl, (refl, (refl, (refl, (refl, (refl, tt))))))))))

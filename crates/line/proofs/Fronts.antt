@@ -10,6 +10,7 @@ use lib.Dec.{eqb}
 use lib.ListN.{length, getD, take, drop, length-append, List·getD-append, take-append-drop}
 use lib.Seq.{length-take-le, getD-take, ext-getD, take-append-seam}
 use borrow.Author.Tests.{eq-eqb, ne-eqb}
+use Rattle.line.specs.Smooth.{unknown, seen, smoothFrom, smooth}
 use Rattle.line.specs.Warp.{cycleStart, readStart, warpBy}
 use Rattle.line.specs.Settle.{nextChoice, settle}
 use Rattle.line.specs.Passes.{overTheLine}
@@ -17,7 +18,6 @@ use Rattle.line.specs.Sharing.{Shares, ReadIs}
 use Rattle.line.proofs.Clocks.{Clocks, cycles-in-order, even-clocks}
 use Rattle.line.proofs.ReadsThere.{read-there, read-ends}
 use Rattle.line.proofs.SharedCycles.{read-is, read-is-one}
-use Rattle.line.proofs.SmoothBy.{unknown, seen, smoothBy}
 use Rattle.line.proofs.LineLaws.{lineBy, over-the-line}
 
 -- one list goes on from another
@@ -25,8 +25,9 @@ abbrev pub GoesOn : (front whole : List ℕ) → Type 0
 GoesOn front whole = (rest : List ℕ) × (whole ≡ front ++ rest)
 
 smooth-front : (g left before : ℕ) (levels more : List ℕ)
-    → GoesOn (smoothBy g left before levels) (smoothBy g left before (levels ++ more))
-smooth-front g left before [] more = (smoothBy g left before more, refl)
+    → GoesOn (smoothFrom g left before levels) (smoothFrom g left before (levels ++ more))
+unfolding smoothFrom
+smooth-front g left before [] more = (smoothFrom g left before more, refl)
 smooth-front g left before (level ∷ levels) more =
     let (rest, e) = smooth-front g (unknown g left (eqb before level) - 1) level levels more in
     (rest, ap (λ (l : List ℕ). seen (unknown g left (eqb before level)) level ∷ l) e)
@@ -103,19 +104,19 @@ pub line-front : {tw tr : ℕ → ℕ} → Clocks tw tr → (g : ℕ) (wave more
     → GoesOn (lineBy tw tr g wave choices) (lineBy tw tr g (wave ++ more) choices)
 line-front {tw} {tr} clocks g wave more choices =
     let (cycles, smoothed) = smooth-front g 0 1 wave more in
-    let (reads, warped) = warp-front clocks (smoothBy g 0 1 wave) cycles in
-    let (rest, settled) = settle-front (warpBy tw tr (smoothBy g 0 1 wave)) reads choices in (
+    let (reads, warped) = warp-front clocks (smooth g wave) cycles in
+    let (rest, settled) = settle-front (warpBy tw tr (smooth g wave)) reads choices in (
       rest,
       ap (λ (l : List ℕ). settle (warpBy tw tr l) choices) smoothed
           ∙ ap (λ (l : List ℕ). settle l choices) warped
           ∙ settled,
     )
 
-pub over-front : (w r p : ℕ) (wave more choices : List ℕ) → 0 < r → p < w
-    → GoesOn (overTheLine w r p wave choices) (overTheLine w r p (wave ++ more) choices)
-over-front w r p wave more choices some-r phase =
-    let (rest, e) = line-front (even-clocks w r p some-r phase) 1 wave more choices in (
+pub over-front : (g w r p : ℕ) (wave more choices : List ℕ) → 0 < r → p < w
+    → GoesOn (overTheLine g w r p wave choices) (overTheLine g w r p (wave ++ more) choices)
+over-front g w r p wave more choices some-r phase =
+    let (rest, e) = line-front (even-clocks w r p some-r phase) g wave more choices in (
       rest,
-      over-the-line w r p (wave ++ more) choices ∙ e
-          ∙ ap (λ (l : List ℕ). l ++ rest) (sym (over-the-line w r p wave choices)),
+      over-the-line g w r p (wave ++ more) choices ∙ e
+          ∙ ap (λ (l : List ℕ). l ++ rest) (sym (over-the-line g w r p wave choices)),
     )

@@ -1,12 +1,11 @@
 -- What a read that settles against its choices says of the wave: each cycle that shares time with it was known, so the
 -- wave had its level there and at the g cycles before.
-use mathlib.Core.Path.{_≡_, refl, _∙_}
-use mathlib.Core.Logic.{_≢_, dite}
+use mathlib.Core.Path.{_≡_, _∙_}
+use mathlib.Core.Logic.{dite}
 use mathlib.Core.List.{List, [], _∷_}
 use Prim.Native.Nat.{ℕ, zero, suc, _+_, _-_, _≤_, _<_}
 use native.Mathlib.Decide.{ℕ-discrete, decLe}
 use native.Mathlib.Omega.{arith}
-use lib.Dec.{eqb}
 use lib.ListN.{length, getD, replicate, List·getD-eq-default}
 use borrow.Author.Tests.{eq-eqb, ne-eqb}
 use Rattle.line.specs.Warp.{warpBy}
@@ -15,45 +14,9 @@ use Rattle.line.specs.Sharing.{Shares}
 use Rattle.line.proofs.Clocks.{Clocks, cycles-in-order}
 use Rattle.line.proofs.ReadsThere.{read-ends}
 use Rattle.line.proofs.SharedCycles.{read-is}
-use Rattle.line.proofs.SmoothBy.{unknown, unknown-most, seen, smoothBy}
+use Rattle.line.specs.Smooth.{smooth}
+use Rattle.line.proofs.SmoothLaws.{kept}
 use Rattle.line.proofs.LineLaws.{lineBy}
-
--- what is known after smoothing was so before, at its cycle and at the g before that; v stands before the first
-kept : (g left v : ℕ) (l : List ℕ) (c u : ℕ) → left ≤ g → u ≤ 1 → getD (smoothBy g left v l) c 2 ≡ u
-    → (left ≤ c) × (c < g → v ≡ u) × ((i : ℕ) → i ≤ c → c ≤ i + g → getD l i 2 ≡ u)
-kept g left v [] c u o h e = absurd (omega (arith, e))
-kept g left v (x ∷ xs) zero u o h e =
-    dite (ℕ-discrete v x)
-    (λ y. let (z, t) = first left (rw (eq-eqb v x y) at e) in (omega arith, (λ p. y ∙ t), here t))
-    (λ y. let (z, t) = first g (rw (ne-eqb v x y) at e) in (omega arith, (λ p. absurd (omega arith)), here t))
-  where
-    first : (n : ℕ) → seen n x ≡ u → (n ≡ 0) × (x ≡ u)
-    first zero e = (refl, e)
-    first (suc n) e = absurd (omega arith)
-
-    here : x ≡ u → (i : ℕ) → i ≤ 0 → 0 ≤ i + g → getD (x ∷ xs) i 2 ≡ u
-    here z zero p q = z
-    here z (suc i) p q = absurd (omega arith)
-kept g left v (x ∷ xs) (suc c) u o h e =
-    go (kept g (unknown g left (eqb v x) - 1) x xs c u (omega (arith, unknown-most g left (eqb v x) o)) h e)
-  where
-    still : v ≡ x → unknown g left (eqb v x) ≡ left
-    still y = rw (eq-eqb v x y)
-
-    anew : v ≢ x → unknown g left (eqb v x) ≡ g
-    anew y = rw (ne-eqb v x y)
-
-    go : (unknown g left (eqb v x) - 1 ≤ c) × (c < g → x ≡ u) × ((i : ℕ) → i ≤ c → c ≤ i + g → getD xs i 2 ≡ u)
-        → (left ≤ suc c) × (suc c < g → v ≡ u) × ((i : ℕ) → i ≤ suc c → suc c ≤ i + g → getD (x ∷ xs) i 2 ≡ u)
-    go (p, q, f) = (
-      dite (ℕ-discrete v x) (λ y. omega (arith, still y)) (λ y. omega (arith, anew y)),
-      (λ z. dite (ℕ-discrete v x) (λ y. y ∙ q (omega arith)) (λ y. absurd (omega (arith, anew y)))),
-      at,
-    )
-      where
-        at : (i : ℕ) → i ≤ suc c → suc c ≤ i + g → getD (x ∷ xs) i 2 ≡ u
-        at zero y z = q (omega arith)
-        at (suc i) y z = f i (omega arith) (omega arith)
 
 -- a read that is v: so is each cycle that overlaps it in time
 shared : {tw tr : ℕ → ℕ} → Clocks tw tr → (levels : List ℕ) (q v : ℕ) → v ≤ 1 → getD (warpBy tw tr levels) q 2 ≡ v
@@ -105,14 +68,14 @@ pub record Known (g : ℕ) (l : List ℕ) (c u : ℕ) : Type 0 where
 
 -- a read that shares time with cycle c and settles against its choice
 module _ {tw tr : ℕ → ℕ} (clocks : Clocks tw tr) (g : ℕ) (l : List ℕ) (q c : ℕ) (shares : Shares tw tr q c) where
-  known : (v : ℕ) → v ≤ 1 → getD (warpBy tw tr (smoothBy g 0 1 l)) q 2 ≡ v → Known g l c v
+  known : (v : ℕ) → v ≤ 1 → getD (warpBy tw tr (smooth g l)) q 2 ≡ v → Known g l c v
   known v lv e =
-      let (o, n, f) = kept g 0 1 l c v (omega arith) lv (shared clocks (smoothBy g 0 1 l) q v lv e c shares) in
+      let (o, n, f) = kept g 0 1 l c v (omega arith) (omega arith) (shared clocks (smooth g l) q v lv e c shares) in
       record { before = n; level = f }
 
   pub stays-high : getD (lineBy tw tr g l []) q 2 ≡ 1 → Known g l c 1
-  stays-high e = known 1 (omega arith) (settle-high (warpBy tw tr (smoothBy g 0 1 l)) q e)
+  stays-high e = known 1 (omega arith) (settle-high (warpBy tw tr (smooth g l)) q e)
 
-  pub stays-low : (m : ℕ) → length (warpBy tw tr (smoothBy g 0 1 l)) ≤ m
+  pub stays-low : (m : ℕ) → length (warpBy tw tr (smooth g l)) ≤ m
       → getD (lineBy tw tr g l (replicate m 1)) q 2 ≡ 0 → Known g l c 0
-  stays-low m h e = known 0 (omega arith) (settle-low (warpBy tw tr (smoothBy g 0 1 l)) m q h e)
+  stays-low m h e = known 0 (omega arith) (settle-low (warpBy tw tr (smooth g l)) m q h e)

@@ -8,7 +8,9 @@ pub mod ReadsThere
 pub mod SharedCycles
 pub mod WarpLaws
 pub mod SmoothLaws
-pub mod SmoothBy
+pub mod Windows
+pub mod Blocks
+pub mod Settling
 pub mod SettleLaws
 pub mod AgreeLaws
 pub mod UnderWay

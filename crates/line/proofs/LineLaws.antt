@@ -18,11 +18,11 @@ use Rattle.line.proofs.ReadsThere.{read-there, read-ends, reads-most}
 use Rattle.line.proofs.SharedCycles.{read-same}
 use Rattle.line.proofs.WarpLaws.{warp-by}
 use Rattle.line.proofs.SettleLaws.{length-settle, settle-keeps, settle-most}
-use Rattle.line.proofs.SmoothBy.{smoothBy, smooth-is, smooth-by-most}
+use Rattle.line.proofs.SmoothLaws.{smooth-most}
 
 -- the reads of a wave that is smoothed with the settling count g, warped by two clocks and settled
 abbrev pub lineBy : (tw tr : ℕ → ℕ) (g : ℕ) (wave choices : List ℕ) → List ℕ
-lineBy tw tr g wave choices = settle (warpBy tw tr (smoothBy g 0 1 wave)) choices
+lineBy tw tr g wave choices = settle (warpBy tw tr (smooth g wave)) choices
 
 -- What is known of settled reads D of a smoothed wave S, up to the time end: where all cycles that share more than a
 -- point of time with read j have the level v, the read is v; and every read is a level.
@@ -51,43 +51,43 @@ module _ {tw tr : ℕ → ℕ} {smoothed rs : List ℕ} (reads : Reads tw tr smo
 module _ {tw tr : ℕ → ℕ} (clocks : Clocks tw tr) (g : ℕ) (wave choices : List ℕ) (sent : Levels wave)
     (chosen : Levels choices) where
   abbrev warped : List ℕ
-  warped = warpBy tw tr (smoothBy g 0 1 wave)
+  warped = warpBy tw tr (smooth g wave)
 
   -- every settled read is a level
   pub line-levels : Levels (lineBy tw tr g wave choices)
   line-levels =
-      settle-most warped choices (reads-most clocks (smoothBy g 0 1 wave) (smooth-by-most g 0 1 wave sent)) chosen
+      settle-most warped choices (reads-most clocks (smooth g wave) (smooth-most g 0 1 wave sent)) chosen
 
-  pub line-reads : Reads tw tr (smoothBy g 0 1 wave) (lineBy tw tr g wave choices)
+  pub line-reads : Reads tw tr (smooth g wave) (lineBy tw tr g wave choices)
   line-reads = record {
     settled = record {
       agrees = λ j v known ends same.
           let is : getD warped j 2 ≡ v =
-          read-same clocks (smoothBy g 0 1 wave) j v ends λ i within shares. same i (shares .before-the-end)
+          read-same clocks (smooth g wave) j v ends λ i within shares. same i (shares .before-the-end)
           (shares .after-the-start)
           in settle-keeps warped choices j (omega arith) ∙ is;
       level = λ j ends.
           let here : j < length (settle warped choices) =
-          rw length-settle (read-there clocks (smoothBy g 0 1 wave) j ends) in
+          rw length-settle (read-there clocks (smooth g wave) j ends) in
           omega (
             arith,
             getD-any (settle warped choices) j 2 0 here,
             most-at 1 (settle warped choices) line-levels j,
           );
     };
-    there = λ j ends. rw length-settle (read-there clocks (smoothBy g 0 1 wave) j ends);
-    ends = λ j here. read-ends clocks (smoothBy g 0 1 wave) j (rw length-settle at here);
+    there = λ j ends. rw length-settle (read-there clocks (smooth g wave) j ends);
+    ends = λ j here. read-ends clocks (smooth g wave) j (rw length-settle at here);
   }
 
--- the rules' line is the case of constant lengths and a settling count of 1
-module _ (w r p : ℕ) (wave choices : List ℕ) where
-  pub over-the-line : overTheLine w r p wave choices ≡ lineBy (cycleStart w) (readStart p r) 1 wave choices
+-- the rules' line is the case of constant lengths
+module _ (g w r p : ℕ) (wave choices : List ℕ) where
+  pub over-the-line : overTheLine g w r p wave choices ≡ lineBy (cycleStart w) (readStart p r) g wave choices
   unfolding overTheLine
-  over-the-line = rw (warp-by w r p (smooth wave), smooth-is wave)
+  over-the-line = rw (warp-by w r p (smooth g wave))
 
   module _ (some-r : 0 < r) (phase : p < w) (sent : Levels wave) (chosen : Levels choices) where
-    pub over-levels : Levels (overTheLine w r p wave choices)
-    over-levels = rw over-the-line (line-levels (even-clocks w r p some-r phase) 1 wave choices sent chosen)
+    pub over-levels : Levels (overTheLine g w r p wave choices)
+    over-levels = rw over-the-line (line-levels (even-clocks w r p some-r phase) g wave choices sent chosen)
 
-    pub over-reads : Reads (cycleStart w) (readStart p r) (smoothBy 1 0 1 wave) (overTheLine w r p wave choices)
-    over-reads = rw over-the-line (line-reads (even-clocks w r p some-r phase) 1 wave choices sent chosen)
+    pub over-reads : Reads (cycleStart w) (readStart p r) (smooth g wave) (overTheLine g w r p wave choices)
+    over-reads = rw over-the-line (line-reads (even-clocks w r p some-r phase) g wave choices sent chosen)

@@ -5,7 +5,7 @@ use mathlib.Core.Bool.{Bool, _&&_}
 use mathlib.Core.List.{List}
 use lib.ListN.{length}
 use lib.Dec.{ltb}
-use Rattle.measure.specs.Ranges.{cycleLength, entriesMost}
+use Rattle.measure.specs.Ranges.{settling, cycleLength, entriesMost}
 use Rattle.measure.specs.Refusals.{Answer, given, denied, ranged, limited, entered, lent}
 use Rattle.line.specs.Smooth.{smooth}
 use Rattle.line.specs.Warp.{warp}
@@ -16,11 +16,12 @@ use Rattle.line.specs.declared.Read.{Read}
 use Rattle.line.specs.declared.Read.the-variants.{Reads, Refused}
 
 -- R44: smooth takes levels: a 2 is refused
-unfoldable pub smoothed : (levels output : List ℕ) → Answer ℕ × List ℕ
-smoothed levels output =
-    limited entriesMost (length levels) output
+unfoldable pub smoothed : (g : ℕ) (levels output : List ℕ) → Answer ℕ × List ℕ
+smoothed g levels output =
+    ranged (settling g) output
+    (limited entriesMost (length levels) output
     (entered 1 levels output
-    (lent (smooth levels) output))
+    (lent (smooth g levels) output)))
 
 -- N4, N5, N6: w and r are in range and p is below w
 abbrev pub timed : (w r p : ℕ) → Bool

@@ -1,4 +1,4 @@
--- Rules P: P2 to P6.
+-- Rules P: P2 to P6, and P12.
 use Prim.Native.Nat.{ℕ}
 use mathlib.Core.List.{List, [], _∷_}
 use Rattle.measure.specs.Table.{Case}
@@ -19,7 +19,7 @@ abbrev warpedReads : List ℕ
 warpedReads = 1 ∷ 2 ∷ 2 ∷ 2 ∷ 2 ∷ 1 ∷ 2 ∷ 2 ∷ 0 ∷ 0 ∷ 0 ∷ 2 ∷ []
 
 abbrev P2 : Case
-P2 = record { kind = List ℕ; gives = smooth sentWave; printed = smoothedWave }
+P2 = record { kind = List ℕ; gives = smooth 1 sentWave; printed = smoothedWave }
 
 -- P3: w 4, r 4, at phase 1 and at phase 0
 abbrev P3-1 : Case
@@ -50,6 +50,21 @@ P6-0 = record { kind = List ℕ; gives = warp 3 3 0 (1 ∷ []); printed = 1 ∷ 
 abbrev P6-1 : Case
 P6-1 = record { kind = List ℕ; gives = warp 3 3 1 (1 ∷ []); printed = [] }
 
--- P2 to P6
+-- P12: the wave of P1 smoothed with g 2 and with g 64
+abbrev P12-2 : Case
+P12-2 = record {
+  kind = List ℕ;
+  gives = smooth 2 sentWave;
+  printed = 1 ∷ 1 ∷ 2 ∷ 2 ∷ 2 ∷ 2 ∷ 1 ∷ 2 ∷ 2 ∷ 0 ∷ 0 ∷ 0 ∷ 2 ∷ [];
+}
+
+abbrev P12-64 : Case
+P12-64 = record {
+  kind = List ℕ;
+  gives = smooth 64 sentWave;
+  printed = 1 ∷ 1 ∷ 2 ∷ 2 ∷ 2 ∷ 2 ∷ 2 ∷ 2 ∷ 2 ∷ 2 ∷ 2 ∷ 2 ∷ 2 ∷ [];
+}
+
+-- P2 to P6, and P12
 abbrev pub cases : List Case
-cases = P2 ∷ P3-1 ∷ P3-0 ∷ P4 ∷ P5-3 ∷ P5-4 ∷ P6-0 ∷ P6-1 ∷ []
+cases = P2 ∷ P3-1 ∷ P3-0 ∷ P4 ∷ P5-3 ∷ P5-4 ∷ P6-0 ∷ P6-1 ∷ P12-2 ∷ P12-64 ∷ []

@@ -1,8 +1,10 @@
 pub mod Smooth
+pub mod Settling
 pub mod Warp
 pub mod Settle
 pub mod Passes
 pub mod Sharing
 pub mod Looking
+pub mod Windows
 pub mod Answers
 pub mod Cases

@@ -1,5 +1,7 @@
 // The line model: the three passes that a wave goes through before it is read, each over bytes: 0 low, 1 high, 2
 // unknown.
+mod smoothing;
+
 ghost use mathlib.Core.Path.{_≡_};
 ghost use mathlib.Core.Bool.{true};
 ghost use Prim.Native.Nat.{_+_, _-_, _*_, _<_, _≤_};
@@ -8,7 +10,6 @@ ghost use lib.Dec.{ltb};
 ghost use Rattle.measure.specs.Choose.{choose};
 ghost use Rattle.measure.specs.Lists.{onto};
 ghost use Rattle.measure.specs.Ranges.{cycleLength, entriesMost};
-ghost use Rattle.line.specs.Smooth.{smooth as smoothing};
 ghost use Rattle.line.specs.Warp.{cycleStart, reconcile as agree, look, warp as warping};
 ghost use Rattle.line.specs.Settle.{nextChoice, settle as settling};
 ghost use Rattle.line.specs.Sharing.{readCount};
@@ -20,6 +21,8 @@ use measure::ENTRIES_MOST;
 use measure::HIGH;
 use measure::ReadCycles;
 use measure::Refusal;
+use measure::SETTLING_LEAST;
+use measure::SETTLING_MOST;
 use measure::TimeUnits;
 use measure::UNKNOWN;
 use measure::WriterCycles;
@@ -45,28 +48,18 @@ fn agreed(one: u8, other: u8) -> u8
     if one == other { one } else { UNKNOWN }
 }
 
-fn smooth_into(wave: &[u8], out: &mut [u8])
-    requires { ⌜ length (now wave) ≤ length (now out) ⌝ }
-    ensures { λ _. ⌜ onto (smoothing (now (wave .entry))) (now (out .entry)) ≡ now (out .exit) ⌝ }
-{
-    let mut before: u8 = HIGH;
-    let mut i = 0;
-    while i < wave.len() {
-        let level = wave[i];
-        out[i] = agreed(level, before);
-        before = level;
-        i += 1;
-    }
-}
-
-// Pass 1, smooth. Gives the wave with each cycle unknown at which the level changed; the line was high before the
-// first.
-// Refuses with 3 a wave over its limit, with 2 an entry that is no level, and its place, and with 4 an output shorter
-// than the wave.
+// Pass 1, smooth. Gives the wave, in which a cycle is unknown if the level changes at it or at one of the g - 1 cycles
+// before it; the line was high before the first.
+// Refuses with 1 a g out of range, with 3 a wave over its limit, with 2 an entry that is no level, and its place, and
+// with 4 an output shorter than the wave.
 // The output's front holds the smoothed wave, and its rest is untouched; a refusal leaves it whole as it was.
-pub fn smooth(wave: &[u8], out: &mut [u8]) -> Smoothed
-    ensures { λ x. ⌜ smoothed (now (wave .entry)) (now (out .entry)) ≡ (smoothedSays x, now (out .exit)) ⌝ }
+pub fn smooth(wave: &[u8], g: WriterCycles, out: &mut [u8]) -> Smoothed
+    ensures { λ x. ⌜ smoothed (g .0) (now (wave .entry)) (now (out .entry)) ≡ (smoothedSays x, now (out .exit)) ⌝ }
 {
+    let settling = g.0;
+    if !measure::between(SETTLING_LEAST, SETTLING_MOST, settling) {
+        return Smoothed::Refused(Refusal::Setting(0));
+    }
     if ENTRIES_MOST < wave.len() {
         return Smoothed::Refused(Refusal::Limit);
     }
@@ -77,7 +70,7 @@ pub fn smooth(wave: &[u8], out: &mut [u8]) -> Smoothed
     if out.len() < wave.len() {
         return Smoothed::Refused(Refusal::Room);
     }
-    smooth_into(wave, out);
+    smoothing::smooth_into(wave, settling, out);
     Smoothed::Wave(WriterCycles(wave.len()))
 }
 

@@ -37,14 +37,15 @@ fn judged(answer: Judged) {
     }
 }
 
-// a b k w r
+// a b g k w r
 pub fn judge(n: Numbers) -> usize {
     judged(settings::judge(
         WriterCycles(n.n0),
         WriterCycles(n.n1),
-        ReadCycles(n.n2),
-        TimeUnits(n.n3),
+        WriterCycles(n.n2),
+        ReadCycles(n.n3),
         TimeUnits(n.n4),
+        TimeUnits(n.n5),
     ));
     0
 }
@@ -63,16 +64,17 @@ fn quiet_judged(answer: QuietJudged) {
     }
 }
 
-// a b k w r Q lead
+// a b g k w r Q lead
 pub fn judge_quiet(n: Numbers) -> usize {
     quiet_judged(settings::judge_quiet(
         WriterCycles(n.n0),
         WriterCycles(n.n1),
-        ReadCycles(n.n2),
-        TimeUnits(n.n3),
+        WriterCycles(n.n2),
+        ReadCycles(n.n3),
         TimeUnits(n.n4),
-        ReadCycles(n.n5),
-        WriterCycles(n.n6),
+        TimeUnits(n.n5),
+        ReadCycles(n.n6),
+        WriterCycles(n.n7),
     ));
     0
 }

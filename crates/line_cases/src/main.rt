@@ -28,7 +28,7 @@ fn operate(case: &[u8], one: &[u8], two: &[u8], out: &mut [u8]) -> usize {
         2 => sending::send(n, one, out),
         3 => sending::send_plan(case, n, one, out),
         4 => joining::read_plan(case, n),
-        5 => passing::smooth(one, out),
+        5 => passing::smooth(n, one, out),
         6 => passing::warp(n, one, out),
         7 => passing::settle(one, two, out),
         8 => counting::count_bits(n, one, out),

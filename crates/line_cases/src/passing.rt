@@ -4,6 +4,7 @@ use cases::show;
 use line::Read;
 use line::Smoothed;
 use measure::TimeUnits;
+use measure::WriterCycles;
 
 fn smoothed(answer: Smoothed) -> usize {
     match answer {
@@ -31,9 +32,9 @@ fn read(answer: Read) -> usize {
     }
 }
 
-// the wave
-pub fn smooth(wave: &[u8], out: &mut [u8]) -> usize {
-    smoothed(line::smooth(wave, out))
+// g, and the wave
+pub fn smooth(n: Numbers, wave: &[u8], out: &mut [u8]) -> usize {
+    smoothed(line::smooth(wave, WriterCycles(n.n0), out))
 }
 
 // w r p, and the wave

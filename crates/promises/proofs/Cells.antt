@@ -6,7 +6,8 @@ use native.Mathlib.Omega.{arith}
 use lib.ListN.{length, getD}
 use Rattle.sender.specs.Sending.{opposite, codeLevel}
 use Rattle.sender.proofs.Waves.{Carries}
-use Rattle.line.proofs.SmoothBy.{smoothBy, stretch-known}
+use Rattle.line.specs.Smooth.{smooth}
+use Rattle.line.proofs.SmoothLaws.{stretch-known}
 use Rattle.promises.proofs.Timing.{Cell}
 
 -- the smoothed wave S holds the cells of a message from cycle c on, from the level v
@@ -16,7 +17,7 @@ Holds a b g S c v (x ∷ xs) = Cell S a b g c v (codeLevel v x) × Holds a b g S
 
 pub holds : (a b g : ℕ) (l bits : List ℕ) (c v : ℕ) → c + length bits * (a + b) ≤ length l
     → Carries a b (λ i. getD l i 2) c v bits
-    → Holds a b g (λ i. getD (smoothBy g 0 1 l) i 2) c v bits
+    → Holds a b g (λ i. getD (smooth g l) i 2) c v bits
 holds a b g l [] c v h p = tt
 holds a b g l (x ∷ xs) c v h p = (
   record {

@@ -6,6 +6,7 @@ use mathlib.Core.Logic.{dite}
 use mathlib.Core.Bool.{Bool, true, false}
 use mathlib.Core.List.{[], _∷_}
 use Prim.Native.Nat.{ℕ, zero, suc, _≤_, _<_}
+use native.Mathlib.Nat.{mul-le-mul-right}
 use native.Mathlib.Decide.{decLe}
 use native.Mathlib.Omega.{arith}
 use lib.ListN.{length}
@@ -30,63 +31,65 @@ use Rattle.promises.proofs.Received.{returns}
 use Rattle.promises.proofs.SignedMargins.{accepted-margins}
 
 -- margins of minus one or more and a read that takes time
-pub returned : (a b k w r : ℕ) → 0 < r → Margins a b 1 k w w r r → EveryMessageReturned a b k w r
-returned a b k w r pos ok p1 after p bits choices below hb hc =
-    returns (cycle-clock w) (read-clock p r) pos (omega arith) (omega arith) (omega arith) ok p1 after bits
-    _ hb (over-reads w r p (followed a b p1 after bits) choices pos below (followed-levels a b p1 after bits) hc)
+pub returned : (a b g k w r : ℕ) → 0 < g → 0 < r → Margins a b g k w w r r → EveryMessageReturned a b g k w r
+returned a b g k w r settles pos ok p1 after p bits choices below hb hc =
+    returns (cycle-clock w) (read-clock p r) pos (omega arith) (omega arith) settles ok p1 after bits
+    _ hb (over-reads g w r p (followed a b p1 after bits) choices pos below (followed-levels a b p1 after bits) hc)
 
 -- M2 leaves no room for a read that takes no time
-takes-time : (a b k w r p : ℕ) → p < w → accepted a b k w r ≡ true → 0 < r
-takes-time a b k w zero p below h = absurd (omega (arith, accepted-keeps a b k w 0 h .M2))
-takes-time a b k w (suc r) p below h = omega arith
+takes-time : (a b g k w r p : ℕ) → 0 < g → p < w → accepted a b g k w r ≡ true → 0 < r
+takes-time a b g k w zero p settles below h =
+    absurd (omega (arith, accepted-keeps a b g k w 0 h .M2, mul-le-mul-right w settles))
+takes-time a b g k w (suc r) p settles below h = omega arith
 
 pub accepted-return : AcceptedReturn
-accepted-return a b k w r h p1 after p bits choices below =
-    returned a b k w r (takes-time a b k w r p below h) (accepted-margins a b k w r h) p1 after p bits choices below
+accepted-return a b g k w r settles h p1 after p bits choices below =
+    returned a b g k w r settles (takes-time a b g k w r p settles below h) (accepted-margins a b g k w r h) p1 after p
+    bits choices below
 
 pub operation-returns : OperationReturns
-operation-returns a b k w r p1 after p bits choices output h below hb hc ranged few short room =
-    all-found k (length bits) 1 (messageReads a b w r p1 after p bits choices) output bits ranged few (omega arith)
+operation-returns a b g k w r p1 after p bits choices output settles h below hb hc ranged few short room =
+    all-found k (length bits) 1 (messageReads a b g w r p1 after p bits choices) output bits ranged few (omega arith)
     short
-    (over-levels w r p (followed a b p1 after bits) choices (takes-time a b k w r p below h) below
+    (over-levels g w r p (followed a b p1 after bits) choices (takes-time a b g k w r p settles below h) below
     (followed-levels a b p1 after bits) hc)
-    room (accepted-return a b k w r h p1 after p bits choices below hb hc) refl
+    room (accepted-return a b g k w r settles h p1 after p bits choices below hb hc) refl
 
 unless : (b : Bool) → (b ≡ true → ⊥) → b ≡ false
 unless true h = absurd (h refl)
 unless false h = refl
 
-within-18 : (w r : ℕ) → WithinOnePartIn 18 w r → accepted 5 13 10 w r ≡ true
+within-18 : (w r : ℕ) → WithinOnePartIn 18 w r → accepted 5 13 1 10 w r ≡ true
 within-18 w r near =
-    keeps-accepted 5 13 10 w r (record { M1 = omega arith; M2 = omega arith; M3 = omega arith })
+    keeps-accepted 5 13 1 10 w r (record { M1 = omega arith; M2 = omega arith; M3 = omega arith })
 
-within-32 : (w r : ℕ) → WithinOnePartIn 32 w r → accepted 16 16 23 w r ≡ true
+within-32 : (w r : ℕ) → WithinOnePartIn 32 w r → accepted 16 16 1 23 w r ≡ true
 within-32 w r near =
-    keeps-accepted 16 16 23 w r (record { M1 = omega arith; M2 = omega arith; M3 = omega arith })
+    keeps-accepted 16 16 1 23 w r (record { M1 = omega arith; M2 = omega arith; M3 = omega arith })
 
 pub source-002 : Source002
 source-002 = record {
   cell-18-accepted = within-18;
-  cell-18-returns = λ w r near. accepted-return 5 13 10 w r (within-18 w r near);
+  cell-18-returns = λ w r near. accepted-return 5 13 1 10 w r (omega arith) (within-18 w r near);
   cell-32-accepted = within-32;
-  cell-32-returns = λ w r near. accepted-return 16 16 23 w r (within-32 w r near);
+  cell-32-returns = λ w r near. accepted-return 16 16 1 23 w r (omega arith) (within-32 w r near);
 }
 
-accepted-between : (r : ℕ) → shortestRead ≤ r → r ≤ longestRead → accepted 5 13 10 100 r ≡ true
+accepted-between : (r : ℕ) → shortestRead ≤ r → r ≤ longestRead → accepted 5 13 1 10 100 r ≡ true
 accepted-between r least most =
-    keeps-accepted 5 13 10 100 r (record { M1 = omega arith; M2 = omega arith; M3 = omega arith })
+    keeps-accepted 5 13 1 10 100 r (record { M1 = omega arith; M2 = omega arith; M3 = omega arith })
 
-not-faster : (r : ℕ) → r < shortestRead → accepted 5 13 10 100 r ≡ false
-not-faster r short = unless (accepted 5 13 10 100 r) (λ h. omega (arith, accepted-keeps 5 13 10 100 r h))
+not-faster : (r : ℕ) → r < shortestRead → accepted 5 13 1 10 100 r ≡ false
+not-faster r short = unless (accepted 5 13 1 10 100 r) (λ h. omega (arith, accepted-keeps 5 13 1 10 100 r h))
 
-not-slower : (r : ℕ) → longestRead < r → accepted 5 13 10 100 r ≡ false
-not-slower r long = unless (accepted 5 13 10 100 r) (λ h. omega (arith, accepted-keeps 5 13 10 100 r h))
+not-slower : (r : ℕ) → longestRead < r → accepted 5 13 1 10 100 r ≡ false
+not-slower r long = unless (accepted 5 13 1 10 100 r) (λ h. omega (arith, accepted-keeps 5 13 1 10 100 r h))
 
-too-fast : received 5 13 10 100 66 1 0 35 (1 ∷ []) [] ≡ 0 ∷ []
+too-fast : received 5 13 1 10 100 66 1 0 35 (1 ∷ []) [] ≡ 0 ∷ []
 unfolding cells wave smoothFrom look dropped warpFrom warp settle overTheLine fromMark counted
 too-fast = refl
 
-too-slow : received 5 13 10 100 142 0 10 97 (0 ∷ []) (1 ∷ 1 ∷ []) ≡ 1 ∷ []
+too-slow : received 5 13 1 10 100 142 0 10 97 (0 ∷ []) (1 ∷ 1 ∷ []) ≡ 1 ∷ []
 unfolding cells wave smoothFrom look dropped warpFrom warp settle overTheLine fromMark counted
 too-slow = refl
 
@@ -99,7 +102,7 @@ conjecture-002 = record {
       (λ most. rw (accepted-between r least most, le-leb shortestRead r least, le-leb r longestRead most))
       (λ most. rw (not-slower r (omega arith), le-leb shortestRead r least, lt-leb r longestRead (omega arith))))
       (λ least. rw (not-faster r (omega arith), lt-leb shortestRead r (omega arith)));
-  returns = λ r least most. accepted-return 5 13 10 100 r (accepted-between r least most);
+  returns = λ r least most. accepted-return 5 13 1 10 100 r (omega arith) (accepted-between r least most);
   too-fast = too-fast;
   too-slow = too-slow;
 }

@@ -91,25 +91,25 @@ module _ (x : Link) where
   tr = readStart (x .p) (x .r)
 
   -- the Q reads of lead cycles are the first that lie wholly within them
-  module _ (c m i0 : ℕ) (lead : Lead tw tr 1 (x .Q) c m i0) (there : i0 + x .Q ≤ length R) where
-    outside : (i : ℕ) → i < i0 → wholly x (suc c) (c + m) i ≡ false
-    outside i h = rw (lt-leb (tw (suc c)) (tr i) (omega (arith, lead .first i h)))
+  module _ (c m i0 : ℕ) (lead : Lead tw tr (x .g) (x .Q) c m i0) (there : i0 + x .Q ≤ length R) where
+    outside : (i : ℕ) → i < i0 → wholly x (c + x .g) (c + m) i ≡ false
+    outside i h = rw (lt-leb (tw (c + x .g)) (tr i) (omega (arith, lead .first i h)))
 
-    inside : (i : ℕ) → i0 ≤ i → i < i0 + x .Q → wholly x (suc c) (c + m) i ≡ true
+    inside : (i : ℕ) → i0 ≤ i → i < i0 + x .Q → wholly x (c + x .g) (c + m) i ≡ true
     inside i h l =
         rw (
-          le-leb (tw (suc c)) (tr i) (omega (arith, lead .starts, mono (read-clock (x .p) (x .r)) i0 i h)),
+          le-leb (tw (c + x .g)) (tr i) (omega (arith, lead .starts, mono (read-clock (x .p) (x .r)) i0 i h)),
           le-leb (tr (suc i)) (tw (c + m))
               (omega (arith, lead .ends, mono (read-clock (x .p) (x .r)) (suc i) (i0 + x .Q) l)),
         )
 
     pub lead-enough : x .Q ≤ length (withinLead x c m)
     unfolding withinLead
-    lead-enough = enough (wholly x (suc c) (c + m)) i0 (x .Q) (length R) there outside inside
+    lead-enough = enough (wholly x (c + x .g) (c + m)) i0 (x .Q) (length R) there outside inside
 
     pub heard-is : 0 < x .Q → suc (heard x c m) ≡ i0 + x .Q
     unfolding heard withinLead
-    heard-is = the-Qth (wholly x (suc c) (c + m)) i0 (x .Q) (length R) there outside inside
+    heard-is = the-Qth (wholly x (c + x .g) (c + m)) i0 (x .Q) (length R) there outside inside
 
   -- the n-th sample that the counted rule finds after a read
   pub last-after : (read : ℕ) {j s : ℕ} → suc read ≡ j → Samples (x .k) (λ i. getD R i 2) (x .n) 1 j s → s < length R
@@ -117,8 +117,9 @@ module _ (x : Link) where
   last-after read e samples there = rw e (sampled-at R samples there)
 
   -- rows that are placed are placed where the rules' words place them
-  pub placed-is : {c : ℕ} {rows : List Row} {fs : List Report} → 0 < x .Q → Fit (x .n) (x .Q) 1 (x .w) (x .r) rows
-      → Placed tw tr (λ i. getD R i 2) 1 (x .k) (x .Q) (x .a + x .b) (length R) c rows fs → fs ≡ deliveries x c rows
+  pub placed-is : {c : ℕ} {rows : List Row} {fs : List Report} → 0 < x .Q → Fit (x .n) (x .Q) (x .g) (x .w) (x .r) rows
+      → Placed tw tr (λ i. getD R i 2) (x .g) (x .k) (x .Q) (x .a + x .b) (length R) c rows fs
+      → fs ≡ deliveries x c rows
   unfolding deliveries lastSample
   placed-is some fit no-row = refl
   placed-is {c} some fit (a-row {i0 = i0} {s = s} {row = row} {rows = rows} {fs = fs} lead samples within more) =

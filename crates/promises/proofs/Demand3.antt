@@ -1,10 +1,10 @@
--- Demand 3 holds: the case of the inner theorem at clocks of equal lengths and a settling count of 1, whose margins ask
--- one time unit less than the rules'.
+-- Demand 3 holds: the case of the inner theorem at clocks of equal lengths, whose margins ask one time unit less than
+-- the rules'.
 use mathlib.Core.Path.{_≡_, subst, sym, ap, _∙_}
 use mathlib.Core.Bool.{true}
 use mathlib.Core.List.{List, [], _∷_, _++_}
 use Prim.Native.Nat.{ℕ, suc, _+_, _*_, _-_, _≤_, _<_}
-use native.Mathlib.Nat.{lt-of-mul-lt-mul-left, lt-of-mul-lt-mul-right}
+use native.Mathlib.Nat.{mul-le-mul-right, lt-of-mul-lt-mul-left, lt-of-mul-lt-mul-right}
 use native.Mathlib.Omega.{arith}
 use lib.Dec.{ltb}
 use lib.ListN.{length, getD, take, drop}
@@ -14,9 +14,9 @@ use Rattle.settings.proofs.Inequalities.{m1-met, m2-met, m3-met, m4-met, m5-met
 use Rattle.measure.specs.Levels.{Levels}
 use Rattle.sender.specs.Sending.{Row}
 use Rattle.sender.proofs.PlanWaves.{plan-high-levels}
+use Rattle.line.specs.Smooth.{smooth}
 use Rattle.line.specs.Warp.{cycleStart, readStart}
 use Rattle.line.proofs.ClockBounds.{cycle-clock, read-clock}
-use Rattle.line.proofs.SmoothBy.{smoothBy}
 use Rattle.line.proofs.LineLaws.{Reads, over-levels, over-reads}
 use Rattle.board.specs.Rows.{State, fresh, ready, next}
 use Rattle.board.specs.Feeding.{Report, Step, afterBy, reportsBy}
@@ -39,39 +39,41 @@ module _ (x : Link) (fits : Fitting x) where
 
   -- M2 leaves no room for a read that takes no time, and M4 none for a quiet count of 0
   pub timed : 0 < x .r
-  timed = lt-of-mul-lt-mul-left (x .k) (omega (arith, leb-true, rw m2-met at (fits .m2), fits .phase))
+  timed =
+      lt-of-mul-lt-mul-left (x .k)
+      (omega (arith, leb-true, rw m2-met at (fits .m2), fits .phase, mul-le-mul-right (x .w) (fits .settles)))
 
-  ok : Margins (x .a) (x .b) 1 (x .k) (x .w) (x .w) (x .r) (x .r)
+  ok : Margins (x .a) (x .b) (x .g) (x .k) (x .w) (x .w) (x .r) (x .r)
   ok = record {
     m1 = omega (arith, leb-true, rw m1-met at (fits .m1));
     m2 = omega (arith, leb-true, rw m2-met at (fits .m2));
     m3 = omega (arith, leb-true, rw m3-met at (fits .m3));
   }
 
-  quiet : (x .a + x .b + 1) * x .w + 2 * x .r ≤ suc (x .Q * x .r)
+  quiet : (x .a + x .b + x .g) * x .w + 2 * x .r ≤ suc (x .Q * x .r)
   quiet = omega (arith, leb-true, rw m4-met at (fits .m4))
 
-  rows-fit : (rows : List Row) → RowsFit x rows → Fit (x .n) (x .Q) 1 (x .w) (x .r) rows
+  rows-fit : (rows : List Row) → RowsFit x rows → Fit (x .n) (x .Q) (x .g) (x .w) (x .r) rows
   rows-fit [] all = tt
   rows-fit (row ∷ rows) all = (all .1, all .0, omega (arith, leb-true, rw m5-met at (all .2)), rows-fit rows (all .3))
 
-  fit : Fit (x .n) (x .Q) 1 (x .w) (x .r) (x .rows)
+  fit : Fit (x .n) (x .Q) (x .g) (x .w) (x .r) (x .rows)
   fit = rows-fit (x .rows) (fits .rows)
 
   some-Q : 0 < x .Q
   some-Q = lt-of-mul-lt-mul-right (x .r) (omega (arith, quiet, fits .phase, timed))
 
-  reads : Reads (cycleStart (x .w)) (readStart (x .p) (x .r)) (smoothBy 1 0 1 (lineWave x)) (planReads x)
+  reads : Reads (cycleStart (x .w)) (readStart (x .p) (x .r)) (smooth (x .g) (lineWave x)) (planReads x)
   unfolding planReads
   reads =
-      over-reads (x .w) (x .r) (x .p) (lineWave x) (x .choices) timed (fits .phase)
+      over-reads (x .g) (x .w) (x .r) (x .p) (lineWave x) (x .choices) timed (fits .phase)
       (plan-high-levels (x .a) (x .b) (x .highAfter) (x .rows)) (fits .choices)
 
   -- the settled reads are levels
   pub read-levels : Levels (planReads x)
   unfolding planReads
   read-levels =
-      over-levels (x .w) (x .r) (x .p) (lineWave x) (x .choices) timed (fits .phase)
+      over-levels (x .g) (x .w) (x .r) (x .p) (lineWave x) (x .choices) timed (fits .phase)
       (plan-high-levels (x .a) (x .b) (x .highAfter) (x .rows)) (fits .choices)
 
   -- N is more than the place of each read that ends by the end of the last cell
@@ -81,15 +83,15 @@ module _ (x : Link) (fits : Fitting x) where
   pub in-rows : InRows (length (planReads x))
   in-rows =
       reads-in-rows (cycle-clock (x .w)) (read-clock (x .p) (x .r)) timed (omega arith) (omega (arith, fits .phase))
-      (omega arith) ok (x .n) (x .Q) quiet (fits .some-bits) (x .rows) (x .highAfter) fit (planReads x) reads
+      (fits .settles) ok (x .n) (x .Q) quiet (fits .some-bits) (x .rows) (x .highAfter) fit (planReads x) reads
 
   -- with nothing replaced
   pub placed : (N : ℕ) → N ≤ length (planReads x) → InRows N
-      → Placed (cycleStart (x .w)) (readStart (x .p) (x .r)) (λ i. getD (planReads x) i 2) 1 (x .k) (x .Q)
+      → Placed (cycleStart (x .w)) (readStart (x .p) (x .r)) (λ i. getD (planReads x) i 2) (x .g) (x .k) (x .Q)
       (x .a + x .b) N 0 (x .rows) (reportsBy G fresh 0 (planReads x))
   placed =
       undamaged (cycle-clock (x .w)) (read-clock (x .p) (x .r)) timed (omega arith) (omega (arith, fits .phase))
-      (omega arith) ok (x .n) (x .Q) quiet (fits .some-bits) (x .rows) (x .highAfter) fit (planReads x) reads
+      (fits .settles) ok (x .n) (x .Q) quiet (fits .some-bits) (x .rows) (x .highAfter) fit (planReads x) reads
 
   pub whole : reportsBy G fresh 0 (planReads x) ≡ deliveries x 0 (x .rows)
   whole = placed-is x some-Q fit (placed (length (planReads x)) (omega arith) in-rows)
@@ -128,16 +130,16 @@ module _ (x : Link) (fits : Fitting x) where
       sample = last (rec .sample .from-read) eq ∙ sym whole-sample;
     }
       where
-        fit′ : Fit (x .n) (x .Q) 1 (x .w) (x .r) (row ∷ later)
+        fit′ : Fit (x .n) (x .Q) (x .g) (x .w) (x .r) (row ∷ later)
         fit′ =
-            later-fit (x .n) (x .Q) 1 (x .w) (x .r) earlier (row ∷ later)
-            (subst (λ (l : List Row). Fit (x .n) (x .Q) 1 (x .w) (x .r) l) same fit)
+            later-fit (x .n) (x .Q) (x .g) (x .w) (x .r) earlier (row ∷ later)
+            (subst (λ (l : List Row). Fit (x .n) (x .Q) (x .g) (x .w) (x .r) l) same fit)
 
         rec : Recovered (cycle-clock (x .w)) (read-clock (x .p) (x .r)) timed (omega arith)
-            (omega (arith, fits .phase)) (omega arith) ok (x .n) (x .Q) quiet
+            (omega (arith, fits .phase)) (fits .settles) ok (x .n) (x .Q) quiet
             (fits .some-bits) (x .rows) (x .highAfter) fit (planReads x) reads j (cyclesOf x earlier) m row later
         rec = recovered (cycle-clock (x .w)) (read-clock (x .p) (x .r)) timed (omega arith)
-            (omega (arith, fits .phase)) (omega arith) ok (x .n) (x .Q) quiet
+            (omega (arith, fits .phase)) (fits .settles) ok (x .n) (x .Q) quiet
             (fits .some-bits) (x .rows) (x .highAfter) fit (planReads x) reads j earlier row later same m (long .within)
             (omega (arith, leb-true, rw m5-met at (long .m5))) wholly
 
@@ -182,7 +184,7 @@ user-wording x hear fits demand earlier row later same =
     begins = omega arith
 
     met : (earlier : List Row) → RowsFit x (earlier ++ row ∷ later)
-        → zeroOrMore (m5 (x .w) (x .r) (x .Q) (row .lead)) ≡ true
+        → zeroOrMore (m5 (x .g) (x .w) (x .r) (x .Q) (row .lead)) ≡ true
     met [] all = all .2
     met (first ∷ earlier) all = met earlier (all .3)
 

@@ -1,5 +1,6 @@
 -- The demands are put together from what the other files prove.
 use Rattle.stored.proofs.ShownHolds.{same-wave}
+use Rattle.line.proofs.Settling.{smooth-laws-hold}
 use Rattle.line.proofs.WarpLaws.{warp-laws-hold}
 use Rattle.board.proofs.WellFormedStays.{every-step}
 use Rattle.capture.proofs.RoundTrips.{written-read-back, read-written-back}
@@ -26,6 +27,7 @@ demands = record {
   demand-1-from-c = answered-from-c;
   demand-2 = record {
     stored = same-wave;
+    smooths = smooth-laws-hold;
     line = warp-laws-hold;
     counts = operation-returns;
     picks = picked-counts;

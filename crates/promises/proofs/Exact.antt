@@ -3,7 +3,7 @@
 -- lose a message of one bit.
 use mathlib.Core.Path.{_≡_}
 use mathlib.Core.List.{List, [], _∷_}
-use Prim.Native.Nat.{ℕ, suc, _+_, _*_, _-_, _≤_, _<_}
+use Prim.Native.Nat.{ℕ, _+_, _*_, _-_, _≤_, _<_}
 use native.Mathlib.Omega.{arith}
 use lib.ListN.{length}
 use Rattle.measure.specs.Levels.{Levels}
@@ -16,7 +16,8 @@ use Rattle.promises.specs.CountedReturns.{followed}
 use Rattle.promises.specs.WhatNoMeans.{OneBit}
 use Rattle.promises.proofs.Timing.{Margins}
 use Rattle.promises.proofs.Received.{returns}
-use Rattle.promises.proofs.Witness.{Loses, margins-or, highBit, lowBit, least, many, loses-1, loses-2, loses-3}
+use Rattle.promises.proofs.Witness.{Loses, margins-or, highBit, lowBit, least, start, many}
+use Rattle.promises.proofs.Witness.{loses-1, loses-2, loses-3}
 
 -- every message is returned, with any lead and any number of high cycles after it, any phase below the first writer
 -- cycle and any choices
@@ -33,40 +34,29 @@ enough a b g k w1 w2 r1 r2 hg hr ok tw tr wclk rclk phase below p1 after bits ch
     l : List ℕ
     l = followed a b p1 after bits
 
--- with the lead (g - 1)·(r - 1) and the phase w - 1, read (g - 1)·w starts one time unit before the mark has settled
-lies : (g w r : ℕ) → 0 < g → 0 < w → 0 < r → w - 1 + (g - 1) * w * r + 1 ≡ ((g - 1) * (r - 1) + g) * w
-lies (suc g) (suc w) (suc r) hg hw hr = rw (one g, one w, one r) (shape g w r)
-  where
-    one : (n : ℕ) → suc n - 1 ≡ n
-    one n = omega arith
-
-    shape : (g w r : ℕ) → w + g * suc w * suc r + 1 ≡ (g * r + suc g) * suc w
-    shape g w r = omega arith
-
 -- clocks of constant length: a margin of minus two or less loses a message of one bit
 module _ (a b g k w r : ℕ) (ha : 0 < a) (hg : 0 < g) (hk : 0 < k) (hw : 0 < w) (hr : 0 < r) where
-  abbrev lead : ℕ
-  lead = (g - 1) * (r - 1)
-
   pub lost-1 : a * w + 2 ≤ 2 * r + g * w → (m : OneBit w) × Loses a b g k w r m
-  lost-1 h = (
-    highBit w lead 1 (many a b g w r lead 1) hw (omega arith),
-    loses-1 a b g k w r ha hg hk hw hr lead ((g - 1) * w) (lies g w r hg hw hr) h,
-  )
+  lost-1 h =
+      let at = start g w r hg hw hr in (
+        highBit w (at .lead) (at .p) 1 (many a b g w r (at .lead) (at .p) 1) (at .below) (omega arith),
+        loses-1 a b g k w r hr (at .lead) (at .p) (at .below) (at .read) (at .lies) h,
+      )
 
   pub lost-2 : k * r + 2 ≤ (a + g) * w + r → (m : OneBit w) × Loses a b g k w r m
   lost-2 h =
       let (n, x, y) = least w (r - 1) hw in
       let below : n * w + 1 - r < w = omega arith in (
         lowBit w n (n * w + 1 - r) below,
-        loses-2 a b g k w r ha hg hk hw hr n (n * w + 1 - r) below (omega arith) (omega arith),
+        loses-2 a b g k w r hr n (n * w + 1 - r) below ha hg hk (omega arith) (omega arith),
       )
 
   pub lost-3 : (a + b) * w + 2 ≤ (k + 2) * r + g * w → (m : OneBit w) × Loses a b g k w r m
-  lost-3 h = (
-    highBit w lead 0 (many a b g w r lead 0) hw (omega arith),
-    loses-3 a b g k w r ha hg hk hw hr lead ((g - 1) * w) (lies g w r hg hw hr) h,
-  )
+  lost-3 h =
+      let at = start g w r hg hw hr in (
+        highBit w (at .lead) (at .p) 0 (many a b g w r (at .lead) (at .p) 0) (at .below) (omega arith),
+        loses-3 a b g k w r hr (at .lead) (at .p) (at .below) (at .read) (at .lies) h,
+      )
 
 module _ (a b g k w1 w2 r1 r2 : ℕ) (ha : 0 < a) (hg : 0 < g) (hk : 0 < k) (hw : 0 < w1) (hr : 0 < r1) (ww : w1 ≤ w2)
     (rr : r1 ≤ r2) where

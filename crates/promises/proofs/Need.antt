@@ -11,34 +11,42 @@ use lib.ListN.{length, getD, replicate, List·getD-eq-default}
 use Rattle.measure.specs.Levels.{Levels}
 use Rattle.measure.proofs.LevelLaws.{most-replicate}
 use Rattle.sender.proofs.Waves.{followed-length, followed-levels, followed-carries, followed-leads, followed-high}
+use Rattle.line.specs.Smooth.{smooth}
 use Rattle.line.specs.Warp.{cycleStart, readStart, warpBy}
 use Rattle.line.proofs.Clocks.{even-clocks}
 use Rattle.line.proofs.ClockBounds.{cycle-of}
-use Rattle.line.proofs.SmoothBy.{smoothBy, length-smooth-by}
+use Rattle.line.proofs.SmoothLaws.{length-smooth}
 use Rattle.line.proofs.LineLaws.{lineBy, Reads, line-reads}
 use Rattle.line.proofs.KnownCycles.{Known, stays-high, stays-low}
 use Rattle.counted.specs.Counted.{counted}
 use Rattle.counted.proofs.Samples.{counted-step, counted-late}
 use Rattle.promises.specs.CountedReturns.{followed}
 
--- the mark of a single 1 is the only low of its wave
-low-in-mark : (a b p1 after c : ℕ) → getD (followed a b p1 after (1 ∷ [])) c 2 ≡ 0 → c < p1 + a
-low-in-mark a b p1 after c e =
-    dite (decLe (suc c) (p1 + a)) (λ h. h) λ h. absurd (
-    dite (decLe (suc c) (p1 + (a + b)))
-    (λ u. omega (arith, followed-carries a b p1 after (1 ∷ []) .1 c (omega arith) (omega arith)))
-    λ u. dite (decLe (suc c) (p1 + 1 * (a + b) + after))
-    (λ t. omega (arith, followed-high a b p1 after (1 ∷ []) c (omega arith) t))
+-- all that is low of the wave of one bit is in its cell
+low-in-cell : (a b p1 after x c : ℕ) → getD (followed a b p1 after (x ∷ [])) c 2 ≡ 0 → c < p1 + (a + b)
+low-in-cell a b p1 after x c e =
+    dite (decLe (suc c) (p1 + (a + b))) (λ h. h) λ h. absurd (
+    dite (decLe (suc c) (p1 + 1 * (a + b) + after))
+    (λ t. omega (arith, followed-high a b p1 after (x ∷ []) c (omega arith) t))
     λ t. omega (
       arith,
-      List·getD-eq-default (followed a b p1 after (1 ∷ [])) 2 {n = c}
-          (omega (arith, followed-length a b p1 after (1 ∷ []))),
+      List·getD-eq-default (followed a b p1 after (x ∷ [])) 2 {n = c}
+          (omega (arith, followed-length a b p1 after (x ∷ []))),
     )
     )
 
+-- and of a 1 in its mark
+low-in-mark : (a b p1 after c : ℕ) → getD (followed a b p1 after (1 ∷ [])) c 2 ≡ 0 → c < p1 + a
+low-in-mark a b p1 after c e =
+    dite (decLe (suc c) (p1 + a)) (λ h. h) λ h. absurd
+    (omega (
+      arith,
+      followed-carries a b p1 after (1 ∷ []) .1 c (omega arith) (omega (arith, low-in-cell a b p1 after 1 c e)),
+    ))
+
 -- the reads of constant clocks over a wave with the settling count g, before they are settled
 abbrev pub unsettled : (g w r p : ℕ) (l : List ℕ) → List ℕ
-unsettled g w r p l = warpBy (cycleStart w) (readStart p r) (smoothBy g 0 1 l)
+unsettled g w r p l = warpBy (cycleStart w) (readStart p r) (smooth g l)
 
 -- settled by these choices, by m high ones alone, and by none
 abbrev pub settledBy : (g w r p : ℕ) (l choices : List ℕ) → List ℕ
@@ -52,17 +60,17 @@ settledLow g w r p l = settledBy g w r p l []
 
 module _ (g w r p : ℕ) (l choices : List ℕ) (pos : 0 < r) (below : p < w) (levels : Levels l)
     (chosen : Levels choices) where
-  reads : Reads (cycleStart w) (readStart p r) (smoothBy g 0 1 l) (settledBy g w r p l choices)
+  reads : Reads (cycleStart w) (readStart p r) (smooth g l) (settledBy g w r p l choices)
   reads = line-reads (even-clocks w r p pos below) g l choices levels chosen
 
   ends-by : (q : ℕ) → q < length (settledBy g w r p l choices) → p + suc q * r ≤ length l * w
-  ends-by q h = rw length-smooth-by at (reads .ends q h)
+  ends-by q h = rw length-smooth at (reads .ends q h)
 
   is-level : (q : ℕ) → q < length (settledBy g w r p l choices) → getD (settledBy g w r p l choices) q 2 ≤ 1
   is-level q h = reads .settled .level q (reads .ends q h)
 
--- All choices are high, and read j starts one time unit before the mark has settled.
-module _ (a b g k w r p p1 after j x m : ℕ) (pos : 0 < r) (below : p < w) (lies : p + j * r + 1 ≡ (p1 + g) * w)
+-- All choices are high.
+module _ (a b g k w r p p1 after x m : ℕ) (pos : 0 < r) (below : p < w)
     (enough : length (unsettled g w r p (followed a b p1 after (x ∷ []))) ≤ m) where
   abbrev l : List ℕ
   l = followed a b p1 after (x ∷ [])
@@ -98,9 +106,10 @@ module _ (a b g k w r p p1 after j x m : ℕ) (pos : 0 < r) (below : p < w) (lie
       (rw zero-add (omega (arith, ends q h))) in
       (c, u, v, low q h d c (omega arith) v)
 
-  -- the reads up to j are high
-  high-to : (q : ℕ) → q ≤ j → q < length R → getD R q 2 ≡ 1
-  high-to q le h = dite (ℕ-discrete (getD R q 2) 1) (λ e. e) (λ d. absurd (on (start-low q h d)))
+  -- no cycle is known low before the mark has settled, so a read that starts in none but such is high
+  high-in : (q : ℕ) → q < length R
+      → ((c : ℕ) → c * w ≤ p + q * r → getD l c 2 ≡ 0 → c < p1 + g) → getD R q 2 ≡ 1
+  high-in q h soon = dite (ℕ-discrete (getD R q 2) 1) (λ e. e) (λ d. absurd (on (start-low q h d)))
     where
       on : (c : ℕ) × (c * w ≤ p + q * r) × (p + q * r < suc c * w) × Known g l c 0 → ⊥
       on (c, u, v, n) =
@@ -108,22 +117,45 @@ module _ (a b g k w r p p1 after j x m : ℕ) (pos : 0 < r) (below : p < w) (lie
           (λ y. omega (
             arith,
             n .level (c - g) (omega arith) (omega arith),
-            followed-leads a b p1 after (x ∷ []) (c - g) (omega (arith, soon)),
+            followed-leads a b p1 after (x ∷ []) (c - g)
+                (omega (arith, soon c u (n .level c (omega arith) (omega arith)))),
           ))
           (λ y. omega (arith, n .before (omega arith)))
-        where
-          soon : c < p1 + g
-          soon = lt-of-mul-lt-mul-right w (omega (arith, mul-le-mul-right r le))
 
-  -- M3 is minus two or less, and nothing follows the wave: the sample would be read past the wave's end
-  pub late-sample : after ≡ 0 → (a + b) * w + 2 ≤ (k + 2) * r + g * w → counted k 1 1 R ≡ []
-  late-sample none m3 =
-      counted-late k 1 1 R (j + 1) 2 (λ i p q. high-to i (omega arith) q)
-      (dite (decLe (length R) (j + 1 + k)) (λ h. h)
-      (λ h. absurd (omega (arith, rw shape at (ends (j + 1 + k) (omega arith))))))
-    where
-      shape : p1 + 1 * (a + b) + after ≡ p1 + (a + b)
-      shape = omega arith
+  -- the cell is low for no longer than a change takes to settle: every read is high
+  pub never-settles : ((c : ℕ) → getD l c 2 ≡ 0 → c < p1 + g) → counted k 1 1 R ≡ []
+  never-settles soon =
+      counted-late k 1 1 R (length R) 2 (λ q y h. high-in q h (λ c u e. soon c e)) (omega arith)
+
+  -- read j starts one time unit before the mark has settled
+  module _ (j : ℕ) (lies : p + j * r + 1 ≡ (p1 + g) * w) where
+    -- the reads up to j are high
+    high-to : (q : ℕ) → q ≤ j → q < length R → getD R q 2 ≡ 1
+    high-to q le h =
+        high-in q h (λ c u e. lt-of-mul-lt-mul-right w (omega (arith, mul-le-mul-right r le)))
+
+    -- M3 is minus two or less, and nothing follows the wave: the sample would be read past the wave's end
+    pub late-sample : after ≡ 0 → (a + b) * w + 2 ≤ (k + 2) * r + g * w → counted k 1 1 R ≡ []
+    late-sample none m3 =
+        counted-late k 1 1 R (j + 1) 2 (λ i p q. high-to i (omega arith) q)
+        (dite (decLe (length R) (j + 1 + k)) (λ h. h)
+        (λ h. absurd (omega (arith, rw shape at (ends (j + 1 + k) (omega arith))))))
+      where
+        shape : p1 + 1 * (a + b) + after ≡ p1 + (a + b)
+        shape = omega arith
+
+-- a mark, or a whole cell of a 0, that is no longer than the settling count never settles
+pub short-for-mark : (a b g k w r p p1 after m : ℕ) → 0 < r → p < w
+    → length (unsettled g w r p (followed a b p1 after (1 ∷ []))) ≤ m → a ≤ g
+    → counted k 1 1 (settledHigh g w r p m (followed a b p1 after (1 ∷ []))) ≡ []
+short-for-mark a b g k w r p p1 after m pos below enough ag =
+    never-settles a b g k w r p p1 after 1 m pos below enough (λ c e. omega (arith, low-in-mark a b p1 after c e))
+
+pub short-for-cell : (a b g k w r p p1 after x m : ℕ) → 0 < r → p < w
+    → length (unsettled g w r p (followed a b p1 after (x ∷ []))) ≤ m → a + b ≤ g
+    → counted k 1 1 (settledHigh g w r p m (followed a b p1 after (x ∷ []))) ≡ []
+short-for-cell a b g k w r p p1 after x m pos below enough abg =
+    never-settles a b g k w r p p1 after x m pos below enough (λ c e. omega (arith, low-in-cell a b p1 after x c e))
 
 -- M1 is minus two or less: no read lies wholly within the settled mark of a 1, so every read is high
 pub short-mark : (a b g k w r p p1 after j m : ℕ) → 0 < r → p < w → p + j * r + 1 ≡ (p1 + g) * w
@@ -131,7 +163,7 @@ pub short-mark : (a b g k w r p p1 after j m : ℕ) → 0 < r → p < w → p + 
     → counted k 1 1 (settledHigh g w r p m (followed a b p1 after (1 ∷ []))) ≡ []
 short-mark a b g k w r p p1 after j m pos below lies enough m1 =
     counted-late k 1 1 reads (length reads) 2
-    (λ q y h. dite (decLe q j) (λ le. high-to a b g k w r p p1 after j 1 m pos below lies enough q le h)
+    (λ q y h. dite (decLe q j) (λ le. high-to a b g k w r p p1 after 1 m pos below enough j lies q le h)
     (λ gt. high q h gt)) (omega arith)
   where
     reads : List ℕ
@@ -140,7 +172,7 @@ short-mark a b g k w r p p1 after j m pos below lies enough m1 =
     high : (q : ℕ) → q < length reads → (q ≤ j → ⊥) → getD reads q 2 ≡ 1
     high q h gt =
         dite (ℕ-discrete (getD reads q 2) 1) (λ e. e)
-        (λ d. absurd (on d (start-low a b g k w r p p1 after j 1 m pos below lies enough q h d)))
+        (λ d. absurd (on d (start-low a b g k w r p p1 after 1 m pos below enough q h d)))
       where
         on : getD reads q 2 ≢ 1
             → (c : ℕ) × (c * w ≤ p + q * r) × (p + q * r < suc c * w) × Known g (followed a b p1 after (1 ∷ [])) c 0 → ⊥
@@ -151,7 +183,7 @@ short-mark a b g k w r p p1 after j m pos below lies enough m1 =
             omega (
               arith,
               low-in-mark a b p1 after (p1 + a)
-                  (low a b g k w r p p1 after j 1 m pos below lies enough q h d (p1 + a) (omega arith)
+                  (low a b g k w r p p1 after 1 m pos below enough q h d (p1 + a) (omega arith)
                   (omega (arith, mul-le-mul-right w within)) .level
                   (p1 + a) (omega arith) (omega arith)),
             ))

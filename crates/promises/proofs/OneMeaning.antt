@@ -164,7 +164,7 @@ one-meaning = record {
   pick = record {
     always = λ κs a. tt;
     once = λ κs a x y left right h h′.
-        (same pick-said refl (only-one _ _ _ _ (pickedSays x) (pickedSays y) h h′), refl);
+        (same pick-said refl (only-one _ _ _ _ _ (pickedSays x) (pickedSays y) h h′), refl);
   };
   send = record {
     always = λ κs a. tt;
@@ -181,7 +181,7 @@ one-meaning = record {
   };
   smooth = record {
     always = λ κs a. tt;
-    once = λ κs a x y left right h h′. leaves smooth-said (λ l. (tt, (l, tt))) h h′;
+    once = λ κs a x y left right h h′. leaves smooth-said (λ l. (tt, (tt, (l, tt)))) h h′;
   };
   warp = record {
     always = λ κs a. tt;
@@ -244,20 +244,20 @@ one-meaning = record {
     always = λ κs a. tt;
     once = λ κs a x y left right h h′.
         crosses (λ (p : ℕ × ℕ × List ℤ). p .0)
-        (λ p. (tt, (tt, (tt, (tt, (tt, (p .2, (p .1, tt)))))))) h h′;
+        (λ p. (tt, (tt, (tt, (tt, (tt, (tt, (p .2, (p .1, tt))))))))) h h′;
   };
   siengulot-judge-quiet = record {
     always = λ κs a. tt;
     once = λ κs a x y left right h h′.
         crosses (λ (p : ℕ × ℕ × List ℤ). p .0)
-        (λ p. (tt, (tt, (tt, (tt, (tt, (tt, (tt, (p .2, (p .1, tt)))))))))) h h′;
+        (λ p. (tt, (tt, (tt, (tt, (tt, (tt, (tt, (tt, (p .2, (p .1, tt))))))))))) h h′;
   };
   siengulot-pick = record {
     always = λ κs a. tt;
     once = λ κs a x y left right h h′.
         crosses (λ (p : ℕ × ℕ). p .0)
-        (λ p. (tt, (tt, (tt, (tt, (p .1, tt)))))) (h .crosses)
-        (ap pickedOver (only-one _ _ _ _ (h .answer) (h′ .answer) (h .fits) (h′ .fits)) ∙ h′ .crosses);
+        (λ p. (tt, (tt, (tt, (tt, (tt, (p .1, tt))))))) (h .crosses)
+        (ap pickedOver (only-one _ _ _ _ _ (h .answer) (h′ .answer) (h .fits) (h′ .fits)) ∙ h′ .crosses);
   };
   siengulot-send = record {
     always = λ κs a. tt;
@@ -281,7 +281,7 @@ one-meaning = record {
     always = λ κs a. tt;
     once = λ κs a x y left right h h′.
         crosses (λ (p : (ℕ × ℕ × ℕ) × List ℕ). p .0 .0)
-        (λ p. (tt, (p .1, (p .0 .1, (p .0 .2, tt))))) h h′;
+        (λ p. (tt, (tt, (p .1, (p .0 .1, (p .0 .2, tt)))))) h h′;
   };
   siengulot-warp = record {
     always = λ κs a. tt;

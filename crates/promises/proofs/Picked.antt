@@ -1,10 +1,11 @@
 -- A picked sampling count is accepted, and accepted settings return every message.
-use Rattle.settings.proofs.PickHolds.{pick-shown}
+use Rattle.settings.proofs.PickHolds.{picked-settles, pick-shown}
 use Rattle.promises.specs.Picked.{PickedCounts}
 use Rattle.promises.proofs.CountedReturns.{accepted-return}
 
 pub picked-counts : PickedCounts
 picked-counts = record {
   shown = pick-shown;
-  returns = λ a b k w r p. accepted-return a b k w r (pick-shown .accepts a b k w r p);
+  returns = λ a b g k w r p.
+      accepted-return a b g k w r (picked-settles a b g k w r p) (pick-shown .accepts a b g k w r p);
 }

@@ -9,8 +9,9 @@ use Rattle.measure.specs.Levels.{Levels}
 use Rattle.sender.specs.Sending.{codeLevel}
 use Rattle.sender.proofs.Cells.{code-level-most}
 use Rattle.sender.proofs.Waves.{bit-code, followed-length, followed-carries, followed-leads}
+use Rattle.line.specs.Smooth.{smooth}
 use Rattle.line.proofs.ClockBounds.{Clock, mono}
-use Rattle.line.proofs.SmoothBy.{smoothBy, length-smooth-by, flat}
+use Rattle.line.proofs.SmoothLaws.{length-smooth, flat}
 use Rattle.line.proofs.LineLaws.{Settled, Reads}
 use Rattle.counted.specs.Counted.{counted}
 use Rattle.counted.proofs.Samples.{counted-step}
@@ -56,7 +57,7 @@ module _ {tw tr S : ℕ → ℕ} {w1 w2 r1 r2 end : ℕ} (rs : List ℕ) (wclk :
 module _ {tw tr : ℕ → ℕ} {w1 w2 r1 r2 : ℕ} (wclk : Clock tw w1 w2) (rclk : Clock tr r1 r2) (pos : 0 < r1)
     (phase : tw 0 ≤ tr 0) (below : tr 0 < tw 1) {a b g k : ℕ} (settles : 0 < g) (ok : Margins a b g k w1 w2 r1 r2) where
   pub returns : (p1 after : ℕ) (bits rs : List ℕ) → Levels bits
-      → Reads tw tr (smoothBy g 0 1 (followed a b p1 after bits)) rs → counted k (length bits) 1 rs ≡ bits
+      → Reads tw tr (smooth g (followed a b p1 after bits)) rs → counted k (length bits) 1 rs ≡ bits
   returns p1 after bits rs hb reads =
       received rs wclk rclk pos (reads .settled) (reads .there) ok bits p1 1 0 hb (omega arith)
       (holds a b g l bits p1 1 fits (followed-carries a b p1 after bits)) wait
@@ -68,15 +69,15 @@ module _ {tw tr : ℕ → ℕ} {w1 w2 r1 r2 : ℕ} (wclk : Clock tw w1 w2) (rclk
       fits : p1 + length bits * (a + b) ≤ length l
       fits = omega (arith, followed-length a b p1 after bits)
 
-      same : length (smoothBy g 0 1 l) ≡ length l
-      same = length-smooth-by g 0 1 l
+      same : length (smooth g l) ≡ length l
+      same = length-smooth g l
 
       wait : Waits tw tr (λ i. getD rs i 2) g p1 1 0
       wait = record {
         start = omega (arith, mono wclk 1 (p1 + g) (omega arith));
         calm = λ i p q.
             quiet wclk rclk pos (reads .settled) 0 p1 i 1 (omega arith)
-            (omega (arith, mono wclk p1 (length (smoothBy g 0 1 l)) (omega (arith, fits, same))))
+            (omega (arith, mono wclk p1 (length (smooth g l)) (omega (arith, fits, same))))
             (λ n x y. flat g l 0 1 n p1 (followed-leads a b p1 after bits) (omega (arith, fits)) (omega arith) y)
             (omega (arith, mono rclk 0 i p)) q;
       }

@@ -10,9 +10,10 @@ use lib.ListN.{length, getD, take, drop, length-append, length-drop, length-take
 use lib.Seq.{getD-drop, length-take-le, drop-drop}
 use Rattle.sender.specs.Sending.{Row, pad, planWave}
 use Rattle.sender.proofs.PlanWaves.{size, length-rows, size-append}
+use Rattle.line.specs.Smooth.{smooth}
 use Rattle.line.specs.Sharing.{Shares}
 use Rattle.line.proofs.ClockBounds.{Clock, mono, cycle-of}
-use Rattle.line.proofs.SmoothBy.{smoothBy, length-smooth-by}
+use Rattle.line.proofs.SmoothLaws.{length-smooth}
 use Rattle.line.proofs.LineLaws.{Reads}
 use Rattle.board.specs.Rows.{State, fresh, ready, next}
 use Rattle.board.specs.Feeding.{Report, Step, afterBy, reportsBy}
@@ -78,24 +79,24 @@ module _ {tw tr : ℕ → ℕ} {w1 w2 r1 r2 : ℕ} (wclk : Clock tw w1 w2) (rclk
     {a b g k : ℕ} (settles : 0 < g) (ok : Margins a b g k w1 w2 r1 r2) (n Q : ℕ)
     (m4 : (a + b + g) * w2 + 2 * r1 ≤ suc (Q * r1)) (some : 0 < n)
     (rows : List Row) (high : ℕ) (fit : Fit n Q g w1 r2 rows) (R : List ℕ)
-    (reads : Reads tw tr (smoothBy g 0 1 (planWave a b rows ++ pad high)) R) where
+    (reads : Reads tw tr (smooth g (planWave a b rows ++ pad high)) R) where
   abbrev D : ℕ → ℕ
   D i = getD R i 2
 
   abbrev S : ℕ → ℕ
-  S i = getD (smoothBy g 0 1 (planWave a b rows ++ pad high)) i 2
+  S i = getD (smooth g (planWave a b rows ++ pad high)) i 2
 
   abbrev E : ℕ
   E = length (planWave a b rows)
 
   abbrev L : ℕ
-  L = length (smoothBy g 0 1 (planWave a b rows ++ pad high))
+  L = length (smooth g (planWave a b rows ++ pad high))
 
   abbrev G : Step
   G = next (rules k n Q)
 
   lined : Line a b g S L 0 1 rows
-  lined = rw length-smooth-by (sent a b g rows high
+  lined = rw length-smooth (sent a b g rows high
       (omega (
         arith,
         settles-in-code (omega (arith, wclk .low 0, wclk .high 0)) (omega (arith, rclk .low 0, rclk .high 0)) pos ok,
@@ -103,7 +104,7 @@ module _ {tw tr : ℕ → ℕ} {w1 w2 r1 r2 : ℕ} (wclk : Clock tw w1 w2) (rclk
       (filled n Q g w1 r2 rows some fit))
 
   within : E ≤ L
-  within = rw length-smooth-by (rw length-append (omega arith))
+  within = rw length-smooth (rw length-append (omega arith))
 
   begun : tr 0 ≤ tw g
   begun = omega (arith, mono wclk 1 g settles)

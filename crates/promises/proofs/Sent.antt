@@ -10,7 +10,8 @@ use Rattle.measure.proofs.Stretches.{Stretch, stretch-join}
 use Rattle.sender.specs.Sending.{Row, pad, planWave}
 use Rattle.sender.proofs.Waves.{Carries}
 use Rattle.sender.proofs.PlanWaves.{final, size, CarriesRows, last-code, plan-length, plan-carries, plan-high}
-use Rattle.line.proofs.SmoothBy.{smoothBy, stretch-known, flat}
+use Rattle.line.specs.Smooth.{smooth}
+use Rattle.line.proofs.SmoothLaws.{stretch-known, flat}
 use Rattle.promises.proofs.Timing.{Margins}
 use Rattle.promises.proofs.Cells.{Holds, holds}
 
@@ -39,7 +40,7 @@ module _ (a b g : ℕ) (gb : g ≤ b) (l : List ℕ) where
   W i = getD l i 2
 
   abbrev S : ℕ → ℕ
-  S i = getD (smoothBy g 0 1 l) i 2
+  S i = getD (smooth g l) i 2
 
   -- high cycles from c on are known at once if the level before was high
   abbrev Before : (c u : ℕ) → Type 0
@@ -79,7 +80,7 @@ module _ (a b g : ℕ) (gb : g ≤ b) (l : List ℕ) where
 
 -- The wave of a plan with so many high cycles after it, smoothed, has its rows.
 pub sent : (a b g : ℕ) (rows : List Row) (high : ℕ) → g ≤ b → Filled rows
-    → Line a b g (λ i. getD (smoothBy g 0 1 (planWave a b rows ++ pad high)) i 2)
+    → Line a b g (λ i. getD (smooth g (planWave a b rows ++ pad high)) i 2)
     (length (planWave a b rows ++ pad high)) 0 1 rows
 sent a b g rows high gb filled =
     sent-from a b g gb l rows 0 1 high filled (plan-carries a b high rows)

@@ -8,7 +8,7 @@ use lib.Dec.{eqb, leb}
 use lib.ListN.{length, take}
 use Rattle.measure.specs.Choose.{choose}
 use Rattle.measure.specs.Ranges.{subcell, sampling, quiet, padMost, bitsMost, rowBits, rowsMost, entriesMost}
-use Rattle.measure.specs.Ranges.{inputMost, rowSettingsFit}
+use Rattle.measure.specs.Ranges.{settling as settlingCount, inputMost, rowSettingsFit}
 use Rattle.measure.specs.Refusals.{Answer, given, refused, numberOf, placeOf}
 use Rattle.settings.specs.Answers.{inRange, judgement, quietJudgement}
 use Rattle.settings.specs.Margins.{zeroOrMore}
@@ -45,23 +45,23 @@ use Rattle.promises.proofs.Promised.{done, past, within, same, across, 
 use Rattle.promises.proofs.GoodCaptures.{number-answered, header-answered, capture-answered, read-answered}
 
 -- what the picker answers, told of the best k: one answer alone fits, and this one does
-picked : (a b k w r : ℕ) (answer : Answer ℕ) → Picks a b w r answer → Best a b k w r
-    → Tells (Good.pick a b k w r) k answer
-picked a b k w r answer p h =
-    same (only-one a b w r answer _ p (go (pickable a b w r) refl))
-    (within (pickable a b w r) 1 0 (within (zeroOrMore (least a b k w r)) 9 0 (done refl)))
+picked : (a b g k w r : ℕ) (answer : Answer ℕ) → Picks a b g w r answer → Best a b g k w r
+    → Tells (Good.pick a b g k w r) k answer
+picked a b g k w r answer p h =
+    same (only-one a b g w r answer _ p (go (pickable a b g w r) refl))
+    (within (pickable a b g w r) 1 0 (within (zeroOrMore (least a b g k w r)) 9 0 (done refl)))
   where
-    go : (t : Bool) → pickable a b w r ≡ t
-        → Picks a b w r (choose t (choose (zeroOrMore (least a b k w r)) (given k) (refused 9 0)) (refused 1 0))
-    go true e = best-fits a b w r e k h
+    go : (t : Bool) → pickable a b g w r ≡ t
+        → Picks a b g w r (choose t (choose (zeroOrMore (least a b g k w r)) (given k) (refused 9 0)) (refused 1 0))
+    go true e = best-fits a b g w r e k h
     go false e = out-of-range e
 
 pub answered : Demand1
 unfolding judgement quietJudgement sentMessage sentPlan readPlan smoothed warped settled countedBits begun wellFormed
     stepped listened checked readBack written output number packed
 answered = record {
-  judge = λ a b k w r. within (inRange a b k w r) 1 0 (done refl);
-  judge-quiet = λ a b k w r Q p1. within (inRange a b k w r && quiet Q && leb p1 padMost) 1 0 (done refl);
+  judge = λ a b g k w r. within (inRange a b g k w r) 1 0 (done refl);
+  judge-quiet = λ a b g k w r Q p1. within (inRange a b g k w r && quiet Q && leb p1 padMost) 1 0 (done refl);
   pick = picked;
   send = λ a b p1 bits output.
       within (subcell a && subcell b && leb p1 padMost) 1 0
@@ -80,8 +80,9 @@ answered = record {
       (past (Good.tooLong leads trails)
       (past (limit rowsMost leads)
       (past (room (length leads) output) (done refl))));
-  smooth = λ levels output.
-      past (limit entriesMost levels) (past (entries 1 levels) (laid (smoothing levels) output));
+  smooth = λ g levels output.
+      within (settlingCount g) 1 0
+      (past (limit entriesMost levels) (past (entries 1 levels) (laid (smoothing g levels) output)));
   warp = λ w r p levels output.
       within (timed w r p) 1 0
       (past (limit entriesMost levels)
@@ -136,16 +137,16 @@ answered = record {
 pub answered-from-c : Demand1FromC
 unfolding begun steppedLent listenedLent wellFormedLent number packed good first
 answered-from-c = record {
-  judge = λ a b k w r margins. across (λ answer. judgedThree answer margins) (answered .judge a b k w r);
-  judge-quiet = λ a b k w r Q p1 margins.
-      across (λ answer. judgedFive answer margins) (answered .judge-quiet a b k w r Q p1);
-  pick = λ a b k w r number picked so h.
-      same (sym (so .crosses)) (across pickedOver (answered .pick a b k w r (so .answer) (so .fits) h));
+  judge = λ a b g k w r margins. across (λ answer. judgedThree answer margins) (answered .judge a b g k w r);
+  judge-quiet = λ a b g k w r Q p1 margins.
+      across (λ answer. judgedFive answer margins) (answered .judge-quiet a b g k w r Q p1);
+  pick = λ a b g k w r number picked so h.
+      same (sym (so .crosses)) (across pickedOver (answered .pick a b g k w r (so .answer) (so .fits) h));
   send = λ a b p1 bits output. across (crossing crossed) (answered .send a b p1 bits output);
   plan = λ a b n leads bits output.
       across (crossing crossed) (answered .send-plan a b n leads bits output);
   read-plan = λ leads trails output. across (crossing joinedOver) (answered .read-plan leads trails output);
-  smooth = λ wave output. across (crossing crossed) (answered .smooth wave output);
+  smooth = λ g wave output. across (crossing crossed) (answered .smooth g wave output);
   warp = λ w r p wave output. across (crossing crossed) (answered .warp w r p wave output);
   settle = λ reads choices output. across (crossing crossed) (answered .settle reads choices output);
   counted = λ k n level reads output. across (crossing crossed) (answered .count-bits k n level reads output);

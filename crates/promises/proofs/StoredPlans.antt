@@ -50,14 +50,14 @@ module _ (y : StoredLink) where
       ) (
         parts .0,
         parts .1,
-        m5-stays (y .w) (y .r) (y .Q) lead (before + lead) (omega arith) (parts .2),
+        m5-stays (y .g) (y .w) (y .r) (y .Q) lead (before + lead) (omega arith) (parts .2),
         rows-fit high trail leads trails (drop (y .n) bits) (omega arith) (parts .3),
       )
 
   -- a row and its lead pad as it is stored: the last cycles of the row's lead pad, where they stood
   pub record Kept (before : ℕ) (leads trails bits : List ℕ) (earlier : List Row) (row : Row) : Type 0 where
     pub within : getD leads (length earlier) 0 ≤ row .lead
-    pub m5 : zeroOrMore (M5 (y .w) (y .r) (y .Q) (getD leads (length earlier) 0)) ≡ true
+    pub m5 : zeroOrMore (M5 (y .g) (y .w) (y .r) (y .Q) (getD leads (length earlier) 0)) ≡ true
     pub begins : length (planWave (y .a) (y .b) earlier) + (row .lead - getD leads (length earlier) 0)
         ≡ before + length (storedWave (y .a) (y .b) (take (length earlier) (storedRowsOf (y .n) leads trails bits)))
 
@@ -132,14 +132,15 @@ module _ (y : StoredLink) where
   all : length (y .trails) ≡ length (y .leads) → planReads x ≡ storedReads y
   unfolding planReads
   all lists =
-      ap (λ (l : List ℕ). overTheLine (y .w) (y .r) (y .p) l (y .choices))
+      ap (λ (l : List ℕ). overTheLine (y .g) (y .w) (y .r) (y .p) l (y .choices))
       (sym (same-wave (y .a) (y .b) (y .n) (y .leads) (y .trails) (y .bits) lists))
 
   goes-on : 0 < y .r → y .p < y .w → GoesOn R (planReads x)
   unfolding planReads
   goes-on some-r phase =
-      let (rest, e) = over-front (y .w) (y .r) (y .p) plan (pad (dropped (y .trails))) (y .choices) some-r phase in
-      (rest, e ∙ ap (λ (l : List ℕ). overTheLine (y .w) (y .r) (y .p) l (y .choices) ++ rest) plain)
+      let (rest, e) = over-front (y .g) (y .w) (y .r) (y .p) plan (pad (dropped (y .trails))) (y .choices) some-r
+      phase in
+      (rest, e ∙ ap (λ (l : List ℕ). overTheLine (y .g) (y .w) (y .r) (y .p) l (y .choices) ++ rest) plain)
     where
       plain : plan ≡ plan ++ pad 0
       plain = sym (append-nil plan)
@@ -155,6 +156,7 @@ module _ (y : StoredLink) where
 
     fits : (high : ℕ) → Fitting (readInto y high)
     fits high = record {
+      settles = margins .settles;
       phase = margins .phase;
       choices = margins .choices;
       some-bits = margins .some-bits;
@@ -194,7 +196,7 @@ every-stored-plan y lists = record {
   all = all y lists;
   front = front y lists;
   m5-no-smaller = λ number.
-      m5-grows (y .w) (y .r) (y .Q) _ _ (every-lead-grows (y .leads) (y .trails) lists .longer number);
+      m5-grows (y .g) (y .w) (y .r) (y .Q) _ _ (every-lead-grows (y .leads) (y .trails) lists .longer number);
 }
 
 pub stored-plans-hold : StoredPlansHold

@@ -2,9 +2,9 @@
 -- beside it. For that the rooms' definitions are unfolded.
 use Prim.Native.Nat.{ℕ, _≤_}
 use mathlib.Core.Path.{_≡_, refl}
-use mathlib.Core.List.{List, [], _∷_}
+use mathlib.Core.List.{List, [], _∷_, _++_}
 use native.Mathlib.Omega.{arith}
-use lib.ListN.{length}
+use lib.ListN.{length, replicate}
 use Rattle.measure.specs.Lists.{firstAbove}
 use Rattle.settings.specs.Margins.{m1, m2, m3, m4, m5, accepted, quietAccepted}
 use Rattle.settings.specs.Answers.{quietJudgement}
@@ -23,15 +23,17 @@ use Rattle.promises.specs.Replaced.{WhollyAfter, reportsAt, moved}
 use Rattle.promises.specs.Demand3.{Fitting, receiverSettings}
 use Rattle.promises.specs.StoredPlans.{itself, storedFrom, storedLead, StoredFits, AsStored}
 use Rattle.promises.specs.Promised.{good}
-use Rattle.promises.specs.WholeWay.{waveOf, warpedOf, Within}
+use Rattle.promises.specs.WholeWay.{YesForEach, waveOf, warpedOf, Within}
 use Rattle.promises.specs.Tried.{first, second, p10, p10Lent, false-quiet, Tried, stored, TriedStored}
+use Rattle.promises.specs.Tried.{slowFirst, slow, slowReports, TriedSlow}
 use Rattle.promises.proofs.Demand3.{demand-3, user-wording}
-use Rattle.promises.proofs.WholeWay.{whole-way}
+use Rattle.promises.proofs.WholeWay.{accepted-fits, whole-way}
 use Rattle.promises.proofs.StoredPlans.{stored-plans-hold}
 
 fitting : Fitting p10
 unfolding m1 m2 m3 m4 m5
 fitting = record {
+  settles = omega arith;
   phase = omega arith;
   choices = (omega arith, (omega arith, (omega arith, (omega arith, (omega arith, (omega arith, tt))))));
   some-bits = omega arith;
@@ -87,6 +89,7 @@ unfolding m1 m2 m3 m4 m5 rowsOf
 stored-fits = record {
   lists = refl;
   margins = record {
+    settles = omega arith;
     phase = omega arith;
     choices = fitting .choices;
     some-bits = omega arith;
@@ -122,3 +125,41 @@ tried-stored = record {
   where
     shown : AsStored stored
     shown = stored-plans-hold stored stored-fits
+
+slow-judged : YesForEach (slow 2 18) (18 ∷ 18 ∷ [])
+unfolding quietJudgement accepted quietAccepted m1 m2 m3 m4 m5
+slow-judged = (refl, (refl, tt))
+
+quick-judged : YesForEach (slow 1 17) (18 ∷ 17 ∷ [])
+unfolding quietJudgement accepted quietAccepted m1 m2 m3 m4 m5
+quick-judged = (refl, (refl, tt))
+
+slow-fits : Fitting (slow 2 18)
+slow-fits =
+    accepted-fits (slow 2 18) (omega arith) slow-judged (omega arith) (omega arith)
+    (refl, (omega arith, (omega arith, tt)), (refl, (omega arith, (omega arith, tt)), tt)) tt
+
+slow-after : WhollyAfter (slow 2 18) (cyclesOf (slow 2 18) (slowFirst ∷ [])) 18 39
+unfolding planWave wave cells
+slow-after i read lo hi here shares = omega (arith, shares .before-the-end)
+
+pub tried-slow : TriedSlow
+unfolding planReads overTheLine settle warp warpFrom look dropped smoothFrom planWave wave cells next reportsBy fromMark
+    placesWhere numbered withinLead heard markPlace samplePlace lastSample deliveries reportsAt moved
+tried-slow = record {
+  judged = slow-judged;
+  fits = slow-fits;
+  demand = demand-3 (slow 2 18) slow-fits;
+  wholly = slow-after;
+  slow-edge = refl;
+  quick-edge = refl;
+  hears = refl;
+  hears-sooner = refl;
+  reports = refl;
+  after = user-wording (slow 2 18) slowReports slow-fits (demand-3 (slow 2 18) slow-fits) (slowFirst ∷ [])
+      (record { lead = 18; bits = 0 ∷ 1 ∷ [] }) [] refl 36 39 (replicate 15 1 ++ replicate 3 0) (omega arith)
+      (omega arith) slow-after;
+  judged-quick = quick-judged;
+  quick = refl;
+  lost = refl;
+}

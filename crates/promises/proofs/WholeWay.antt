@@ -10,14 +10,15 @@ use lib.Dec.{eqb, leb}
 use lib.ListN.{length, drop, length-take, length-drop}
 use lib.Seq.{take-append-seam}
 use Rattle.measure.specs.Ranges.{subcell, sampling, cycleLength, quiet, padMost, bitsMost, rowBits, entriesMost}
-use Rattle.measure.specs.Ranges.{rowSettingsFit}
+use Rattle.measure.specs.Ranges.{settling as settlingCount, rowSettingsFit}
 use Rattle.measure.specs.Lists.{onto}
 use Rattle.measure.specs.Levels.{AtMost, Levels}
 use Rattle.measure.specs.Refusals.{given}
-use Rattle.measure.proofs.Both.{both, both-3}
+use Rattle.measure.proofs.Both.{both, each, both-3}
 use Rattle.measure.proofs.LevelLaws.{none-some, most-none-some, most-take, most-drop}
 use Rattle.settings.specs.Margins.{quietAccepted}
 use Rattle.settings.specs.Answers.{inRange, quietJudgement}
+use Rattle.settings.proofs.BothEnds.{in-range as in-ranges}
 use Rattle.settings.proofs.Inequalities.{Accepted, QuietAccepted, quiet-keeps, m1-met, m2-met, m3-met, m4-met, m5-met}
 use Rattle.sender.specs.Sending.{Row, rowsOf}
 use Rattle.sender.specs.Answers.{fitting, padded}
@@ -49,23 +50,23 @@ use Rattle.promises.proofs.AnyHearing.{read-binary, any-hearing}
 use Rattle.promises.proofs.SingleCalls.{answered}
 
 -- a yes is that of settings in range, and of margins that are all zero or more
-pub record Yes (a b k w r Q p1 : ℕ) : Type 0 where
-  pub range : inRange a b k w r ≡ true
+pub record Yes (a b g k w r Q p1 : ℕ) : Type 0 where
+  pub range : inRange a b g k w r ≡ true
   pub quiet-range : quiet Q ≡ true
-  pub three : Accepted a b k w r
-  pub two : QuietAccepted a b w r Q p1
+  pub three : Accepted a b g k w r
+  pub two : QuietAccepted a b g w r Q p1
 
-pub yes-keeps : (a b k w r Q p1 : ℕ) → SaysYes (quietJudgement a b k w r Q p1) → Yes a b k w r Q p1
-yes-keeps a b k w r Q p1 said = go (good (Good.judgeQuiet a b k w r Q p1)) refl
+pub yes-keeps : (a b g k w r Q p1 : ℕ) → SaysYes (quietJudgement a b g k w r Q p1) → Yes a b g k w r Q p1
+yes-keeps a b g k w r Q p1 said = go (good (Good.judgeQuiet a b g k w r Q p1)) refl
   where
-    line : Tells (Good.judgeQuiet a b k w r Q p1) (quietJudged a b k w r Q p1) (quietJudgement a b k w r Q p1)
-    line = answered .judge-quiet a b k w r Q p1
+    line : Tells (Good.judgeQuiet a b g k w r Q p1) (quietJudged a b g k w r Q p1) (quietJudgement a b g k w r Q p1)
+    line = answered .judge-quiet a b g k w r Q p1
 
-    go : (fits : Bool) → good (Good.judgeQuiet a b k w r Q p1) ≡ fits → Yes a b k w r Q p1
+    go : (fits : Bool) → good (Good.judgeQuiet a b g k w r Q p1) ≡ fits → Yes a b g k w r Q p1
     go true e =
-        let accepts : quietAccepted a b k w r Q p1 ≡ true = rw (line .gives e) at said in
-        let keeps = quiet-keeps a b k w r Q p1 accepts in
-        let ranges = both-3 (inRange a b k w r) (quiet Q) (leb p1 padMost) (not-false _ (passes _ [] e .0)) in
+        let accepts : quietAccepted a b g k w r Q p1 ≡ true = rw (line .gives e) at said in
+        let keeps = quiet-keeps a b g k w r Q p1 accepts in
+        let ranges = both-3 (inRange a b g k w r) (quiet Q) (leb p1 padMost) (not-false _ (passes _ [] e .0)) in
         record { range = ranges .0; quiet-range = ranges .1; three = keeps .0; two = keeps .1 }
     go false e = absurd (rw (line .refuses e) at said)
 
@@ -75,26 +76,27 @@ accepted-fits x some all phase bits-some bits choices = go (x .rows) some all
     rows-fit : (rows : List Row) → YesForEach x (leadsOf rows) → BitsFit x rows → RowsFit x rows
     rows-fit [] each bits = tt
     rows-fit (row ∷ rows) each bits =
-        let keeps = yes-keeps (x .a) (x .b) (x .k) (x .w) (x .r) (x .Q) (row .lead) (each .0) in (
+        let keeps = yes-keeps (x .a) (x .b) (x .g) (x .k) (x .w) (x .r) (x .Q) (row .lead) (each .0) in (
           bits .0,
           bits .1,
-          m5-met (x .w) (x .r) (x .Q) (row .lead) ∙ le-leb _ _ (keeps .two .M5),
+          m5-met (x .g) (x .w) (x .r) (x .Q) (row .lead) ∙ le-leb _ _ (keeps .two .M5),
           rows-fit rows (each .1) (bits .2),
         )
 
     go : (rows : List Row) → 1 ≤ length rows → YesForEach x (leadsOf rows) → Fitting x
     go [] some each = absurd (omega arith)
     go (row ∷ rows) some each =
-        let keeps = yes-keeps (x .a) (x .b) (x .k) (x .w) (x .r) (x .Q) (row .lead) (each .0) in
+        let keeps = yes-keeps (x .a) (x .b) (x .g) (x .k) (x .w) (x .r) (x .Q) (row .lead) (each .0) in
         record {
+          settles = in-ranges (x .a) (x .b) (x .g) (x .k) (x .w) (x .r) (keeps .range) .settles .0;
           phase = phase;
           choices = choices;
           some-bits = bits-some;
           rows = rows-fit (x .rows) all bits;
-          m1 = m1-met (x .a) (x .w) (x .r) ∙ le-leb _ _ (keeps .three .M1);
-          m2 = m2-met (x .a) (x .k) (x .w) (x .r) ∙ le-leb _ _ (keeps .three .M2);
-          m3 = m3-met (x .a) (x .b) (x .k) (x .w) (x .r) ∙ le-leb _ _ (keeps .three .M3);
-          m4 = m4-met (x .a) (x .b) (x .w) (x .r) (x .Q) ∙ le-leb _ _ (keeps .two .M4);
+          m1 = m1-met (x .a) (x .g) (x .w) (x .r) ∙ le-leb _ _ (keeps .three .M1);
+          m2 = m2-met (x .a) (x .g) (x .k) (x .w) (x .r) ∙ le-leb _ _ (keeps .three .M2);
+          m3 = m3-met (x .a) (x .b) (x .g) (x .k) (x .w) (x .r) ∙ le-leb _ _ (keeps .three .M3);
+          m4 = m4-met (x .a) (x .b) (x .g) (x .w) (x .r) (x .Q) ∙ le-leb _ _ (keeps .two .M4);
         }
 
 -- a plan's rows
@@ -123,7 +125,7 @@ pub whole-way : WholeWayHolds
 unfolding planReads overTheLine
 whole-way y within = record {
   sends = sends;
-  smooths = smooths ∙ ap (λ (n : ℕ). (given n, onto (smooth wave) (y .forSmooth))) (length-smooth wave);
+  smooths = smooths ∙ ap (λ (n : ℕ). (given n, onto (smooth (y .g) wave) (y .forSmooth))) (length-smooth (y .g) wave);
   warps = warps;
   settles =
       settles
@@ -151,7 +153,8 @@ whole-way y within = record {
 
     -- no cycle follows the plan
     plain : settle reads (y .choices) ≡ planReads x
-    plain = ap (λ (l : List ℕ). settle (warp (y .w) (y .r) (y .p) (smooth l)) (y .choices)) (sym (append-nil wave))
+    plain =
+        ap (λ (l : List ℕ). settle (warp (y .w) (y .r) (y .p) (smooth (y .g) l)) (y .choices)) (sym (append-nil wave))
 
     -- what the plan's tests say
     in-range : (subcell (y .a) && subcell (y .b) && rowBits (y .n) && fitting (y .n) (y .leads) (y .bits)
@@ -194,28 +197,29 @@ whole-way y within = record {
         (within .choices)
 
     -- what the judge's yes for the first lead says of the ranges
-    judged : (inRange (y .a) (y .b) (y .k) (y .w) (y .r) ≡ true) × (quiet (y .Q) ≡ true)
+    judged : (inRange (y .a) (y .b) (y .g) (y .k) (y .w) (y .r) ≡ true) × (quiet (y .Q) ≡ true)
     judged = go (y .leads) (leb-true 1 (length (y .leads)) (lists .0)) (within .accepted)
       where
         go : (leads : List ℕ) → 1 ≤ length leads → YesForEach x leads
-            → (inRange (y .a) (y .b) (y .k) (y .w) (y .r) ≡ true) × (quiet (y .Q) ≡ true)
+            → (inRange (y .a) (y .b) (y .g) (y .k) (y .w) (y .r) ≡ true) × (quiet (y .Q) ≡ true)
         go [] some each = absurd (omega arith)
         go (p1 ∷ leads) some each =
-            let keeps = yes-keeps (y .a) (y .b) (y .k) (y .w) (y .r) (y .Q) p1 (each .0) in
+            let keeps = yes-keeps (y .a) (y .b) (y .g) (y .k) (y .w) (y .r) (y .Q) p1 (each .0) in
             (keeps .range, keeps .quiet-range)
 
-    ranges : (sampling (y .k) ≡ true) × (cycleLength (y .w) ≡ true) × (cycleLength (y .r) ≡ true)
+    ranges : (settlingCount (y .g) ≡ true) × (sampling (y .k) ≡ true) × (cycleLength (y .w) ≡ true)
+        × (cycleLength (y .r) ≡ true)
     ranges =
-        let three = both-3 (subcell (y .a) && subcell (y .b) && sampling (y .k)) (cycleLength (y .w))
-        (cycleLength (y .r))
+        let test = each (subcell (y .a))
+        (subcell (y .b) ∷ settlingCount (y .g) ∷ sampling (y .k) ∷ cycleLength (y .w) ∷ cycleLength (y .r) ∷ [])
         (judged .0) in
-        (both-3 (subcell (y .a)) (subcell (y .b)) (sampling (y .k)) (three .0) .2, three .1, three .2)
+        (test 2, test 3, test 4, test 5)
 
     range : rowSettingsFit (y .k) (y .n) (y .Q) ≡ true
-    range = rw (ranges .0, row-bits, judged .1)
+    range = rw (ranges .1, row-bits, judged .1)
 
     times : timed (y .w) (y .r) (y .p) ≡ true
-    times = rw (ranges .1, ranges .2, lt-ltb (y .p) (y .w) (within .phase))
+    times = rw (ranges .2, ranges .3, lt-ltb (y .p) (y .w) (within .phase))
 
     -- the four calls
     sends : sending y ≡ (given (length wave), onto wave (y .forWave))
@@ -224,37 +228,39 @@ whole-way y within = record {
     levels : AtMost 1 wave
     levels = plan-levels (y .a) (y .b) (x .rows)
 
-    smooth-size : length (smooth wave) ≡ length wave
-    smooth-size = length-smooth wave
+    smooth-size : length (smooth (y .g) wave) ≡ length wave
+    smooth-size = length-smooth (y .g) wave
 
-    smooths : smoothing y ≡ (given (length (smooth wave)), onto (smooth wave) (y .forSmooth))
+    smooths : smoothing y ≡ (given (length (smooth (y .g) wave)), onto (smooth (y .g) wave) (y .forSmooth))
     smooths =
-        ap (λ (l : List ℕ). smoothed l (y .forSmooth)) (ap front sends ∙ front-is wave (y .forWave))
-        ∙ answered .smooth wave (y .forSmooth) .gives
+        ap (λ (l : List ℕ). smoothed (y .g) l (y .forSmooth)) (ap front sends ∙ front-is wave (y .forWave))
+        ∙ answered .smooth (y .g) wave (y .forSmooth) .gives
+        (passing _ _ (ap not (ranges .0))
         (passing _ _ (le-ltb _ _ few)
         (passing _ _ (none-some 1 wave levels)
         (passing _ _
-        (le-ltb (length (y .forSmooth)) (length (smooth wave)) (omega (arith, smooth-size, within .smooth-room)))
-        none-left)))
+        (le-ltb (length (y .forSmooth)) (length (smooth (y .g) wave)) (omega (arith, smooth-size, within .smooth-room)))
+        none-left))))
 
-    smooth-levels : AtMost 2 (smooth wave)
-    smooth-levels = smooth-most 1 wave levels
+    smooth-levels : AtMost 2 (smooth (y .g) wave)
+    smooth-levels = smooth-most (y .g) 0 1 wave levels
 
     warps : warping y ≡ (given (length reads), onto reads (y .forReads))
     warps =
         ap (λ (l : List ℕ). warped (y .w) (y .r) (y .p) l (y .forReads))
-        (ap front smooths ∙ front-is (smooth wave) (y .forSmooth))
-        ∙ answered .warp (y .w) (y .r) (y .p) (smooth wave) (y .forReads) .gives
+        (ap front smooths ∙ front-is (smooth (y .g) wave) (y .forSmooth))
+        ∙ answered .warp (y .w) (y .r) (y .p) (smooth (y .g) wave) (y .forReads) .gives
         (passing _ _ (ap not times)
-        (passing _ _ (le-ltb entriesMost (length (smooth wave)) (omega (arith, smooth-size, few)))
+        (passing _ _ (le-ltb entriesMost (length (smooth (y .g) wave)) (omega (arith, smooth-size, few)))
         (passing _ _ (le-ltb _ _ (within .few-reads))
-        (passing _ _ (none-some 2 (smooth wave) smooth-levels)
+        (passing _ _ (none-some 2 (smooth (y .g) wave) smooth-levels)
         (passing _ _ (le-ltb _ _ (within .reads-room)) none-left)))))
 
     read-kinds : AtMost 2 reads
     read-kinds =
-        rw (warp-by (y .w) (y .r) (y .p) (smooth wave))
-        (reads-most (even-clocks (y .w) (y .r) (y .p) (timed-reads x fits) (within .phase)) (smooth wave) smooth-levels)
+        rw (warp-by (y .w) (y .r) (y .p) (smooth (y .g) wave))
+        (reads-most (even-clocks (y .w) (y .r) (y .p) (timed-reads x fits) (within .phase)) (smooth (y .g) wave)
+        smooth-levels)
 
     settles : settling y
         ≡ (given (length (settle reads (y .choices))), onto (settle reads (y .choices)) (y .forSettled))

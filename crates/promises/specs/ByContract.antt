@@ -73,14 +73,14 @@ pub record ByContract : Type 0 where
       x ≡ firstAbove most (now entries)
   -- settings
   pub judge : Says Settings.judge.ended Settings.judge.Reads.Post
-      λ κs (a, (b, (k, (w, (r, _))))) x _.
-      judgement (a .0) (b .0) (k .0) (w .0) (r .0) ≡ judgedSays x
+      λ κs (a, (b, (g, (k, (w, (r, _)))))) x _.
+      judgement (a .0) (b .0) (g .0) (k .0) (w .0) (r .0) ≡ judgedSays x
   pub judge-quiet : Says Settings.judge_quiet.ended Settings.judge_quiet.Reads.Post
-      λ κs (a, (b, (k, (w, (r, (Q, (p1, _))))))) x _.
-      quietJudgement (a .0) (b .0) (k .0) (w .0) (r .0) (Q .0) (p1 .0) ≡ quietJudgedSays x
+      λ κs (a, (b, (g, (k, (w, (r, (Q, (p1, _)))))))) x _.
+      quietJudgement (a .0) (b .0) (g .0) (k .0) (w .0) (r .0) (Q .0) (p1 .0) ≡ quietJudgedSays x
   pub pick : Says Settings.pick.ended Settings.pick.Reads.Post
-      λ κs (a, (b, (w, (r, _)))) x _.
-      Picks (a .0) (b .0) (w .0) (r .0) (pickedSays x)
+      λ κs (a, (b, (g, (w, (r, _))))) x _.
+      Picks (a .0) (b .0) (g .0) (w .0) (r .0) (pickedSays x)
   -- sender
   pub send : Says Sender.send.ended Sender.send.Reads.Post
       λ κs (a, (b, (p1, (bits, (out, _))))) x (_, (_, (_, (_, (out′, _))))).
@@ -97,8 +97,8 @@ pub record ByContract : Type 0 where
       readPlan (now leads) (now trails) (now out) ≡ (joinedSays x, out′)
   -- line
   pub smooth : Says Line.smooth.ended Line.smooth.Reads.Post
-      λ κs (wave, (out, _)) x (_, (out′, _)).
-      smoothed (now wave) (now out) ≡ (smoothedSays x, out′)
+      λ κs (wave, (g, (out, _))) x (_, (_, (out′, _))).
+      smoothed (g .0) (now wave) (now out) ≡ (smoothedSays x, out′)
   pub warp : Says Line.warp.ended Line.warp.Reads.Post
       λ κs (wave, (w, (r, (p, (out, _))))) x (_, (_, (_, (_, (out′, _))))).
       warped (w .0) (r .0) (p .0) (now wave) (now out) ≡ (readSays x, out′)
@@ -169,15 +169,16 @@ pub record ByContract : Type 0 where
       lent (refusedLine (numberOf refusal) (placeOf refusal)) (now out) ≡ (putSays x, out′)
   -- the entry points for C
   pub siengulot-judge : Says C.siengulot_judge.ended C.siengulot_judge.Reads.Post
-      λ κs (a, (b, (k, (w, (r, (margins, (accepted, _))))))) x (_, (_, (_, (_, (_, (margins′, (accepted′, _))))))).
-      judgedThree (judgement a b k w r) (now margins) ≡ (x, accepted′, margins′)
+      λ κs (a, (b, (g, (k, (w, (r, (margins, (accepted, _)))))))) x
+      (_, (_, (_, (_, (_, (_, (margins′, (accepted′, _)))))))).
+      judgedThree (judgement a b g k w r) (now margins) ≡ (x, accepted′, margins′)
   pub siengulot-judge-quiet : Says C.siengulot_judge_quiet.ended C.siengulot_judge_quiet.Reads.Post
-      λ κs (a, (b, (k, (w, (r, (Q, (p1, (margins, (accepted, _))))))))) x
-      (_, (_, (_, (_, (_, (_, (_, (margins′, (accepted′, _))))))))).
-      judgedFive (quietJudgement a b k w r Q p1) (now margins) ≡ (x, accepted′, margins′)
+      λ κs (a, (b, (g, (k, (w, (r, (Q, (p1, (margins, (accepted, _)))))))))) x
+      (_, (_, (_, (_, (_, (_, (_, (_, (margins′, (accepted′, _)))))))))).
+      judgedFive (quietJudgement a b g k w r Q p1) (now margins) ≡ (x, accepted′, margins′)
   pub siengulot-pick : Says C.siengulot_pick.ended C.siengulot_pick.Reads.Post
-      λ κs (a, (b, (w, (r, (k, _))))) x (_, (_, (_, (_, (k′, _))))).
-      PickCrosses a b w r x k′
+      λ κs (a, (b, (g, (w, (r, (k, _)))))) x (_, (_, (_, (_, (_, (k′, _)))))).
+      PickCrosses a b g w r x k′
   pub siengulot-send : Says C.siengulot_send.ended C.siengulot_send.Reads.Post
       λ κs (a, (b, (p1, (bits, (out, (place, (count, _))))))) x (_, (_, (_, (_, (out′, (place′, (count′, _))))))).
       crossing crossed (sentMessage a b p1 (now bits) (now out))
@@ -193,8 +194,8 @@ pub record ByContract : Type 0 where
       crossing joinedOver (readPlan (now leads) (now trails) (now out))
       ≡ ((x, place′, count′, dropped′), out′)
   pub siengulot-smooth : Says C.siengulot_smooth.ended C.siengulot_smooth.Reads.Post
-      λ κs (wave, (out, (place, (count, _)))) x (_, (out′, (place′, (count′, _)))).
-      crossing crossed (smoothed (now wave) (now out)) ≡ ((x, place′, count′), out′)
+      λ κs (g, (wave, (out, (place, (count, _))))) x (_, (_, (out′, (place′, (count′, _))))).
+      crossing crossed (smoothed g (now wave) (now out)) ≡ ((x, place′, count′), out′)
   pub siengulot-warp : Says C.siengulot_warp.ended C.siengulot_warp.Reads.Post
       λ κs (w, (r, (p, (wave, (out, (place, (count, _))))))) x (_, (_, (_, (_, (out′, (place′, (count′, _))))))).
       crossing crossed (warped w r p (now wave) (now out))

@@ -23,25 +23,26 @@ RowsFit x [] = Unit {0}
 RowsFit x (row ∷ rows) =
     (length (row .bits) ≡ x .n)
     × Levels (row .bits)
-    × (zeroOrMore (M5 (x .w) (x .r) (x .Q) (row .lead)) ≡ true)
+    × (zeroOrMore (M5 (x .g) (x .w) (x .r) (x .Q) (row .lead)) ≡ true)
     × RowsFit x rows
 
 -- D20: What is asked of a link and its plan. None of the rules' upper limits is, and that a read takes time follows
 -- from M2.
 pub record Fitting (x : Link) : Type 0 where
+  pub settles : 1 ≤ x .g
   pub phase : x .p < x .w
   pub choices : Levels (x .choices)
   pub some-bits : 1 ≤ x .n
   pub rows : RowsFit x (x .rows)
-  pub m1 : zeroOrMore (M1 (x .a) (x .w) (x .r)) ≡ true
-  pub m2 : zeroOrMore (M2 (x .a) (x .k) (x .w) (x .r)) ≡ true
-  pub m3 : zeroOrMore (M3 (x .a) (x .b) (x .k) (x .w) (x .r)) ≡ true
-  pub m4 : zeroOrMore (M4 (x .a) (x .b) (x .w) (x .r) (x .Q)) ≡ true
+  pub m1 : zeroOrMore (M1 (x .a) (x .g) (x .w) (x .r)) ≡ true
+  pub m2 : zeroOrMore (M2 (x .a) (x .g) (x .k) (x .w) (x .r)) ≡ true
+  pub m3 : zeroOrMore (M3 (x .a) (x .b) (x .g) (x .k) (x .w) (x .r)) ≡ true
+  pub m4 : zeroOrMore (M4 (x .a) (x .b) (x .g) (x .w) (x .r) (x .Q)) ≡ true
 
 -- D17: the last m cycles of a row's lead are quiet enough by themselves: M5 is zero or more for m
 pub record LongEnough (x : Link) (row : Row) (m : ℕ) : Type 0 where
   pub within : m ≤ row .lead
-  pub m5 : zeroOrMore (M5 (x .w) (x .r) (x .Q) m) ≡ true
+  pub m5 : zeroOrMore (M5 (x .g) (x .w) (x .r) (x .Q) m) ≡ true
 
 -- D17, D18: What is asked after a stretch, where lead cycles of a row, so many from a cycle on, are read wholly after
 -- it: after the read with which they have been heard exactly that row and those after it are delivered.

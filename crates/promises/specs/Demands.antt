@@ -22,6 +22,7 @@ use Rattle.stored.specs.Shown.{SameWave}
 use Rattle.line.specs.Smooth.{smooth as smoothing}
 use Rattle.line.specs.Warp.{warp as warping}
 use Rattle.line.specs.Settle.{settle as settling}
+use Rattle.line.specs.Settling.{SmoothLawsHold}
 use Rattle.line.specs.Sharing.{WarpLawsHold}
 use Rattle.line.specs.Answers.{smoothed, warped, settled}
 use Rattle.counted.specs.Counted.{counted}
@@ -61,12 +62,12 @@ use Rattle.promises.specs.WholeWay.{AcceptedFits, WholeWayHolds}
 -- lent is as it was; only a start that is refused hands back a receiver of zeros, which from C is written over what was
 -- lent. GoodInput lists the tests. Refusal 5 is none of them: it is a result, and leaves the bits that were found.
 pub record Demand1 : Type 0 where
-  pub judge : (a b k w r : ℕ) → Tells (Good.judge a b k w r) (judgedSettings a b k w r) (judgement a b k w r)
-  pub judge-quiet : (a b k w r Q p1 : ℕ)
-      → Tells (Good.judgeQuiet a b k w r Q p1) (quietJudged a b k w r Q p1) (quietJudgement a b k w r Q p1)
+  pub judge : (a b g k w r : ℕ) → Tells (Good.judge a b g k w r) (judgedSettings a b g k w r) (judgement a b g k w r)
+  pub judge-quiet : (a b g k w r Q p1 : ℕ)
+      → Tells (Good.judgeQuiet a b g k w r Q p1) (quietJudged a b g k w r Q p1) (quietJudgement a b g k w r Q p1)
   -- the answer that the picker's contract allows, told of the best k
-  pub pick : (a b k w r : ℕ) (answer : Answer ℕ) → Picks a b w r answer → Best a b k w r
-      → Tells (Good.pick a b k w r) k answer
+  pub pick : (a b g k w r : ℕ) (answer : Answer ℕ) → Picks a b g w r answer → Best a b g k w r
+      → Tells (Good.pick a b g k w r) k answer
   pub send : (a b p1 : ℕ) (bits output : List ℕ)
       → Fills (Good.send a b p1 bits output) (wave a b p1 bits) output (sentMessage a b p1 bits output)
   pub send-plan : (a b n : ℕ) (leads bits output : List ℕ)
@@ -76,7 +77,8 @@ pub record Demand1 : Type 0 where
       → Answered (Good.readPlan leads trails output) (readPlan leads trails output)
       (given (record { rows = length leads; dropped = dropped trails }), onto (joined leads trails) output)
       (λ number place. (refused number place, output))
-  pub smooth : (wave output : List ℕ) → Fills (Good.smooth wave output) (smoothing wave) output (smoothed wave output)
+  pub smooth : (g : ℕ) (wave output : List ℕ)
+      → Fills (Good.smooth g wave output) (smoothing g wave) output (smoothed g wave output)
   pub warp : (w r p : ℕ) (wave output : List ℕ)
       → Fills (Good.warp w r p wave output) (warping w r p wave) output (warped w r p wave output)
   pub settle : (reads choices output : List ℕ)
@@ -136,7 +138,8 @@ pub record Demand1 : Type 0 where
 pub record Demand2 : Type 0 where
   -- a stored plan is read into a plan with the same wave, but for the cycles that are dropped
   pub stored : SameWave
-  -- what a read looks at, and how many reads there are
+  -- which cycles are unknown; what a read looks at, and how many reads there are
+  pub smooths : SmoothLawsHold
   pub line : WarpLawsHold
   -- accepted settings return every message
   pub counts : OperationReturns

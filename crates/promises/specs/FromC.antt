@@ -45,18 +45,19 @@ summaryOf bytes =
 -- D1, H1
 pub record Demand1FromC : Type 0 where
   -- judging: the number, whether the settings are accepted, and the margins, which a refusal leaves
-  pub judge : (a b k w r : ℕ) (margins : List ℤ)
-      → Answered (Good.judge a b k w r) (judgedThree (judgement a b k w r) margins)
-      (0, flag (accepted a b k w r), m1 a w r ∷ m2 a k w r ∷ m3 a b k w r ∷ []) (λ number place. (number, 0, margins))
-  pub judge-quiet : (a b k w r Q p1 : ℕ) (margins : List ℤ)
-      → Answered (Good.judgeQuiet a b k w r Q p1) (judgedFive (quietJudgement a b k w r Q p1) margins) (
+  pub judge : (a b g k w r : ℕ) (margins : List ℤ)
+      → Answered (Good.judge a b g k w r) (judgedThree (judgement a b g k w r) margins)
+      (0, flag (accepted a b g k w r), m1 a g w r ∷ m2 a g k w r ∷ m3 a b g k w r ∷ [])
+      (λ number place. (number, 0, margins))
+  pub judge-quiet : (a b g k w r Q p1 : ℕ) (margins : List ℤ)
+      → Answered (Good.judgeQuiet a b g k w r Q p1) (judgedFive (quietJudgement a b g k w r Q p1) margins) (
         0,
-        flag (quietAccepted a b k w r Q p1),
-        m1 a w r ∷ m2 a k w r ∷ m3 a b k w r ∷ m4 a b w r Q ∷ m5 w r Q p1 ∷ [],
+        flag (quietAccepted a b g k w r Q p1),
+        m1 a g w r ∷ m2 a g k w r ∷ m3 a b g k w r ∷ m4 a b g w r Q ∷ m5 g w r Q p1 ∷ [],
       ) (λ number place. (number, 0, margins))
   -- H11: picking: the number, and k, which is 0 with a refusal
-  pub pick : (a b k w r number picked : ℕ) → PickCrosses a b w r number picked → Best a b k w r
-      → Answered {O = ℕ × ℕ} (Good.pick a b k w r) (number, picked) (0, k) (λ number place. (number, 0))
+  pub pick : (a b g k w r number picked : ℕ) → PickCrosses a b g w r number picked → Best a b g k w r
+      → Answered {O = ℕ × ℕ} (Good.pick a b g k w r) (number, picked) (0, k) (λ number place. (number, 0))
   pub send : (a b p1 : ℕ) (bits output : List ℕ)
       → FillsFromC (Good.send a b p1 bits output) (wave a b p1 bits) output
       (crossing crossed (sentMessage a b p1 bits output))
@@ -68,8 +69,8 @@ pub record Demand1FromC : Type 0 where
       → Answered (Good.readPlan leads trails output) (crossing joinedOver (readPlan leads trails output))
       ((0, 0, length leads, dropped trails), onto (joined leads trails) output)
       (λ number place. ((number, place, 0, 0), output))
-  pub smooth : (wave output : List ℕ)
-      → FillsFromC (Good.smooth wave output) (smoothing wave) output (crossing crossed (smoothed wave output))
+  pub smooth : (g : ℕ) (wave output : List ℕ)
+      → FillsFromC (Good.smooth g wave output) (smoothing g wave) output (crossing crossed (smoothed g wave output))
   pub warp : (w r p : ℕ) (wave output : List ℕ)
       → FillsFromC (Good.warp w r p wave output) (warping w r p wave) output
       (crossing crossed (warped w r p wave output))

@@ -6,8 +6,8 @@ use mathlib.Core.List.{List, [], _∷_, _++_}
 use lib.Dec.{eqb, leb}
 use lib.ListN.{length, drop}
 use Rattle.measure.specs.Choose.{choose, between}
-use Rattle.measure.specs.Ranges.{subcell, sampling, cycleLength, quiet, padMost, bitsMost, rowBits, rowsMost}
-use Rattle.measure.specs.Ranges.{entriesMost, captureMost, inputMost, rowSettingsFit}
+use Rattle.measure.specs.Ranges.{subcell, settling as settlingCount, sampling, cycleLength, quiet, padMost, bitsMost}
+use Rattle.measure.specs.Ranges.{rowBits, rowsMost, entriesMost, captureMost, inputMost, rowSettingsFit}
 use Rattle.measure.specs.Lists.{firstAbove, someAbove}
 use Rattle.settings.specs.Margins.{zeroOrMore}
 use Rattle.settings.specs.Pick.{least, pickable}
@@ -30,19 +30,23 @@ use Rattle.siengulot.specs.Receivers.{Lent, named, numbersFit, receiverLent}
 use Rattle.promises.specs.Promised.{Test, setting, limit, entries, entry, room}
 
 -- R40: the judges
-abbrev pub judge : (a b k w r : ℕ) → List Test
-judge a b k w r = setting (subcell a && subcell b && sampling k && cycleLength w && cycleLength r) ∷ []
+abbrev pub judge : (a b g k w r : ℕ) → List Test
+judge a b g k w r =
+    setting (subcell a && subcell b && settlingCount g && sampling k && cycleLength w && cycleLength r) ∷ []
 
 -- R41
-abbrev pub judgeQuiet : (a b k w r Q p1 : ℕ) → List Test
-judgeQuiet a b k w r Q p1 =
-    setting ((subcell a && subcell b && sampling k && cycleLength w && cycleLength r) && quiet Q && leb p1 padMost) ∷ []
+abbrev pub judgeQuiet : (a b g k w r Q p1 : ℕ) → List Test
+judgeQuiet a b g k w r Q p1 =
+    setting
+    ((subcell a && subcell b && settlingCount g && sampling k && cycleLength w && cycleLength r) && quiet Q
+    && leb p1 padMost)
+    ∷ []
 
 -- R58, M31: the picker, where k is the best sampling count: refusal 9, unless its least margin is zero or more
-abbrev pub pick : (a b k w r : ℕ) → List Test
-pick a b k w r =
-    setting (pickable a b w r)
-    ∷ record { number = 9; place = 0; failed = not (zeroOrMore (least a b k w r)) }
+abbrev pub pick : (a b g k w r : ℕ) → List Test
+pick a b g k w r =
+    setting (pickable a b g w r)
+    ∷ record { number = 9; place = 0; failed = not (zeroOrMore (least a b g k w r)) }
     ∷ []
 
 -- R42: sending; a plan is lent as its lead pads and the bits of all rows
@@ -84,8 +88,13 @@ readPlan leads trails output =
     ∷ []
 
 -- R44: the three passes: smooth takes levels, warp unknowns too, and settle searches the reads before the choices
-abbrev pub smooth : (levels output : List ℕ) → List Test
-smooth levels output = limit entriesMost levels ∷ entries 1 levels ∷ room (length (smoothing levels)) output ∷ []
+abbrev pub smooth : (g : ℕ) (levels output : List ℕ) → List Test
+smooth g levels output =
+    setting (settlingCount g)
+    ∷ limit entriesMost levels
+    ∷ entries 1 levels
+    ∷ room (length (smoothing g levels)) output
+    ∷ []
 
 -- R45
 abbrev pub warp : (w r p : ℕ) (levels output : List ℕ) → List Test

@@ -9,4 +9,4 @@ use Rattle.promises.specs.CountedReturns.{EveryMessageReturned}
 pub record PickedCounts : Type 0 where
   pub shown : PickShown
   -- the counted receiver returns every message with the k that is given
-  pub returns : (a b k w r : ℕ) → Picks a b w r (given k) → EveryMessageReturned a b k w r
+  pub returns : (a b g k w r : ℕ) → Picks a b g w r (given k) → EveryMessageReturned a b g k w r

@@ -18,6 +18,7 @@ use Rattle.board.specs.Feeding.{Report}
 pub record Link : Type 0 where
   pub a : ℕ
   pub b : ℕ
+  pub g : ℕ
   pub k : ℕ
   pub w : ℕ
   pub r : ℕ
@@ -34,7 +35,7 @@ lineWave x = planWave (x .a) (x .b) (x .rows) ++ pad (x .highAfter)
 
 -- D10: the settled reads: that wave after the three passes of the line
 unfoldable pub planReads : Link → List ℕ
-planReads x = overTheLine (x .w) (x .r) (x .p) (lineWave x) (x .choices)
+planReads x = overTheLine (x .g) (x .w) (x .r) (x .p) (lineWave x) (x .choices)
 
 -- D14: how many cycles rows have, one after another
 abbrev pub cyclesOf : Link → List Row → ℕ
@@ -68,9 +69,9 @@ wholly x from to read =
     leb (cycleStart (x .w) from) (readStart (x .p) (x .r) read)
     && leb (readStart (x .p) (x .r) (suc read)) (cycleStart (x .w) to)
 
--- D14: the reads that lie wholly within lead cycles, so many from this cycle on, without the first of them
+-- D14: the reads that lie wholly within lead cycles, so many from this cycle on, without the first g of them
 unfoldable pub withinLead : (x : Link) (cycle lead : ℕ) → List ℕ
-withinLead x cycle lead = placesWhere (wholly x (suc cycle) (cycle + lead)) 0 (length (planReads x))
+withinLead x cycle lead = placesWhere (wholly x (cycle + x .g) (cycle + lead)) 0 (length (planReads x))
 
 -- D14: the read at which these lead cycles count as heard: number Q of these
 unfoldable pub heard : (x : Link) (cycle lead : ℕ) → ℕ

@@ -78,19 +78,20 @@ FillsFromC tests result output outcome =
     (λ number place. ((number, place, 0), output))
 
 -- M13: what the judges tell: the margins, and whether they are all zero or more
-abbrev pub judged : (a b k w r : ℕ) → Judgement
-judged a b k w r =
+abbrev pub judged : (a b g k w r : ℕ) → Judgement
+judged a b g k w r =
     record {
-      margins = record { m1 = m1 a w r; m2 = m2 a k w r; m3 = m3 a b k w r };
-      accepts = accepted a b k w r;
+      margins = record { m1 = m1 a g w r; m2 = m2 a g k w r; m3 = m3 a b g k w r };
+      accepts = accepted a b g k w r;
     }
 
 -- M13
-abbrev pub quietJudged : (a b k w r Q p1 : ℕ) → QuietJudgement
-quietJudged a b k w r Q p1 =
+abbrev pub quietJudged : (a b g k w r Q p1 : ℕ) → QuietJudgement
+quietJudged a b g k w r Q p1 =
     record {
-      margins = record { m1 = m1 a w r; m2 = m2 a k w r; m3 = m3 a b k w r; m4 = m4 a b w r Q; m5 = m5 w r Q p1 };
-      accepts = quietAccepted a b k w r Q p1;
+      margins =
+          record { m1 = m1 a g w r; m2 = m2 a g k w r; m3 = m3 a b g k w r; m4 = m4 a b g w r Q; m5 = m5 g w r Q p1 };
+      accepts = quietAccepted a b g k w r Q p1;
     }
 
 -- R33: what a refused start hands back: hunting, and all numbers 0

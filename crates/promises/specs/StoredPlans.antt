@@ -18,6 +18,7 @@ use Rattle.promises.specs.Demand3.{Fitting, After, Demand3, receiverSett
 pub record StoredLink : Type 0 where
   pub a : ℕ
   pub b : ℕ
+  pub g : ℕ
   pub k : ℕ
   pub w : ℕ
   pub r : ℕ
@@ -35,6 +36,7 @@ linkWith y leads highAfter =
     record {
       a = y .a;
       b = y .b;
+      g = y .g;
       k = y .k;
       w = y .w;
       r = y .r;
@@ -60,7 +62,7 @@ storedRows y = storedRowsOf (y .n) (y .leads) (y .trails) (y .bits)
 
 -- D21: the reads of the stored plan's own wave
 abbrev pub storedReads : StoredLink → List ℕ
-storedReads y = overTheLine (y .w) (y .r) (y .p) (storedWave (y .a) (y .b) (storedRows y)) (y .choices)
+storedReads y = overTheLine (y .g) (y .w) (y .r) (y .p) (storedWave (y .a) (y .b) (storedRows y)) (y .choices)
 
 -- D23: the cycle of that wave with which the lead pad of the row with this number begins
 abbrev pub storedFrom : (y : StoredLink) (number : ℕ) → ℕ
@@ -79,8 +81,8 @@ pub record WhateverItsMargins (y : StoredLink) : Type 0 where
       → planReads (readInto y 0) ≡ take (length (planReads (readInto y 0))) (storedReads y)
   -- M5 is no smaller for any row
   pub m5-no-smaller : (number : ℕ)
-      → M5 (y .w) (y .r) (y .Q) (storedLead y number)
-      ≤ℤ M5 (y .w) (y .r) (y .Q) (getD (joined (y .leads) (y .trails)) number 0)
+      → M5 (y .g) (y .w) (y .r) (y .Q) (storedLead y number)
+      ≤ℤ M5 (y .g) (y .w) (y .r) (y .Q) (getD (joined (y .leads) (y .trails)) number 0)
 
 -- D21, D22: of every stored plan that has a trail pad for each lead pad
 abbrev pub EveryStoredPlan : Type 0

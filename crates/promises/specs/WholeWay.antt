@@ -31,7 +31,7 @@ SaysYes (refusedAfter number place count) = ⊥
 abbrev pub YesForEach : Link → List ℕ → Type 0
 YesForEach x [] = Unit {0}
 YesForEach x (p1 ∷ leads) =
-    SaysYes (quietJudgement (x .a) (x .b) (x .k) (x .w) (x .r) (x .Q) p1) × YesForEach x leads
+    SaysYes (quietJudgement (x .a) (x .b) (x .g) (x .k) (x .w) (x .r) (x .Q) p1) × YesForEach x leads
 
 -- D20: each of these rows has n bits, 0 or 1
 abbrev pub BitsFit : Link → List Row → Type 0
@@ -54,11 +54,12 @@ AcceptedFits = (x : Link) → 1 ≤ length (x .rows) → YesForEach x (leadsOf (
 pub record Way : Type 0 where
   pub a : ℕ
   pub b : ℕ
+  pub g : ℕ
   pub k : ℕ
-  pub n : ℕ
-  pub Q : ℕ
   pub w : ℕ
   pub r : ℕ
+  pub n : ℕ
+  pub Q : ℕ
   pub p : ℕ
   pub leads : List ℕ
   pub bits : List ℕ
@@ -74,11 +75,12 @@ linkOf y =
     record {
       a = y .a;
       b = y .b;
+      g = y .g;
       k = y .k;
-      n = y .n;
-      Q = y .Q;
       w = y .w;
       r = y .r;
+      n = y .n;
+      Q = y .Q;
       p = y .p;
       rows = rowsOf (y .n) (y .leads) (y .bits);
       highAfter = 0;
@@ -91,7 +93,7 @@ waveOf y = planWave (y .a) (y .b) (rowsOf (y .n) (y .leads) (y .bits))
 
 -- D10
 abbrev pub warpedOf : Way → List ℕ
-warpedOf y = warp (y .w) (y .r) (y .p) (smooth (waveOf y))
+warpedOf y = warp (y .w) (y .r) (y .p) (smooth (y .g) (waveOf y))
 
 -- R32: the entries that a call has given: so many at the front of what it left
 abbrev pub front : Answer ℕ × List ℕ → List ℕ
@@ -105,7 +107,7 @@ sending y = sentPlan (y .a) (y .b) (y .n) (y .leads) (y .bits) (y .forWave)
 
 -- R44
 abbrev pub smoothing : Way → Answer ℕ × List ℕ
-smoothing y = smoothed (front (sending y)) (y .forSmooth)
+smoothing y = smoothed (y .g) (front (sending y)) (y .forSmooth)
 
 -- R45
 abbrev pub warping : Way → Answer ℕ × List ℕ
@@ -132,7 +134,7 @@ pub record Within (y : Way) : Type 0 where
 pub record WholeWay (y : Way) : Type 0 where
   -- each call gives what the rules make, and leaves all else as it was
   pub sends : sending y ≡ (given (length (waveOf y)), onto (waveOf y) (y .forWave))
-  pub smooths : smoothing y ≡ (given (length (waveOf y)), onto (smooth (waveOf y)) (y .forSmooth))
+  pub smooths : smoothing y ≡ (given (length (waveOf y)), onto (smooth (y .g) (waveOf y)) (y .forSmooth))
   pub warps : warping y ≡ (given (length (warpedOf y)), onto (warpedOf y) (y .forReads))
   pub settles : settling y ≡ (given (length (warpedOf y)), onto (planReads (linkOf y)) (y .forSettled))
   -- demand 3 speaks of this link and these reads

@@ -1,4 +1,4 @@
--- Rules P: the worked cases that are proved, P1 to P11, as a single table.
+-- Rules P: the worked cases that are proved, P1 to P14, as a single table.
 use mathlib.Core.List.{List, _++_}
 use Rattle.measure.specs.Table.{Case, Agree}
 use Rattle.sender.specs.Cases as Sender
@@ -8,10 +8,10 @@ use Rattle.counted.specs.Cases as Counted
 use Rattle.settings.specs.Cases as Settings
 use Rattle.capture.specs.Cases as Capture
 
--- P1, as it is sent and as it is stored; P2 to P6; P7; P8 to P10; P11
+-- P1, as it is sent and as it is stored; P2 to P6 and P12; P7; P8 to P10, P13 and P14; P11
 abbrev pub table : List Case
 table = Sender.cases ++ Stored.cases ++ Line.cases ++ Counted.cases ++ Settings.cases ++ Capture.cases
 
--- P1 to P11: what the definitions give is what is printed, in every case of the table
+-- P1 to P14: what the definitions give is what is printed, in every case of the table
 abbrev pub WorkedCasesAgree : Type 0
 WorkedCasesAgree = Agree table

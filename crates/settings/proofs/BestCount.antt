@@ -1,5 +1,6 @@
 -- The best sampling count is one of two: M1 stays, M2 gains r with each step of k and M3 loses r, so the least of the
--- three turns where M2 has risen to one of the others.
+-- three turns where M2 has risen to one of the others. All three lose one cycle's length with each step of g, so where
+-- it turns does not depend on g.
 use Prim.Native.Nat.{ℕ, _+_, _*_, _-_, _≤_, min}
 use mathlib.Core.Path.{_≡_, sym, _∙_}
 use mathlib.Core.Bool.{true}
@@ -31,11 +32,11 @@ to-m3 a b w r = 2 * (a * w) + b * w - 3 * r
 abbrev pub turning : (a b w r : ℕ) → ℕ
 turning a b w r = stepsBelow (to-m1 a w r) (to-m3 a b w r) r r 509 + 1
 
--- settings whose M1 is zero or more
-module _ (a b w r : ℕ) (h : Rising a b w r) where
+-- settings whose mark subcell is longer than two reads, and any settling count
+module _ (a b w r : ℕ) (h : Rising a b w r) (g : ℕ) where
   -- no margin of a sampling count in range lies so deep
   abbrev depth : ℕ
-  depth = (a + 1) * w + 514 * r
+  depth = (a + g) * w + 514 * r
 
   -- the heights of the three margins above it
   abbrev base : ℕ
@@ -50,35 +51,35 @@ module _ (a b w r : ℕ) (h : Rising a b w r) where
   abbrev height : ℕ → ℕ
   height = leastAt stays (risesBy base r) (fallsBy high r)
 
-  m1-height : m1 a w r ≡ pos stays -ℤ pos depth
+  m1-height : m1 a g w r ≡ pos stays -ℤ pos depth
   unfolding m1
-  m1-height = margin-is a 1 w 2 r ∙ same-difference (a * w) (1 * w + 2 * r) stays depth (omega arith)
+  m1-height = margin-is a g w 2 r ∙ same-difference (a * w) (g * w + 2 * r) stays depth (omega arith)
 
-  m2-height : (k : ℕ) → m2 a k w r ≡ pos (risesBy base r k) -ℤ pos depth
+  m2-height : (k : ℕ) → m2 a g k w r ≡ pos (risesBy base r k) -ℤ pos depth
   unfolding m2
   m2-height k =
-      margin-is k 1 r (a + 1) w ∙ same-difference (k * r) (1 * r + (a + 1) * w) (risesBy base r k) depth (omega arith)
+      margin-is k 1 r (a + g) w ∙ same-difference (k * r) (1 * r + (a + g) * w) (risesBy base r k) depth (omega arith)
 
-  m3-height : (k : ℕ) → k ≤ 511 → m3 a b k w r ≡ pos (fallsBy high r k) -ℤ pos depth
+  m3-height : (k : ℕ) → k ≤ 511 → m3 a b g k w r ≡ pos (fallsBy high r k) -ℤ pos depth
   unfolding m3
   m3-height k l =
-      margin-is (a + b) 1 w (k + 2) r
-      ∙ same-difference ((a + b) * w) (1 * w + (k + 2) * r) (fallsBy high r k) depth
+      margin-is (a + b) g w (k + 2) r
+      ∙ same-difference ((a + b) * w) (g * w + (k + 2) * r) (fallsBy high r k) depth
       (omega (arith, mul-le-mul-right r l))
 
-  least-height : (k : ℕ) → k ≤ 511 → least a b k w r ≡ pos (height k) -ℤ pos depth
+  least-height : (k : ℕ) → k ≤ 511 → least a b g k w r ≡ pos (height k) -ℤ pos depth
   unfolding least
   least-height k l =
       rw (m1-height, m2-height k, m3-height k l, shifted-lower depth (risesBy base r k) (fallsBy high r k))
       (shifted-lower depth stays (min (risesBy base r k) (fallsBy high r k)))
 
-  height-lt : (j k : ℕ) → j ≤ 511 → k ≤ 511 → ltZ (least a b j w r) (least a b k w r) ≡ ltb (height j) (height k)
+  height-lt : (j k : ℕ) → j ≤ 511 → k ≤ 511 → ltZ (least a b g j w r) (least a b g k w r) ≡ ltb (height j) (height k)
   height-lt j k l m = rw (least-height j l, least-height k m) (shifted-lt depth (height j) (height k))
 
-  height-le : (j k : ℕ) → j ≤ 511 → k ≤ 511 → leZ (least a b j w r) (least a b k w r) ≡ leb (height j) (height k)
+  height-le : (j k : ℕ) → j ≤ 511 → k ≤ 511 → leZ (least a b g j w r) (least a b g k w r) ≡ leb (height j) (height k)
   height-le j k l m = rw (least-height j l, least-height k m) (shifted-le depth (height j) (height k))
 
-  best-of : (k : ℕ) → Greatest height 511 k → Best a b k w r
+  best-of : (k : ℕ) → Greatest height 511 k → Best a b g k w r
   best-of k g = record {
     in-range = rw (le-leb 1 k (g .first), le-leb k 511 (g .last));
     none-better = λ j s. record {
@@ -96,9 +97,9 @@ module _ (a b w r : ℕ) (h : Rising a b w r) where
       last j s = range-ends 1 511 j s .1
 
   turns : Turns stays (risesBy base r) (fallsBy high r) 511 (turning a b w r)
-  turns = slopes-turn (to-m1 a w r) (to-m3 a b w r) r r 509 base (omega arith) (omega arith) (h .bounds .r-least)
+  turns = slopes-turn (to-m1 a w r) (to-m3 a b w r) r r 509 base (omega arith) (omega arith) (h .r-least)
 
-  pub best-turning : Turning a b (turning a b w r) w r
+  pub best-turning : Turning a b g (turning a b w r) w r
   best-turning =
       let k = turning a b w r in
       let order = height-lt k (k + 1) (omega arith) (omega arith) in

@@ -59,66 +59,70 @@ margin-least d x c u y v =
         ∙ sym (+ℤ-assoc (pos p) (pos d) (negℤ (pos q)))
 
 -- Each margin is zero or more exactly if what it takes away is at most what it has.
-pub m1-met : (a w r : ℕ) → zeroOrMore (m1 a w r) ≡ leb (2 * r + w) (a * w)
+pub m1-met : (a g w r : ℕ) → zeroOrMore (m1 a g w r) ≡ leb (2 * r + g * w) (a * w)
 unfolding m1
-m1-met a w r = margin-met a 1 w 2 r ∙ ap (λ (n : ℕ). leb n (a * w)) (omega arith)
+m1-met a g w r = margin-met a g w 2 r ∙ ap (λ (n : ℕ). leb n (a * w)) (omega arith)
 
-pub m2-met : (a k w r : ℕ) → zeroOrMore (m2 a k w r) ≡ leb ((a + 1) * w + r) (k * r)
+pub m2-met : (a g k w r : ℕ) → zeroOrMore (m2 a g k w r) ≡ leb ((a + g) * w + r) (k * r)
 unfolding m2
-m2-met a k w r = margin-met k 1 r (a + 1) w ∙ ap (λ (n : ℕ). leb n (k * r)) (omega arith)
+m2-met a g k w r = margin-met k 1 r (a + g) w ∙ ap (λ (n : ℕ). leb n (k * r)) (omega arith)
 
-pub m3-met : (a b k w r : ℕ) → zeroOrMore (m3 a b k w r) ≡ leb ((k + 2) * r + w) ((a + b) * w)
+pub m3-met : (a b g k w r : ℕ) → zeroOrMore (m3 a b g k w r) ≡ leb ((k + 2) * r + g * w) ((a + b) * w)
 unfolding m3
-m3-met a b k w r = margin-met (a + b) 1 w (k + 2) r ∙ ap (λ (n : ℕ). leb n ((a + b) * w)) (omega arith)
+m3-met a b g k w r = margin-met (a + b) g w (k + 2) r ∙ ap (λ (n : ℕ). leb n ((a + b) * w)) (omega arith)
 
-pub m4-met : (a b w r Q : ℕ) → zeroOrMore (m4 a b w r Q) ≡ leb ((a + b + 1) * w + 2 * r) (Q * r)
+pub m4-met : (a b g w r Q : ℕ) → zeroOrMore (m4 a b g w r Q) ≡ leb ((a + b + g) * w + 2 * r) (Q * r)
 unfolding m4
-m4-met a b w r Q = margin-met Q 2 r (a + b + 1) w ∙ ap (λ (n : ℕ). leb n (Q * r)) (omega arith)
+m4-met a b g w r Q = margin-met Q 2 r (a + b + g) w ∙ ap (λ (n : ℕ). leb n (Q * r)) (omega arith)
 
-pub m5-met : (w r Q p1 : ℕ) → zeroOrMore (m5 w r Q p1) ≡ leb ((Q + 1) * r + w) (p1 * w)
+pub m5-met : (g w r Q p1 : ℕ) → zeroOrMore (m5 g w r Q p1) ≡ leb ((Q + 1) * r + g * w) (p1 * w)
 unfolding m5
-m5-met w r Q p1 = margin-met p1 1 w (Q + 1) r ∙ ap (λ (n : ℕ). leb n (p1 * w)) (omega arith)
+m5-met g w r Q p1 = margin-met p1 g w (Q + 1) r ∙ ap (λ (n : ℕ). leb n (p1 * w)) (omega arith)
 
 -- what accepted settings keep to: M1, M2 and M3
-pub record Accepted (a b k w r : ℕ) : Type 0 where
-  pub M1 : 2 * r + w ≤ a * w
-  pub M2 : (a + 1) * w + r ≤ k * r
-  pub M3 : (k + 2) * r + w ≤ (a + b) * w
+pub record Accepted (a b g k w r : ℕ) : Type 0 where
+  pub M1 : 2 * r + g * w ≤ a * w
+  pub M2 : (a + g) * w + r ≤ k * r
+  pub M3 : (k + 2) * r + g * w ≤ (a + b) * w
 
 -- what accepted quiet settings keep to besides: M4 and M5
-pub record QuietAccepted (a b w r Q p1 : ℕ) : Type 0 where
-  pub M4 : (a + b + 1) * w + 2 * r ≤ Q * r
-  pub M5 : (Q + 1) * r + w ≤ p1 * w
+pub record QuietAccepted (a b g w r Q p1 : ℕ) : Type 0 where
+  pub M4 : (a + b + g) * w + 2 * r ≤ Q * r
+  pub M5 : (Q + 1) * r + g * w ≤ p1 * w
 
-pub accepted-keeps : (a b k w r : ℕ) → accepted a b k w r ≡ true → Accepted a b k w r
+pub accepted-keeps : (a b g k w r : ℕ) → accepted a b g k w r ≡ true → Accepted a b g k w r
 unfolding accepted
-accepted-keeps a b k w r e =
-    let parts = both-3 (zeroOrMore (m1 a w r)) (zeroOrMore (m2 a k w r)) (zeroOrMore (m3 a b k w r)) e in
+accepted-keeps a b g k w r e =
+    let parts = both-3 (zeroOrMore (m1 a g w r)) (zeroOrMore (m2 a g k w r)) (zeroOrMore (m3 a b g k w r)) e in
     record {
-      M1 = leb-true _ _ (sym (m1-met a w r) ∙ parts .0);
-      M2 = leb-true _ _ (sym (m2-met a k w r) ∙ parts .1);
-      M3 = leb-true _ _ (sym (m3-met a b k w r) ∙ parts .2);
+      M1 = leb-true _ _ (sym (m1-met a g w r) ∙ parts .0);
+      M2 = leb-true _ _ (sym (m2-met a g k w r) ∙ parts .1);
+      M3 = leb-true _ _ (sym (m3-met a b g k w r) ∙ parts .2);
     }
 
-pub keeps-accepted : (a b k w r : ℕ) → Accepted a b k w r → accepted a b k w r ≡ true
+pub keeps-accepted : (a b g k w r : ℕ) → Accepted a b g k w r → accepted a b g k w r ≡ true
 unfolding accepted
-keeps-accepted a b k w r h =
-    rw (m1-met a w r ∙ le-leb _ _ (h .M1), m2-met a k w r ∙ le-leb _ _ (h .M2), m3-met a b k w r ∙ le-leb _ _ (h .M3))
+keeps-accepted a b g k w r h =
+    rw (
+      m1-met a g w r ∙ le-leb _ _ (h .M1),
+      m2-met a g k w r ∙ le-leb _ _ (h .M2),
+      m3-met a b g k w r ∙ le-leb _ _ (h .M3),
+    )
 
-pub quiet-keeps : (a b k w r Q p1 : ℕ) → quietAccepted a b k w r Q p1 ≡ true
-    → Accepted a b k w r × QuietAccepted a b w r Q p1
+pub quiet-keeps : (a b g k w r Q p1 : ℕ) → quietAccepted a b g k w r Q p1 ≡ true
+    → Accepted a b g k w r × QuietAccepted a b g w r Q p1
 unfolding quietAccepted
-quiet-keeps a b k w r Q p1 e =
-    let parts = both-3 (accepted a b k w r) (zeroOrMore (m4 a b w r Q)) (zeroOrMore (m5 w r Q p1)) e in (
-      accepted-keeps a b k w r (parts .0),
+quiet-keeps a b g k w r Q p1 e =
+    let parts = both-3 (accepted a b g k w r) (zeroOrMore (m4 a b g w r Q)) (zeroOrMore (m5 g w r Q p1)) e in (
+      accepted-keeps a b g k w r (parts .0),
       record {
-        M4 = leb-true _ _ (sym (m4-met a b w r Q) ∙ parts .1);
-        M5 = leb-true _ _ (sym (m5-met w r Q p1) ∙ parts .2);
+        M4 = leb-true _ _ (sym (m4-met a b g w r Q) ∙ parts .1);
+        M5 = leb-true _ _ (sym (m5-met g w r Q p1) ∙ parts .2);
       },
     )
 
-pub keeps-quiet : (a b k w r Q p1 : ℕ) → Accepted a b k w r → QuietAccepted a b w r Q p1
-    → quietAccepted a b k w r Q p1 ≡ true
+pub keeps-quiet : (a b g k w r Q p1 : ℕ) → Accepted a b g k w r → QuietAccepted a b g w r Q p1
+    → quietAccepted a b g k w r Q p1 ≡ true
 unfolding quietAccepted
-keeps-quiet a b k w r Q p1 h q =
-    rw (keeps-accepted a b k w r h, m4-met a b w r Q ∙ le-leb _ _ (q .M4), m5-met w r Q p1 ∙ le-leb _ _ (q .M5))
+keeps-quiet a b g k w r Q p1 h q =
+    rw (keeps-accepted a b g k w r h, m4-met a b g w r Q ∙ le-leb _ _ (q .M4), m5-met g w r Q p1 ∙ le-leb _ _ (q .M5))

@@ -17,6 +17,8 @@ use measure::ReadCycles;
 use measure::Refusal;
 use measure::SAMPLING_LEAST;
 use measure::SAMPLING_MOST;
+use measure::SETTLING_LEAST;
+use measure::SETTLING_MOST;
 use measure::SUBCELL_LEAST;
 use measure::SUBCELL_MOST;
 use measure::TimeUnits;
@@ -57,12 +59,20 @@ pub enum QuietJudged {
     Refused(Refusal),
 }
 
-// Tells whether a, b, k, w and r are in range.
-fn in_range(a: WriterCycles, b: WriterCycles, k: ReadCycles, w: TimeUnits, r: TimeUnits) -> bool
-    ensures { λ fits. ⌜ fits ≡ inRange (a .0) (b .0) (k .0) (w .0) (r .0) ⌝ }
+// Tells whether a, b, g, k, w and r are in range.
+fn in_range(
+    a: WriterCycles,
+    b: WriterCycles,
+    g: WriterCycles,
+    k: ReadCycles,
+    w: TimeUnits,
+    r: TimeUnits,
+) -> bool
+    ensures { λ fits. ⌜ fits ≡ inRange (a .0) (b .0) (g .0) (k .0) (w .0) (r .0) ⌝ }
 {
     measure::between(SUBCELL_LEAST, SUBCELL_MOST, a.0)
         & measure::between(SUBCELL_LEAST, SUBCELL_MOST, b.0)
+        & measure::between(SETTLING_LEAST, SETTLING_MOST, g.0)
         & measure::between(SAMPLING_LEAST, SAMPLING_MOST, k.0)
         & measure::between(CYCLE_LEAST, CYCLE_MOST, w.0)
         & measure::between(CYCLE_LEAST, CYCLE_MOST, r.0)
@@ -72,15 +82,16 @@ fn in_range(a: WriterCycles, b: WriterCycles, k: ReadCycles, w: TimeUnits, r: Ti
 fn quiet_in_range(
     a: WriterCycles,
     b: WriterCycles,
+    g: WriterCycles,
     k: ReadCycles,
     w: TimeUnits,
     r: TimeUnits,
     q: ReadCycles,
     p1: WriterCycles,
 ) -> bool
-    ensures { λ fits. ⌜ fits ≡ quietInRange (a .0) (b .0) (k .0) (w .0) (r .0) (q .0) (p1 .0) ⌝ }
+    ensures { λ fits. ⌜ fits ≡ quietInRange (a .0) (b .0) (g .0) (k .0) (w .0) (r .0) (q .0) (p1 .0) ⌝ }
 {
-    in_range(a, b, k, w, r) & measure::between(QUIET_LEAST, QUIET_MOST, q.0) & (p1.0 <= PAD_MOST)
+    in_range(a, b, g, k, w, r) & measure::between(QUIET_LEAST, QUIET_MOST, q.0) & (p1.0 <= PAD_MOST)
 }
 
 // Gives a margin. Each of the five has this form: so many cycles of one clock less the spare ones, against so many of
@@ -96,60 +107,75 @@ fn margin(count: usize, spare: usize, cycle: usize, others: usize, other: usize)
 }
 
 // Gives M1: the mark subcell against two reads.
-fn margin1(a: WriterCycles, w: TimeUnits, r: TimeUnits) -> i64
-    requires { ⌜ (a .0 ≤ 255) × (w .0 ≤ 65535) × (r .0 ≤ 65535) ⌝ }
-    ensures { λ m. ⌜ m ≡ m1 (a .0) (w .0) (r .0) ⌝ }
+fn margin1(a: WriterCycles, g: WriterCycles, w: TimeUnits, r: TimeUnits) -> i64
+    requires { ⌜ (a .0 ≤ 255) × (g .0 ≤ 64) × (w .0 ≤ 65535) × (r .0 ≤ 65535) ⌝ }
+    ensures { λ m. ⌜ m ≡ m1 (a .0) (g .0) (w .0) (r .0) ⌝ }
 {
-    margin(a.0, 1, w.0, 2, r.0)
+    margin(a.0, g.0, w.0, 2, r.0)
 }
 
 // Gives M2: the sampling count against the mark subcell.
-fn margin2(a: WriterCycles, k: ReadCycles, w: TimeUnits, r: TimeUnits) -> i64
-    requires { ⌜ (a .0 ≤ 255) × (k .0 ≤ 511) × (w .0 ≤ 65535) × (r .0 ≤ 65535) ⌝ }
-    ensures { λ m. ⌜ m ≡ m2 (a .0) (k .0) (w .0) (r .0) ⌝ }
+fn margin2(a: WriterCycles, g: WriterCycles, k: ReadCycles, w: TimeUnits, r: TimeUnits) -> i64
+    requires { ⌜ (a .0 ≤ 255) × (g .0 ≤ 64) × (k .0 ≤ 511) × (w .0 ≤ 65535) × (r .0 ≤ 65535) ⌝ }
+    ensures { λ m. ⌜ m ≡ m2 (a .0) (g .0) (k .0) (w .0) (r .0) ⌝ }
 {
-    margin(k.0, 1, r.0, a.0 + 1, w.0)
+    margin(k.0, 1, r.0, a.0 + g.0, w.0)
 }
 
 // Gives M3: the whole cell against the sampling count.
-fn margin3(a: WriterCycles, b: WriterCycles, k: ReadCycles, w: TimeUnits, r: TimeUnits) -> i64
-    requires { ⌜ (a .0 ≤ 255) × (b .0 ≤ 255) × (k .0 ≤ 511) × (w .0 ≤ 65535) × (r .0 ≤ 65535) ⌝ }
-    ensures { λ m. ⌜ m ≡ m3 (a .0) (b .0) (k .0) (w .0) (r .0) ⌝ }
+fn margin3(
+    a: WriterCycles,
+    b: WriterCycles,
+    g: WriterCycles,
+    k: ReadCycles,
+    w: TimeUnits,
+    r: TimeUnits,
+) -> i64
+    requires { ⌜ (a .0 ≤ 255) × (b .0 ≤ 255) × (g .0 ≤ 64) × (k .0 ≤ 511) × (w .0 ≤ 65535) × (r .0 ≤ 65535) ⌝ }
+    ensures { λ m. ⌜ m ≡ m3 (a .0) (b .0) (g .0) (k .0) (w .0) (r .0) ⌝ }
 {
-    margin(a.0 + b.0, 1, w.0, k.0 + 2, r.0)
+    margin(a.0 + b.0, g.0, w.0, k.0 + 2, r.0)
 }
 
 // Gives M4: the quiet count against a cell.
-fn margin4(a: WriterCycles, b: WriterCycles, w: TimeUnits, r: TimeUnits, q: ReadCycles) -> i64
-    requires { ⌜ (a .0 ≤ 255) × (b .0 ≤ 255) × (w .0 ≤ 65535) × (r .0 ≤ 65535) × (q .0 ≤ 8191) ⌝ }
-    ensures { λ m. ⌜ m ≡ m4 (a .0) (b .0) (w .0) (r .0) (q .0) ⌝ }
+fn margin4(
+    a: WriterCycles,
+    b: WriterCycles,
+    g: WriterCycles,
+    w: TimeUnits,
+    r: TimeUnits,
+    q: ReadCycles,
+) -> i64
+    requires { ⌜ (a .0 ≤ 255) × (b .0 ≤ 255) × (g .0 ≤ 64) × (w .0 ≤ 65535) × (r .0 ≤ 65535) × (q .0 ≤ 8191) ⌝ }
+    ensures { λ m. ⌜ m ≡ m4 (a .0) (b .0) (g .0) (w .0) (r .0) (q .0) ⌝ }
 {
-    margin(q.0, 2, r.0, a.0 + b.0 + 1, w.0)
+    margin(q.0, 2, r.0, a.0 + b.0 + g.0, w.0)
 }
 
 // Gives M5: the lead pad against the quiet count.
-fn margin5(w: TimeUnits, r: TimeUnits, q: ReadCycles, p1: WriterCycles) -> i64
-    requires { ⌜ (w .0 ≤ 65535) × (r .0 ≤ 65535) × (q .0 ≤ 8191) × (p1 .0 ≤ 65535) ⌝ }
-    ensures { λ m. ⌜ m ≡ m5 (w .0) (r .0) (q .0) (p1 .0) ⌝ }
+fn margin5(g: WriterCycles, w: TimeUnits, r: TimeUnits, q: ReadCycles, p1: WriterCycles) -> i64
+    requires { ⌜ (g .0 ≤ 64) × (w .0 ≤ 65535) × (r .0 ≤ 65535) × (q .0 ≤ 8191) × (p1 .0 ≤ 65535) ⌝ }
+    ensures { λ m. ⌜ m ≡ m5 (g .0) (w .0) (r .0) (q .0) (p1 .0) ⌝ }
 {
-    margin(p1.0, 1, w.0, q.0 + 1, r.0)
+    margin(p1.0, g.0, w.0, q.0 + 1, r.0)
 }
 
 // Gives M1, M2 and M3.
 fn cell_margins(
     a: WriterCycles,
     b: WriterCycles,
+    g: WriterCycles,
     k: ReadCycles,
     w: TimeUnits,
     r: TimeUnits,
 ) -> Margins
-    requires { ⌜ inRange (a .0) (b .0) (k .0) (w .0) (r .0) ≡ true ⌝ }
-    ensures { λ m. ⌜ m ≡ cellMargins (a .0) (b .0) (k .0) (w .0) (r .0) ⌝ }
+    requires { ⌜ inRange (a .0) (b .0) (g .0) (k .0) (w .0) (r .0) ≡ true ⌝ }
+    ensures { λ m. ⌜ m ≡ cellMargins (a .0) (b .0) (g .0) (k .0) (w .0) (r .0) ⌝ }
 {
     Margins {
-        m1: margin1(a, w, r),
-        m2: margin2(a, k, w, r),
-        m3: margin3(a, b, k, w, r),
+        m1: margin1(a, g, w, r),
+        m2: margin2(a, g, k, w, r),
+        m3: margin3(a, b, g, k, w, r),
     }
 }
 
@@ -157,21 +183,22 @@ fn cell_margins(
 fn all_margins(
     a: WriterCycles,
     b: WriterCycles,
+    g: WriterCycles,
     k: ReadCycles,
     w: TimeUnits,
     r: TimeUnits,
     q: ReadCycles,
     p1: WriterCycles,
 ) -> QuietMargins
-    requires { ⌜ quietInRange (a .0) (b .0) (k .0) (w .0) (r .0) (q .0) (p1 .0) ≡ true ⌝ }
-    ensures { λ m. ⌜ m ≡ allMargins (a .0) (b .0) (k .0) (w .0) (r .0) (q .0) (p1 .0) ⌝ }
+    requires { ⌜ quietInRange (a .0) (b .0) (g .0) (k .0) (w .0) (r .0) (q .0) (p1 .0) ≡ true ⌝ }
+    ensures { λ m. ⌜ m ≡ allMargins (a .0) (b .0) (g .0) (k .0) (w .0) (r .0) (q .0) (p1 .0) ⌝ }
 {
     QuietMargins {
-        m1: margin1(a, w, r),
-        m2: margin2(a, k, w, r),
-        m3: margin3(a, b, k, w, r),
-        m4: margin4(a, b, w, r, q),
-        m5: margin5(w, r, q, p1),
+        m1: margin1(a, g, w, r),
+        m2: margin2(a, g, k, w, r),
+        m3: margin3(a, b, g, k, w, r),
+        m4: margin4(a, b, g, w, r, q),
+        m5: margin5(g, w, r, q, p1),
     }
 }
 
@@ -203,13 +230,20 @@ fn all_accepted(m: QuietMargins) -> bool
 }
 
 // The judge. Gives M1, M2 and M3, and yes exactly if all three are zero or more. Refuses with 1 a setting out of range.
-pub fn judge(a: WriterCycles, b: WriterCycles, k: ReadCycles, w: TimeUnits, r: TimeUnits) -> Judged
-    ensures { λ x. ⌜ judgement (a .0) (b .0) (k .0) (w .0) (r .0) ≡ judgedSays x ⌝ }
+pub fn judge(
+    a: WriterCycles,
+    b: WriterCycles,
+    g: WriterCycles,
+    k: ReadCycles,
+    w: TimeUnits,
+    r: TimeUnits,
+) -> Judged
+    ensures { λ x. ⌜ judgement (a .0) (b .0) (g .0) (k .0) (w .0) (r .0) ≡ judgedSays x ⌝ }
 {
-    if !in_range(a, b, k, w, r) {
+    if !in_range(a, b, g, k, w, r) {
         return Judged::Refused(Refusal::Setting(0));
     }
-    let m = cell_margins(a, b, k, w, r);
+    let m = cell_margins(a, b, g, k, w, r);
     if cell_accepted(m) {
         Judged::Yes(m)
     } else {
@@ -222,18 +256,19 @@ pub fn judge(a: WriterCycles, b: WriterCycles, k: ReadCycles, w: TimeUnits, r: T
 pub fn judge_quiet(
     a: WriterCycles,
     b: WriterCycles,
+    g: WriterCycles,
     k: ReadCycles,
     w: TimeUnits,
     r: TimeUnits,
     q: ReadCycles,
     p1: WriterCycles,
 ) -> QuietJudged
-    ensures { λ x. ⌜ quietJudgement (a .0) (b .0) (k .0) (w .0) (r .0) (q .0) (p1 .0) ≡ quietJudgedSays x ⌝ }
+    ensures { λ x. ⌜ quietJudgement (a .0) (b .0) (g .0) (k .0) (w .0) (r .0) (q .0) (p1 .0) ≡ quietJudgedSays x ⌝ }
 {
-    if !quiet_in_range(a, b, k, w, r, q, p1) {
+    if !quiet_in_range(a, b, g, k, w, r, q, p1) {
         return QuietJudged::Refused(Refusal::Setting(0));
     }
-    let m = all_margins(a, b, k, w, r, q, p1);
+    let m = all_margins(a, b, g, k, w, r, q, p1);
     if all_accepted(m) {
         QuietJudged::Yes(m)
     } else {

@@ -1,12 +1,11 @@
 // Picking the sampling count whose least margin is the greatest.
 ghost use mathlib.Core.Path.{_≡_};
-ghost use mathlib.Core.Bool.{true};
-ghost use Prim.Native.Nat.{_+_, _-_, _/_, _<_, _≤_, min};
+ghost use Prim.Native.Nat.{ℕ, _+_, _-_, _/_, _<_, _≤_, min};
 ghost use Rattle.measure.specs.Choose.{choose};
 ghost use Rattle.measure.specs.Refusals.{given, refused};
-ghost use Rattle.settings.specs.Margins.{m1, zeroOrMore};
+ghost use Rattle.settings.specs.Margins.{zeroOrMore};
 ghost use Rattle.settings.specs.Pick.{lower as lowerOf, least, Picks, pickable as isPickable, pickedSays};
-ghost use Rattle.settings.specs.Turning.{Turning};
+ghost use Rattle.settings.specs.Turning.{LongMark, Turning};
 use crate::margin1;
 use crate::margin2;
 use crate::margin3;
@@ -16,6 +15,8 @@ use measure::ReadCycles;
 use measure::Refusal;
 use measure::SAMPLING_LEAST;
 use measure::SAMPLING_MOST;
+use measure::SETTLING_LEAST;
+use measure::SETTLING_MOST;
 use measure::SUBCELL_LEAST;
 use measure::SUBCELL_MOST;
 use measure::TimeUnits;
@@ -28,13 +29,16 @@ pub enum Picked {
     Refused(Refusal),
 }
 
-fn pickable(a: WriterCycles, b: WriterCycles, w: TimeUnits, r: TimeUnits) -> bool
-    ensures { λ fits. ⌜ fits ≡ isPickable (a .0) (b .0) (w .0) (r .0) ⌝ }
+fn pickable(a: WriterCycles, b: WriterCycles, g: WriterCycles, w: TimeUnits, r: TimeUnits) -> bool
+    ensures { λ fits. ⌜ fits ≡ isPickable (a .0) (b .0) (g .0) (w .0) (r .0) ⌝ }
 {
     if !measure::between(SUBCELL_LEAST, SUBCELL_MOST, a.0) {
         return false;
     }
     if !measure::between(SUBCELL_LEAST, SUBCELL_MOST, b.0) {
+        return false;
+    }
+    if !measure::between(SETTLING_LEAST, SETTLING_MOST, g.0) {
         return false;
     }
     if !measure::between(CYCLE_LEAST, CYCLE_MOST, w.0) {
@@ -54,13 +58,20 @@ fn lower(one: i64, other: i64) -> i64
 }
 
 // Gives the least of a sampling count's three margins.
-fn least_margin(a: WriterCycles, b: WriterCycles, k: ReadCycles, w: TimeUnits, r: TimeUnits) -> i64
-    requires { ⌜ (a .0 ≤ 255) × (b .0 ≤ 255) × (k .0 ≤ 511) × (w .0 ≤ 65535) × (r .0 ≤ 65535) ⌝ }
-    ensures { λ m. ⌜ m ≡ least (a .0) (b .0) (k .0) (w .0) (r .0) ⌝ }
+fn least_margin(
+    a: WriterCycles,
+    b: WriterCycles,
+    g: WriterCycles,
+    k: ReadCycles,
+    w: TimeUnits,
+    r: TimeUnits,
+) -> i64
+    requires { ⌜ (a .0 ≤ 255) × (b .0 ≤ 255) × (g .0 ≤ 64) × (k .0 ≤ 511) × (w .0 ≤ 65535) × (r .0 ≤ 65535) ⌝ }
+    ensures { λ m. ⌜ m ≡ least (a .0) (b .0) (g .0) (k .0) (w .0) (r .0) ⌝ }
 {
     lower(
-        margin1(a, w, r),
-        lower(margin2(a, k, w, r), margin3(a, b, k, w, r)),
+        margin1(a, g, w, r),
+        lower(margin2(a, g, k, w, r), margin3(a, b, g, k, w, r)),
     )
 }
 
@@ -86,15 +97,16 @@ fn steps_below(gap1: usize, gap3: usize, gain: usize, loss: usize) -> usize
 }
 
 // Gives the last k at which M2 is below M1 and M3, or the last k but one. Up to there M2 is the least of the three, and
-// rises; after the next k the least rises no more. So the best is this k or the next.
+// rises; after the next k the least rises no more. So the best is this k or the next, whatever the settling count is:
+// that takes as much from each of the three.
 fn turning(a: WriterCycles, b: WriterCycles, w: TimeUnits, r: TimeUnits) -> usize
-    requires { ⌜ (isPickable (a .0) (b .0) (w .0) (r .0) ≡ true) × (zeroOrMore (m1 (a .0) (w .0) (r .0)) ≡ true) ⌝ }
-    ensures { λ k. ⌜ Turning (a .0) (b .0) k (w .0) (r .0) ⌝ }
+    requires { ⌜ LongMark (a .0) (b .0) (w .0) (r .0) ⌝ }
+    ensures { λ k. ⌜ ((g : ℕ) → Turning (a .0) (b .0) g k (w .0) (r .0)) ⌝ }
 {
     let mark = a.0 * w.0;
     let code = b.0 * w.0;
     let read = r.0;
-    // With k 1, M2 is minus a + 1 writer cycles: so far below M1, and so far below M3.
+    // With k 1, M2 is minus a + g writer cycles: so far below M1, and so far below M3.
     let gap1 = 2 * mark - 2 * read;
     let gap3 = 2 * mark + code - 3 * read;
     SAMPLING_LEAST + steps_below(gap1, gap3, read, read)
@@ -113,20 +125,20 @@ fn offered(k: ReadCycles, margin: i64) -> Picked
 // The picker. Gives the sampling count whose least margin among M1, M2 and M3 is the greatest, of equals the smallest.
 // Refuses with 1 a setting out of range, and with 9 settings for which no sampling count has three margins of zero or
 // more.
-pub fn pick(a: WriterCycles, b: WriterCycles, w: TimeUnits, r: TimeUnits) -> Picked
-    ensures { λ x. ⌜ Picks (a .0) (b .0) (w .0) (r .0) (pickedSays x) ⌝ }
+pub fn pick(a: WriterCycles, b: WriterCycles, g: WriterCycles, w: TimeUnits, r: TimeUnits) -> Picked
+    ensures { λ x. ⌜ Picks (a .0) (b .0) (g .0) (w .0) (r .0) (pickedSays x) ⌝ }
 {
-    if !pickable(a, b, w, r) {
+    if !pickable(a, b, g, w, r) {
         return Picked::Refused(Refusal::Setting(0));
     }
     // M1 is the same for every k.
-    if margin1(a, w, r) < 0 {
+    if margin1(a, g, w, r) < 0 {
         return Picked::Refused(Refusal::NoCount);
     }
     let last = turning(a, b, w, r);
     let next = last + 1;
-    let here = least_margin(a, b, ReadCycles(last), w, r);
-    let there = least_margin(a, b, ReadCycles(next), w, r);
+    let here = least_margin(a, b, g, ReadCycles(last), w, r);
+    let there = least_margin(a, b, g, ReadCycles(next), w, r);
     if here < there {
         return offered(ReadCycles(next), there);
     }

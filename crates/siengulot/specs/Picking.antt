@@ -4,14 +4,14 @@ use mathlib.Core.Path.{_≡_}
 use Rattle.measure.specs.Refusals.{Answer, given, refused, refusedAfter}
 use Rattle.settings.specs.Pick.{Picks}
 
--- the refusal's number (0: none) and k, which is 0 with a refusal
+-- H11: the refusal's number (0: none) and k, which is 0 with a refusal
 abbrev pub pickedOver : Answer ℕ → ℕ × ℕ
 pickedOver (given k) = (0, k)
 pickedOver (refused number place) = (number, 0)
 pickedOver (refusedAfter number place count) = (number, 0)
 
--- the two numbers are those of an answer that fits
-pub record PickCrosses (a b w r number k : ℕ) : Type 0 where
+-- H11: the two numbers are those of an answer that fits
+pub record PickCrosses (a b g w r number k : ℕ) : Type 0 where
   pub answer : Answer ℕ
-  pub fits : Picks a b w r answer
+  pub fits : Picks a b g w r answer
   pub crosses : pickedOver answer ≡ (number, k)

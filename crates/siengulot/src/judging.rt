@@ -52,18 +52,20 @@ fn refuse(refusal: Refusal, accepted: &mut usize) -> usize
 pub extern "C" fn siengulot_judge(
     a: usize,
     b: usize,
+    g: usize,
     k: usize,
     w: usize,
     r: usize,
     margins: &mut [i64; 3],
     accepted: &mut usize,
 ) -> usize
-    ensures { λ x. ⌜ judgedThree (judgement a b k w r) (now (margins .entry))
+    ensures { λ x. ⌜ judgedThree (judgement a b g k w r) (now (margins .entry))
         ≡ (x, now (accepted .exit), now (margins .exit)) ⌝ }
 {
     let answer = settings::judge(
         WriterCycles(a),
         WriterCycles(b),
+        WriterCycles(g),
         ReadCycles(k),
         TimeUnits(w),
         TimeUnits(r),
@@ -81,6 +83,7 @@ pub extern "C" fn siengulot_judge(
 pub extern "C" fn siengulot_judge_quiet(
     a: usize,
     b: usize,
+    g: usize,
     k: usize,
     w: usize,
     r: usize,
@@ -89,12 +92,13 @@ pub extern "C" fn siengulot_judge_quiet(
     margins: &mut [i64; 5],
     accepted: &mut usize,
 ) -> usize
-    ensures { λ x. ⌜ judgedFive (quietJudgement a b k w r q p1) (now (margins .entry))
+    ensures { λ x. ⌜ judgedFive (quietJudgement a b g k w r q p1) (now (margins .entry))
         ≡ (x, now (accepted .exit), now (margins .exit)) ⌝ }
 {
     let answer = settings::judge_quiet(
         WriterCycles(a),
         WriterCycles(b),
+        WriterCycles(g),
         ReadCycles(k),
         TimeUnits(w),
         TimeUnits(r),

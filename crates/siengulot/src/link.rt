@@ -67,20 +67,22 @@ pub extern "C" fn siengulot_plan(
     of_sent(answer, place, count)
 }
 
-// Pass 1, smooth. Gives the wave with each cycle unknown at which the level changed.
-// Refuses with 3 (more than 1,048,576 cycles), 2 (the place of the first entry that is no level), 4: the output is
-// left, and `count` is 0.
+// Pass 1, smooth. Gives the wave, in which a cycle is unknown if the level changes at it or at one of the g - 1 cycles
+// before it.
+// Refuses with 1 (g), 3 (more than 1,048,576 cycles), 2 (the place of the first entry that is no level), 4: the output
+// is left, and `count` is 0.
 #[no_mangle]
 pub extern "C" fn siengulot_smooth(
+    g: usize,
     wave: &[u8],
     out: &mut [u8],
     place: &mut usize,
     count: &mut usize,
 ) -> usize
-    ensures { λ x. ⌜ crossing crossed (smoothed (now (wave .entry)) (now (out .entry)))
+    ensures { λ x. ⌜ crossing crossed (smoothed g (now (wave .entry)) (now (out .entry)))
         ≡ ((x, now (place .exit), now (count .exit)), now (out .exit)) ⌝ }
 {
-    let answer = line::smooth(wave, out);
+    let answer = line::smooth(wave, WriterCycles(g), out);
     of_smoothed(answer, place, count)
 }
 

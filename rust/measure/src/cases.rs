@@ -85,7 +85,11 @@ pub fn all() -> Vec<Case> {
         case("send, 5/13 cells", "cycle", "1.5", [100, 1_000], send),
         case("plan, 5/13 cells, n 80", "cycle", "1.5", [66, 660], plan),
         case("stored plan read", "row", "1.5", [100, 1_000], read_plan),
-        case("smooth", "cycle", "1.1", SIZES, smooth),
+        case("smooth, g 1", "cycle", "1.1", SIZES, |size| smooth(1, size)),
+        case("smooth, g 8", "cycle", "1.1", SIZES, |size| smooth(8, size)),
+        case("smooth, g 64", "cycle", "1.1", SIZES, |size| {
+            smooth(64, size)
+        }),
         case("warp, w 100 r 100", "cycle", "1.5", SIZES, |size| {
             warp(100, 100, 50, inputs::smoothed(size))
         }),
@@ -178,10 +182,21 @@ pub fn all() -> Vec<Case> {
 }
 
 /// Settings to judge, 64 of them, so that no call can be worked out beforehand.
-fn many_settings() -> Vec<[usize; 7]> {
+fn many_settings() -> Vec<[usize; 8]> {
     let (a, b) = (A, B);
     (0..64)
-        .map(|i| [a + i % 3, b, K, 100, 60 + 2 * i, Q + i % 5, LEAD + i])
+        .map(|i| {
+            [
+                a + i % 3,
+                b,
+                1 + i % 4,
+                K,
+                100,
+                60 + 2 * i,
+                Q + i % 5,
+                LEAD + i,
+            ]
+        })
         .collect()
 }
 
@@ -193,9 +208,10 @@ fn judge(calls: usize) -> Work {
         move |lent| {
             let (mut margins, mut accepted) = ([0usize; 3], 0);
             for i in 0..calls {
-                let [a, b, k, w, r, ..] = ours[i % 64];
-                let refused =
-                    unsafe { siengulot_judge(a, b, k, w, r, margins.as_mut_ptr(), &mut accepted) };
+                let [a, b, g, k, w, r, ..] = ours[i % 64];
+                let refused = unsafe {
+                    siengulot_judge(a, b, g, k, w, r, margins.as_mut_ptr(), &mut accepted)
+                };
                 assert_eq!(refused, 0);
                 lent.told[0] += accepted as i64;
                 lent.told[1] += margins[2] as i64;
@@ -203,8 +219,8 @@ fn judge(calls: usize) -> Work {
         },
         move |lent| {
             for i in 0..calls {
-                let [a, b, k, w, r, ..] = plain[i % 64];
-                let verdict = settings::judge(a, b, k, w as u64, r as u64);
+                let [a, b, g, k, w, r, ..] = plain[i % 64];
+                let verdict = settings::judge(a, b, g, k, w as u64, r as u64);
                 let verdict = verdict.expect("in range");
                 lent.told[0] += verdict.accepted as i64;
                 lent.told[1] += verdict.margins[2];
@@ -221,9 +237,20 @@ fn judge_quiet(calls: usize) -> Work {
         move |lent| {
             let (mut margins, mut accepted) = ([0usize; 5], 0);
             for i in 0..calls {
-                let [a, b, k, w, r, q, p1] = ours[i % 64];
+                let [a, b, g, k, w, r, q, p1] = ours[i % 64];
                 let refused = unsafe {
-                    siengulot_judge_quiet(a, b, k, w, r, q, p1, margins.as_mut_ptr(), &mut accepted)
+                    siengulot_judge_quiet(
+                        a,
+                        b,
+                        g,
+                        k,
+                        w,
+                        r,
+                        q,
+                        p1,
+                        margins.as_mut_ptr(),
+                        &mut accepted,
+                    )
                 };
                 assert_eq!(refused, 0);
                 lent.told[0] += accepted as i64;
@@ -232,8 +259,8 @@ fn judge_quiet(calls: usize) -> Work {
         },
         move |lent| {
             for i in 0..calls {
-                let [a, b, k, w, r, q, p1] = plain[i % 64];
-                let verdict = settings::judge_quiet(a, b, k, w as u64, r as u64, q, p1);
+                let [a, b, g, k, w, r, q, p1] = plain[i % 64];
+                let verdict = settings::judge_quiet(a, b, g, k, w as u64, r as u64, q, p1);
                 let verdict = verdict.expect("in range");
                 lent.told[0] += verdict.accepted as i64;
                 lent.told[1] += verdict.margins[4];
@@ -338,7 +365,7 @@ fn read_plan(rows: usize) -> Work {
     )
 }
 
-fn smooth(cycles: usize) -> Work {
+fn smooth(g: usize, cycles: usize) -> Work {
     let ours = inputs::wave(cycles);
     let plain = ours.clone();
     two(
@@ -348,6 +375,7 @@ fn smooth(cycles: usize) -> Work {
             let (mut place, mut count) = (0, 0);
             let refused = unsafe {
                 siengulot_smooth(
+                    g,
                     ours.as_ptr(),
                     ours.len(),
                     lent.out.as_mut_ptr(),
@@ -359,7 +387,7 @@ fn smooth(cycles: usize) -> Work {
             lent.told = [refused as i64, count as i64, place as i64, 0];
         },
         move |lent| {
-            let count = line::smooth(&plain, &mut lent.out);
+            let count = line::smooth(g, &plain, &mut lent.out);
             lent.told = [0, count.expect("can be smoothed") as i64, 0, 0];
         },
     )

@@ -41,7 +41,7 @@ pub fn wave(cycles: usize) -> Vec<u8> {
 /// That wave smoothed.
 pub fn smoothed(cycles: usize) -> Vec<u8> {
     let mut out = vec![0; cycles];
-    line::smooth(&wave(cycles), &mut out).expect("a wave can be smoothed");
+    line::smooth(1, &wave(cycles), &mut out).expect("a wave can be smoothed");
     out
 }
 

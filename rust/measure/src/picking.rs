@@ -6,11 +6,16 @@ use crate::library::siengulot_pick;
 use siengulot_plain::settings;
 
 /// Settings to pick for, 64 of them, so that no call can be worked out beforehand. Each has a sampling count.
-fn many_settings() -> Vec<[usize; 4]> {
-    (0..64).map(|i| [A + i % 3, B, 100, 60 + 2 * i]).collect()
+fn many_settings() -> Vec<[usize; 5]> {
+    (0..64)
+        .map(|i| [A + i % 3, B, 1 + i % 3, 100, 60 + 2 * i])
+        .collect()
 }
 
-fn beside(calls: usize, plain: impl Fn(usize, usize, u64, u64) -> Option<usize> + 'static) -> Work {
+fn beside(
+    calls: usize,
+    plain: impl Fn(usize, usize, usize, u64, u64) -> Option<usize> + 'static,
+) -> Work {
     let (ours, theirs) = (many_settings(), many_settings());
     two(
         calls,
@@ -18,16 +23,16 @@ fn beside(calls: usize, plain: impl Fn(usize, usize, u64, u64) -> Option<usize> 
         move |lent| {
             let mut k = 0;
             for i in 0..calls {
-                let [a, b, w, r] = ours[i % 64];
-                let refused = unsafe { siengulot_pick(a, b, w, r, &mut k) };
+                let [a, b, g, w, r] = ours[i % 64];
+                let refused = unsafe { siengulot_pick(a, b, g, w, r, &mut k) };
                 assert_eq!(refused, 0);
                 lent.told[0] += k as i64;
             }
         },
         move |lent| {
             for i in 0..calls {
-                let [a, b, w, r] = theirs[i % 64];
-                let k = plain(a, b, w as u64, r as u64).expect("settings with a sampling count");
+                let [a, b, g, w, r] = theirs[i % 64];
+                let k = plain(a, b, g, w as u64, r as u64).expect("settings with a sampling count");
                 lent.told[0] += k as i64;
             }
         },
@@ -35,7 +40,7 @@ fn beside(calls: usize, plain: impl Fn(usize, usize, u64, u64) -> Option<usize> 
 }
 
 pub fn beside_all_tried(calls: usize) -> Work {
-    beside(calls, |a, b, w, r| settings::pick(a, b, w, r).ok())
+    beside(calls, |a, b, g, w, r| settings::pick(a, b, g, w, r).ok())
 }
 
 pub fn beside_divisions(calls: usize) -> Work {
@@ -44,23 +49,26 @@ pub fn beside_divisions(calls: usize) -> Work {
 
 /// The best sampling count by two divisions.
 #[inline(never)]
-fn divided(a: usize, b: usize, w: u64, r: u64) -> Option<usize> {
+fn divided(a: usize, b: usize, g: usize, w: u64, r: u64) -> Option<usize> {
     let subcell = 1..=settings::MAX_SUBCELL;
+    let settling = 1..=settings::MAX_G;
     let cycle = 1..=settings::MAX_CYCLE;
-    if !(subcell.contains(&a) && subcell.contains(&b) && cycle.contains(&w) && cycle.contains(&r)) {
+    let counts = subcell.contains(&a) && subcell.contains(&b) && settling.contains(&g);
+    if !(counts && cycle.contains(&w) && cycle.contains(&r)) {
         return None;
     }
-    let (mark, code) = (a as u64 * w, b as u64 * w);
-    let m1 = (mark - w) as i64 - 2 * r as i64;
+    let (mark, code, edge) = (a as u64 * w, b as u64 * w, g as u64 * w);
+    let m1 = mark as i64 - (edge + 2 * r) as i64;
     if m1 < 0 {
         return None;
     }
     let to_m1 = (2 * mark - 2 * r - 1) / r;
     let to_m3 = (2 * mark + code - 3 * r - 1) / (2 * r);
     let last = 1 + to_m1.min(to_m3).min(settings::MAX_K as u64 - 2);
+    let (over, under) = ((mark + edge) as i64, (mark + code) as i64 - edge as i64);
     let least = |k: u64| {
-        let m2 = ((k - 1) * r) as i64 - (mark + w) as i64;
-        let m3 = (mark + code - w) as i64 - ((k + 2) * r) as i64;
+        let m2 = ((k - 1) * r) as i64 - over;
+        let m3 = under - ((k + 2) * r) as i64;
         m1.min(m2).min(m3)
     };
     let (here, there) = (least(last), least(last + 1));

@@ -273,6 +273,7 @@ impl RowModel {
 pub struct Accepted {
     pub a: usize,
     pub b: usize,
+    pub g: usize,
     pub k: usize,
     pub w: u64,
     pub r: u64,
@@ -288,19 +289,22 @@ impl Accepted {
             let (w, r) = (rng.within(1, most), rng.within(1, most));
             let up = |dividend: usize, divisor: usize| (dividend + divisor - 1) / divisor;
             let spare = |rng: &mut Rng| rng.below(2) * rng.below(4);
-            let a = 1 + up(2 * r, w) + spare(rng);
-            let k = 1 + up((a + 1) * w, r) + spare(rng);
-            let b = (1 + up((k + 2) * r, w)).saturating_sub(a).max(1) + spare(rng);
-            let q = 2 + up((a + b + 1) * w, r) + spare(rng);
-            let p1 = 1 + up((q + 1) * r, w);
+            let most = [1, 3, 12, 64][rng.below(4)];
+            let g = rng.within(1, most);
+            let a = g + up(2 * r, w) + spare(rng);
+            let k = 1 + up((a + g) * w, r) + spare(rng);
+            let b = (g + up((k + 2) * r, w)).saturating_sub(a).max(1) + spare(rng);
+            let q = 2 + up((a + b + g) * w, r) + spare(rng);
+            let p1 = g + up((q + 1) * r, w);
             // Large settings say nothing new here and make the test slow.
-            if a > 100 || b > 100 || k > 100 || q > 300 || p1 > 300 {
+            if a > 100 || b > 150 || k > 200 || q > 400 || p1 > 400 {
                 continue;
             }
             let (w, r) = (w as u64, r as u64);
             return Accepted {
                 a,
                 b,
+                g,
                 k,
                 w,
                 r,
@@ -312,10 +316,17 @@ impl Accepted {
 }
 
 /// The reads of a wave through all three passes.
-pub fn through_the_line(wave: &[u8], w: u64, r: u64, p: u64, choices: &[u8]) -> Vec<u8> {
+pub fn through_the_line(
+    wave: &[u8],
+    g: usize,
+    w: u64,
+    r: u64,
+    p: u64,
+    choices: &[u8],
+) -> Vec<u8> {
     use siengulot_plain::line::{settle, smooth, warp};
     let mut smoothed = lent(wave.len());
-    smooth(wave, &mut smoothed).unwrap();
+    smooth(g, wave, &mut smoothed).unwrap();
     let mut warped = lent(count_model(wave.len(), w, r, p));
     warp(w, r, p, &smoothed, &mut warped).unwrap();
     let mut settled = lent(warped.len());

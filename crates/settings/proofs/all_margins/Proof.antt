@@ -7,9 +7,9 @@ use Rattle.settings.proofs.all_margins.Statement.{statement}
 use Rattle.settings.proofs.all_margins.Tie as tie
 
 bounded : (c : tie.Start) → let args = c .args in
-    Bounded (args .a .0) (args .b .0) (args .k .0) (args .w .0) (args .r .0) × (args .q .0 ≤ 8191)
+    Bounded (args .a .0) (args .b .0) (args .g .0) (args .k .0) (args .w .0) (args .r .0) × (args .q .0 ≤ 8191)
     × (args .p1 .0 ≤ 65535)
-bounded c = quiet-bounded _ _ _ _ _ _ _ (c .pre)
+bounded c = quiet-bounded _ _ _ _ _ _ _ _ (c .pre)
 
 margin1-requires : tie.Need-margin1-requires
 margin1-requires c κs = omega (arith, bounded c)

@@ -5,8 +5,9 @@ use Rattle.settings.proofs.Signs.{read-back}
 use Rattle.settings.proofs.cell_margins.Statement.{statement}
 use Rattle.settings.proofs.cell_margins.Tie as tie
 
-bounded : (c : tie.Start) → Bounded (c .args .a .0) (c .args .b .0) (c .args .k .0) (c .args .w .0) (c .args .r .0)
-bounded c = ranged-bounded _ _ _ _ _ (c .pre)
+bounded : (c : tie.Start) → let args = c .args in
+    Bounded (args .a .0) (args .b .0) (args .g .0) (args .k .0) (args .w .0) (args .r .0)
+bounded c = ranged-bounded _ _ _ _ _ _ (c .pre)
 
 margin1-requires : tie.Need-margin1-requires
 margin1-requires c κs = omega (arith, bounded c)

@@ -18,6 +18,9 @@ between-requires-4 c κs = search needs
 between-requires-5 : tie.Need-between-requires-5
 between-requires-5 c κs = search needs
 
+between-requires-6 : tie.Need-between-requires-6
+between-requires-6 c κs = search needs
+
 returns : tie.Need-returns
 returns c = cc
 
@@ -30,4 +33,5 @@ in-range-spec =
     between-requires-3
     between-requires-4
     between-requires-5
+    between-requires-6
     returns)

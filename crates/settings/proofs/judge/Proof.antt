@@ -17,7 +17,7 @@ returns c = simp (failed (c .before .in-range .ensures) (c .if1 .taken))
 
 -- past the test the settings are in range
 ranged : (c : tie.Else1) → let args = c .before .before .args in
-    inRange (args .a .0) (args .b .0) (args .k .0) (args .w .0) (args .r .0) ≡ true
+    inRange (args .a .0) (args .b .0) (args .g .0) (args .k .0) (args .w .0) (args .r .0) ≡ true
 ranged c = passed (c .before .in-range .ensures) (c .if1 .left)
 
 cell-margins-requires : tie.Need-cell-margins-requires
@@ -29,13 +29,13 @@ cell-accepted-requires c κs = search needs
 returns-2 : tie.Need-returns-2
 returns-2 c =
     let found = c .before .before in
-    judged _ _ _ _ _ _ (ranged (found .before)) (found .cell-margins .ensures) (c .before .cell-accepted .ensures)
+    judged _ _ _ _ _ _ _ (ranged (found .before)) (found .cell-margins .ensures) (c .before .cell-accepted .ensures)
     (c .if2 .taken)
 
 returns-3 : tie.Need-returns-3
 returns-3 c =
     let found = c .before .before in
-    judged _ _ _ _ _ _ (ranged (found .before)) (found .cell-margins .ensures) (c .before .cell-accepted .ensures)
+    judged _ _ _ _ _ _ _ (ranged (found .before)) (found .cell-margins .ensures) (c .before .cell-accepted .ensures)
     (c .if2 .left)
 
 pub judge-spec : {M : Type 1} → statement M

@@ -17,7 +17,8 @@ returns c = simp (failed (c .before .quiet-in-range .ensures) (c .if1 .taken))
 
 -- past the test the settings are in range
 ranged : (c : tie.Else1) → let args = c .before .before .args in
-    quietInRange (args .a .0) (args .b .0) (args .k .0) (args .w .0) (args .r .0) (args .q .0) (args .p1 .0) ≡ true
+    quietInRange (args .a .0) (args .b .0) (args .g .0) (args .k .0) (args .w .0) (args .r .0) (args .q .0)
+    (args .p1 .0) ≡ true
 ranged c = passed (c .before .quiet-in-range .ensures) (c .if1 .left)
 
 all-margins-requires : tie.Need-all-margins-requires
@@ -29,13 +30,13 @@ all-accepted-requires c κs = search needs
 returns-2 : tie.Need-returns-2
 returns-2 c =
     let found = c .before .before in
-    quiet-judged _ _ _ _ _ _ _ _ (ranged (found .before)) (found .all-margins .ensures)
+    quiet-judged _ _ _ _ _ _ _ _ _ (ranged (found .before)) (found .all-margins .ensures)
     (c .before .all-accepted .ensures) (c .if2 .taken)
 
 returns-3 : tie.Need-returns-3
 returns-3 c =
     let found = c .before .before in
-    quiet-judged _ _ _ _ _ _ _ _ (ranged (found .before)) (found .all-margins .ensures)
+    quiet-judged _ _ _ _ _ _ _ _ _ (ranged (found .before)) (found .all-margins .ensures)
     (c .before .all-accepted .ensures) (c .if2 .left)
 
 pub judge-quiet-spec : {M : Type 1} → statement M

@@ -25,10 +25,11 @@ between-requires-3 c κs = search needs
 
 returns-3 : tie.Need-returns-3
 returns-3 c =
+    let second = c .before .before in
+    let first = second .before .before in
     simp (
-      passed (c .before .before .before .before .before .between .ensures)
-          (c .before .before .before .before .if1 .left),
-      passed (c .before .before .before .between2 .ensures) (c .before .before .if2 .left),
+      passed (first .before .between .ensures) (first .if1 .left),
+      passed (second .before .between2 .ensures) (second .if2 .left),
       failed (c .before .between3 .ensures) (c .if3 .taken),
     )
 
@@ -37,12 +38,31 @@ between-requires-4 c κs = search needs
 
 returns-4 : tie.Need-returns-4
 returns-4 c =
+    let third = c .before .before in
+    let second = third .before .before in
+    let first = second .before .before in
     simp (
-      passed (c .before .before .before .before .before .before .between .ensures)
-          (c .before .before .before .before .before .if1 .left),
-      passed (c .before .before .before .before .between2 .ensures) (c .before .before .before .if2 .left),
-      passed (c .before .before .between3 .ensures) (c .before .if3 .left),
-      ← c .between4 .ensures,
+      passed (first .before .between .ensures) (first .if1 .left),
+      passed (second .before .between2 .ensures) (second .if2 .left),
+      passed (third .before .between3 .ensures) (third .if3 .left),
+      failed (c .before .between4 .ensures) (c .if4 .taken),
+    )
+
+between-requires-5 : tie.Need-between-requires-5
+between-requires-5 c κs = search needs
+
+returns-5 : tie.Need-returns-5
+returns-5 c =
+    let fourth = c .before in
+    let third = fourth .before .before in
+    let second = third .before .before in
+    let first = second .before .before in
+    simp (
+      passed (first .before .between .ensures) (first .if1 .left),
+      passed (second .before .between2 .ensures) (second .if2 .left),
+      passed (third .before .between3 .ensures) (third .if3 .left),
+      passed (fourth .before .between4 .ensures) (fourth .if4 .left),
+      ← c .between5 .ensures,
     )
 
 pub pickable-spec : {M : Type 1} → statement M
@@ -56,4 +76,6 @@ pickable-spec =
     between-requires-3
     returns-3
     between-requires-4
-    returns-4)
+    returns-4
+    between-requires-5
+    returns-5)
