@@ -6,13 +6,13 @@
  * What holds of every function here:
  *
  * - It returns the number of its refusal, and 0 where it refuses nothing (enum siengulot_refusal). siengulot_well_formed alone returns a yes or no.
- * - Faults are looked for in the order 1, 3, 2, 4, 5, or 1 and then 9, and the first that is there is returned. A capture has an order of its own, said with
+ * - Faults are looked for in the order 1, 3, 2, 11, 4, 5, or 1 and then 9, and the first that is there is returned. A capture has an order of its own, said with
  *   siengulot_capture_check.
  * - Each single number that is lent (k, place, count, dropped, accepted, event, found, used) is written with every answer, a refusal included. `place`
- *   is 0 but for refusals 2, 6, 7 and 8, and for a row that siengulot_read_plan refuses with 1.
+ *   is 0 but for refusals 2, 6, 7, 8 and 11, and for a row that siengulot_read_plan refuses with 1.
  * - A result stands at the front of its lent output, and the rest of the output is untouched. With every refusal but 5 the whole output is untouched;
  *   siengulot_fresh alone writes zeros where it refuses.
- * - Levels and bits are bytes, 0 or 1. An unknown level is 2.
+ * - Levels and bits are bytes, 0 or 1. An unknown level is 2. Only words of half cells have a level in each bit.
  * - A pointer must be valid for its length, and not NULL even where that is 0. What a function writes must not overlap anything else that is lent
  *   to the same call.
  * - It uses no memory but what is lent to it and the stack, and keeps nothing from one call to the next.
@@ -48,7 +48,8 @@ enum {
     SIENGULOT_QUIET_MOST = 8191,
     SIENGULOT_ROWS_MOST = 1024,       /* rows of a plan */
     SIENGULOT_ENTRIES_MOST = 1048576, /* entries of a wave, of reads, of choices */
-    SIENGULOT_CAPTURE_MOST = 1048583  /* bytes of a capture */
+    SIENGULOT_CAPTURE_MOST = 1048583, /* bytes of a capture */
+    SIENGULOT_WORDS_MOST = 128        /* bytes of a message that goes out as words of half cells, and such words */
 };
 
 /* Levels. */
@@ -66,7 +67,8 @@ enum siengulot_refusal {
     SIENGULOT_CUT = 6,     /* a capture stops in the middle of a number, or with fewer than four */
     SIENGULOT_FORM = 7,    /* a capture's number has more bytes than it needs, or more than three */
     SIENGULOT_RANGE = 8,   /* a capture's number is one that its place does not allow */
-    SIENGULOT_NO_COUNT = 9 /* no sampling count has three margins of zero or more */
+    SIENGULOT_NO_COUNT = 9, /* no sampling count has three margins of zero or more */
+    SIENGULOT_NO_EDGE = 11  /* a cell of words of half cells has no edge at its start; `place` is the first such cell */
 };
 
 /*
@@ -149,6 +151,36 @@ size_t siengulot_plan(size_t a, size_t b, size_t n, const size_t *leads, size_t 
  */
 size_t siengulot_read_plan(const size_t *leads, size_t leads_length, const size_t *trails, size_t trails_length, size_t *out, size_t out_length,
                            size_t *place, size_t *count, size_t *dropped);
+
+/*
+ * Words of half cells, for a shifter
+ *
+ * A word is sixteen half cells, the highest bit first on the line, a 1 for high. A byte is one word: for each of its bits, the highest first, a cell
+ * of two half cells, its mark and its code. The line enters the first word high, and each next one at the level of the last half cell of the word
+ * before it. Clocked out with a cycles for each half cell, the words are the wave that siengulot_send gives for the bits with b equal to a and no pads.
+ */
+
+/*
+ * Encodes a message of bytes. Gives a word for each byte at the front of `out`, and in `count` how many they are, which is bytes_length.
+ * A message may have no bytes.
+ * Refuses with
+ *   3  more than 128 bytes;
+ *   4  `out` shorter than the words. Its length is counted in words.
+ * Leaves with a refusal `out` as it was, and 0 in `count`. `place` is always 0.
+ */
+size_t siengulot_encode(const uint8_t *bytes, size_t bytes_length, uint16_t *out, size_t out_length, size_t *place, size_t *count);
+
+/*
+ * Decodes words, such as siengulot_encode gives. Gives a byte for each word at the front of `out`, and in `count` how many they are, which is
+ * words_length, counted in words.
+ * Refuses with
+ *   3  more than 128 words;
+ *   11 a cell with no edge at its start, at `place`: its first half cell is of the level before it. Cells are counted through all words, eight to a
+ *      word, from 0;
+ *   4  `out` shorter than the bytes.
+ * Leaves with a refusal `out` as it was, and 0 in `count`.
+ */
+size_t siengulot_decode(const uint16_t *words, size_t words_length, uint8_t *out, size_t out_length, size_t *place, size_t *count);
 
 /*
  * The model of the line

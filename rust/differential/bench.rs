@@ -8,7 +8,7 @@ use crate::numbers::{at, numbers_of, NUMBERS};
 use siengulot_plain::board::{Event, Mode, Receiver, ROW_BYTES};
 use siengulot_plain::capture::{self, Reader, Summary};
 use siengulot_plain::settings::{self, Verdict};
-use siengulot_plain::{counted, line, sender, stored, Refusal};
+use siengulot_plain::{counted, halfcells, line, sender, stored, Refusal};
 use std::collections::BTreeMap;
 
 /// The longest result there is, and some more: a capture's bytes.
@@ -152,7 +152,7 @@ pub struct Bench {
     scratch: Vec<u8>,
 }
 
-const REFUSALS: [&str; 10] = ["0", "1", "2", "3", "4", "5", "6", "7", "8", "9"];
+const REFUSALS: [&str; 12] = ["0", "1", "2", "3", "4", "5", "6", "7", "8", "9", "10", "11"];
 
 impl Bench {
     pub fn new(seed: u64, only: Option<String>) -> Bench {
@@ -580,6 +580,68 @@ impl Bench {
         });
         if got == 5 && found > 0 {
             self.meets("counted", "5 after bits");
+        }
+    }
+
+    pub fn encode(&mut self, bytes: &[u8], room: Room) {
+        if !self.tries("encode") {
+            return;
+        }
+        let room = room.of(bytes.len().min(2_000));
+        let mut lent = Lent::new();
+        let out = lent.words("out", room, &mut self.rng);
+        let place = lent.number("place", &mut self.rng);
+        let count = lent.number("count", &mut self.rng);
+        let mut expected = lent.clone();
+        let answer = halfcells::encode(bytes, expected.words_part(out));
+        let number = told(&mut expected, place, count, answer);
+        let list = self.edges[0].lend(bytes, &mut self.rng);
+        let got = unsafe {
+            siengulot_encode(
+                list,
+                bytes.len(),
+                lent.words_part(out).as_mut_ptr(),
+                room,
+                lent.pointer(place),
+                lent.pointer(count),
+            )
+        };
+        self.compare("encode", (got, &lent), (number, &expected), || {
+            format!("{:?} room {}", shown(bytes), room)
+        });
+    }
+
+    pub fn decode(&mut self, words: &[u16], room: Room) {
+        if !self.tries("decode") {
+            return;
+        }
+        let room = room.of(words.len());
+        let (mut lent, out, [place, count]) = self.lend(room);
+        let mut expected = lent.clone();
+        let answer = halfcells::decode(words, expected.part(out));
+        let at = answer.map_or_else(|refused| refused.place, |_| 0);
+        let number = told(&mut expected, place, count, answer);
+        let list = self.edges[0].lend(words, &mut self.rng);
+        let got = unsafe {
+            siengulot_decode(
+                list,
+                words.len(),
+                lent.bytes_pointer(out),
+                room,
+                lent.pointer(place),
+                lent.pointer(count),
+            )
+        };
+        self.compare("decode", (got, &lent), (number, &expected), || {
+            format!("{:04x?} room {}", words, room)
+        });
+        if got == 11 {
+            let kind = match (at, at % 8) {
+                (0, _) => "11 at the first cell",
+                (_, 0) => "11 at the first cell of a later word",
+                _ => "11 within a word",
+            };
+            self.meets("decode", kind);
         }
     }
 

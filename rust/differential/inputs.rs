@@ -2,8 +2,10 @@
 
 use crate::numbers::{at, numbers_of, NUMBERS};
 use siengulot_plain::board::{Mode, Receiver, ROW_BYTES};
+use siengulot_plain::halfcells;
 use siengulot_plain::settings::{
-    MAX_BITS, MAX_CYCLE, MAX_G, MAX_K, MAX_LIST, MAX_PAD, MAX_QUIET, MAX_ROWS, MAX_SUBCELL, MIN_QUIET,
+    MAX_BITS, MAX_CYCLE, MAX_G, MAX_K, MAX_LIST, MAX_PAD, MAX_QUIET, MAX_ROWS, MAX_SUBCELL, MAX_WORDS,
+    MIN_QUIET,
 };
 
 const CYCLE_MOST: usize = MAX_CYCLE as usize;
@@ -143,6 +145,38 @@ impl Rng {
         let mut list = self.entries(length, greatest);
         self.damage(&mut list, greatest);
         list
+    }
+
+    /// How many bytes go out as words of half cells: often as many as may be, or one more.
+    pub fn words_length(&mut self) -> usize {
+        match self.below(12) {
+            0 => MAX_WORDS,
+            1 => MAX_WORDS + 1,
+            2 => self.within(MAX_WORDS, 300),
+            3..=6 => self.below(MAX_WORDS),
+            _ => self.below(12),
+        }
+    }
+
+    /// Words of half cells, often with some half cells turned over, and now and then of any half cells.
+    pub fn words(&mut self) -> Vec<u16> {
+        let length = self.words_length();
+        if self.one_in(8) {
+            return (0..length).map(|_| self.next() as u16).collect();
+        }
+        let mut words = vec![0; length];
+        for part in words.chunks_mut(MAX_WORDS) {
+            let bytes: Vec<u8> = part.iter().map(|_| self.next() as u8).collect();
+            let encoded = halfcells::encode(&bytes, part);
+            assert!(encoded.is_ok(), "up to 128 bytes can be encoded");
+        }
+        if length > 0 && self.one_in(2) {
+            for _ in 0..self.within(1, 3) {
+                let place = self.below(length);
+                words[place] ^= 1 << self.below(16);
+            }
+        }
+        words
     }
 
     pub fn subcell(&mut self) -> usize {

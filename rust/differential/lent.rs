@@ -22,6 +22,14 @@ pub struct Numbers {
     length: usize,
 }
 
+/// Words of 16 bits of a call that may be written. They lie among the numbers.
+#[derive(Clone, Copy)]
+pub struct Words {
+    within: Numbers,
+    shift: usize,
+    length: usize,
+}
+
 /// All that a call may write.
 #[derive(Clone)]
 pub struct Lent {
@@ -66,6 +74,27 @@ impl Lent {
         let part = Numbers { at, length };
         self.counts.push((name, part));
         part
+    }
+
+    /// Words that hold junk. They begin at any word of a number.
+    pub fn words(&mut self, name: &'static str, length: usize, rng: &mut Rng) -> Words {
+        let shift = rng.below(4);
+        Words {
+            within: self.numbers(name, (shift + length + 3) / 4, rng),
+            shift,
+            length,
+        }
+    }
+
+    /// The words of a part.
+    pub fn words_part(&mut self, part: Words) -> &mut [u16] {
+        let numbers = &mut self.numbers[part.within.at..part.within.at + part.within.length];
+        assert!(part.shift + part.length <= 4 * numbers.len());
+        // SAFETY: the numbers are aligned for words, have four each, and are borrowed as long as the words are.
+        unsafe {
+            let words = numbers.as_mut_ptr().cast::<u16>().add(part.shift);
+            std::slice::from_raw_parts_mut(words, part.length)
+        }
     }
 
     /// One number that holds junk.

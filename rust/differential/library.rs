@@ -72,6 +72,24 @@ extern "C" {
         dropped: *mut usize,
     ) -> usize;
 
+    pub fn siengulot_encode(
+        bytes: *const u8,
+        bytes_length: usize,
+        out: *mut u16,
+        out_length: usize,
+        place: *mut usize,
+        count: *mut usize,
+    ) -> usize;
+
+    pub fn siengulot_decode(
+        words: *const u16,
+        words_length: usize,
+        out: *mut u8,
+        out_length: usize,
+        place: *mut usize,
+        count: *mut usize,
+    ) -> usize;
+
     pub fn siengulot_smooth(
         g: usize,
         wave: *const u8,

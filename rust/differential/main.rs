@@ -12,6 +12,7 @@ mod library;
 mod numbers;
 
 use bench::{Bench, Room, State};
+use siengulot_plain::halfcells;
 use siengulot_plain::settings::{MAX_BITS, MAX_CAPTURE, MAX_LIST, MAX_ROWS};
 use std::time::{Duration, Instant};
 
@@ -23,7 +24,7 @@ const ROUNDS: u64 = 100_000;
 const TIME: Duration = Duration::from_secs(45);
 
 /// What each operation has to meet: the numbers it returns (of `well_formed`, 0 for no and 1 for yes), and cases that are easy to miss.
-const MUST: [(&str, &[&str], &[&str]); 17] = [
+const MUST: [(&str, &[&str], &[&str]); 19] = [
     ("judge", &["0", "1"], &["yes", "no", "a margin of 0"]),
     ("judge_quiet", &["0", "1"], &["yes", "no", "a margin of 0"]),
     (
@@ -45,6 +46,16 @@ const MUST: [(&str, &[&str], &[&str]); 17] = [
             "1 at a row",
             "a joined lead of 65,535",
             "a joined lead of 65,536",
+        ],
+    ),
+    ("encode", &["0", "3", "4"], &[]),
+    (
+        "decode",
+        &["0", "3", "4", "11"],
+        &[
+            "11 at the first cell",
+            "11 at the first cell of a later word",
+            "11 within a word",
         ],
     ),
     ("smooth", &["0", "1", "2", "3", "4"], &[]),
@@ -108,6 +119,7 @@ fn main() {
         round(&mut bench);
         if rounds == 0 {
             pick_corners(&mut bench);
+            each_word(&mut bench);
             smooth_corners(&mut bench);
         }
         if rounds == 200 {
@@ -137,6 +149,22 @@ fn pick_corners(bench: &mut Bench) {
                         bench.pick([a, b, g, w, r]);
                     }
                 }
+            }
+        }
+    }
+}
+
+/// The word of each byte, entered high and entered low, and with each of its half cells turned over.
+fn each_word(bench: &mut Bench) {
+    for byte in 0..=255 {
+        for bytes in [[0xff, byte], [0x80, byte]] {
+            bench.encode(&bytes, FULL);
+            let mut words = [0; 2];
+            let encoded = halfcells::encode(&bytes, &mut words);
+            assert!(encoded.is_ok(), "two bytes can be encoded");
+            bench.decode(&words, FULL);
+            for half in 0..16 {
+                bench.decode(&[words[0], words[1] ^ 1 << half], FULL);
             }
         }
     }
@@ -187,6 +215,14 @@ fn round(bench: &mut Bench) {
     let (leads, trails) = bench.rng.stored();
     let room = Room::random(&mut bench.rng);
     bench.read_plan(&leads, &trails, room);
+
+    let length = bench.rng.words_length();
+    let bytes = bench.rng.list(length, 254);
+    let room = Room::random(&mut bench.rng);
+    bench.encode(&bytes, room);
+    let words = bench.rng.words();
+    let room = Room::random(&mut bench.rng);
+    bench.decode(&words, room);
 
     let length = bench.rng.length();
     let wave = bench.rng.list(length, 1);
@@ -451,6 +487,7 @@ fn vast(bench: &mut Bench) {
         let room = Room::More(5);
         bench.send([2, 3, 2], list, room);
         bench.plan([2, 3, 2], &[1], list, room);
+        bench.encode(list, room);
         bench.smooth(1, list, room);
         bench.warp([4, 4, 1], list, room);
         bench.settle(list, &[1], room);

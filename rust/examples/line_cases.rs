@@ -4,7 +4,7 @@
 mod common;
 
 use common::{made, refused, Case};
-use siengulot_plain::{counted, line, sender, settings, stored, Refusal};
+use siengulot_plain::{counted, halfcells, line, sender, settings, stored, Refusal};
 
 /// Whether settings are accepted, and their margins.
 fn judged<const M: usize>(answer: Result<settings::Verdict<M>, Refusal>) -> (String, usize) {
@@ -38,6 +38,12 @@ fn joined(leads: &[usize], trails: &[usize], room: usize) -> (String, usize) {
     };
     let left: String = out.iter().map(|lead| format!(" {}", lead)).collect();
     (told + " |" + &left, 0)
+}
+
+/// The words that entries are, two each, the higher byte first.
+fn words_of(entries: &[u8]) -> Vec<u16> {
+    let word = |entries: &[u8]| u16::from_be_bytes([entries[0], entries[1]]);
+    entries.chunks_exact(2).map(word).collect()
 }
 
 /// Runs the operation that a case names: what it gave, and how many entries it has written.
@@ -78,6 +84,20 @@ fn operate(case: &Case, one: &[u8], two: &[u8], out: &mut [u8]) -> (String, usiz
         "count_bits" => {
             let [k, n, level] = case.numbers(["k", "n", "level"]);
             counted(counted::receive(n, level as u8, k, one, out), n)
+        }
+        "encode" => {
+            let [] = case.numbers([]);
+            let mut words = words_of(out);
+            let encoded = halfcells::encode(one, &mut words);
+            for (entries, word) in out.chunks_exact_mut(2).zip(words) {
+                entries.copy_from_slice(&word.to_be_bytes());
+            }
+            let (told, written) = made(encoded);
+            (told, 2 * written)
+        }
+        "decode" => {
+            let [] = case.numbers([]);
+            made(halfcells::decode(&words_of(one), out))
         }
         other => panic!("no operation {}", other),
     }

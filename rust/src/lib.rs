@@ -8,7 +8,7 @@
 //!
 //! An operation that refuses leaves every lent byte alone, with the one exception of
 //! refusal 5, and an operation that succeeds writes nothing after its result. Faults are
-//! looked for in the order 1, 3, 2, 4, 5; the reader of captures, which goes through its
+//! looked for in the order 1, 3, 2, 11, 4, 5; the reader of captures, which goes through its
 //! numbers from the left, has an order of its own.
 
 #![forbid(unsafe_code)]
@@ -17,6 +17,7 @@
 pub mod board;
 pub mod capture;
 pub mod counted;
+pub mod halfcells;
 pub mod line;
 mod refusal;
 pub mod rows;

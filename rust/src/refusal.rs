@@ -5,7 +5,7 @@ use std::fmt;
 /// Why an operation refused: the number from the rules' table and the place of the fault.
 #[derive(Clone, Copy, Debug, PartialEq, Eq, Hash)]
 pub struct Refusal {
-    /// 1 to 9, as in the table of refusal numbers.
+    /// 1 to 9 or 11, as in the table of refusal numbers.
     pub number: u8,
     /// Place of the bad entry or row, or of the bad number's first byte; 0 where none is kept.
     pub place: usize,
@@ -45,6 +45,11 @@ impl Refusal {
     /// A number is too long or not in shortest form.
     pub(crate) const fn form(place: usize) -> Refusal {
         Refusal::new(7, place)
+    }
+
+    /// A cell has no edge at its start.
+    pub(crate) const fn no_edge(place: usize) -> Refusal {
+        Refusal::new(11, place)
     }
 
     /// A number does not fit its place in a capture.

@@ -25,6 +25,8 @@ pub const MAX_ROWS: usize = 1_024;
 pub const MAX_LIST: usize = 1_048_576;
 /// Most bytes of a capture.
 pub const MAX_CAPTURE: usize = 1_048_583;
+/// Most bytes of a message that goes out as words of half cells, and most such words.
+pub const MAX_WORDS: usize = 128;
 /// Most bytes the rows program takes.
 pub const MAX_INPUT: usize = 65_536;
 

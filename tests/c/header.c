@@ -89,6 +89,24 @@ static void picking(void)
     expect(siengulot_pick(SIENGULOT_SUBCELL_MOST + 1, 13, 1, 100, 142, &k) == SIENGULOT_SETTING && k == 0, "pick takes a 256");
 }
 
+static void words_of_half_cells(void)
+{
+    uint16_t words[4] = {7, 7, 7, 7};
+    const uint8_t bytes[2] = {0x80, 0x80};
+
+    lend();
+    expect_answer("encode 80 twice", siengulot_encode(bytes, 2, words + 1, 2, &place, &count), 0, 0, 2);
+    expect(words[0] == 7 && words[1] == 0x4CCC && words[2] == 0xB333 && words[3] == 7, "the words of 80 twice");
+    expect_answer("encode with too little room", siengulot_encode(bytes, 2, words + 1, 1, &place, &count), SIENGULOT_ROOM, 0, 0);
+    expect_answer("decode them", siengulot_decode(words + 1, 2, out, ROOM, &place, &count), 0, 0, 2);
+    expect(out[0] == 0x80 && out[1] == 0x80 && out[2] == GUARD, "the bytes of those words");
+    lend();
+    words[2] = 0x4CCC;
+    expect_answer("decode a cell with no edge", siengulot_decode(words + 1, 2, out, ROOM, &place, &count), SIENGULOT_NO_EDGE, 8, 0);
+    expect_answer("decode with too little room", siengulot_decode(words + 1, 1, out, 0, &place, &count), SIENGULOT_ROOM, 0, 0);
+    expect_out("decode writes though it refuses", "");
+}
+
 static void sending(void)
 {
     static const uint8_t bits[2] = {1, 0}, bad[2] = {1, 2};
@@ -299,6 +317,7 @@ int main(void)
 {
     judging();
     picking();
+    words_of_half_cells();
     sending();
     stored_plans();
     line();

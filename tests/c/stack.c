@@ -16,6 +16,7 @@
 enum { STACK = 2 * 1024 * 1024, PAGE = 65536, LIST = SIENGULOT_ENTRIES_MOST, ROWS = SIENGULOT_ROWS_MOST };
 
 static uint8_t high[LIST + 1], turns[LIST], unknown[LIST], mixed[LIST], bad[LIST], out[SIENGULOT_CAPTURE_MOST], bytes[SIENGULOT_CAPTURE_MOST];
+static uint16_t words[SIENGULOT_WORDS_MOST + 1], flat[SIENGULOT_WORDS_MOST], shorts[SIENGULOT_WORDS_MOST];
 static size_t pads[ROWS + 1], long_pads[ROWS + 1], joined[ROWS], dropped, summary[SIENGULOT_SUMMARY_NUMBERS], k, place, count, accepted, event, found, used;
 static int64_t margins[5];
 static siengulot_receiver receiver;
@@ -68,6 +69,17 @@ CALL(stored_setting, 1, siengulot_read_plan(pads, ROWS, pads, 9, joined, ROWS, &
 CALL(stored_row, 1, siengulot_read_plan(long_pads, ROWS + 1, long_pads, ROWS + 1, joined, ROWS, &place, &count, &dropped))
 CALL(stored_limit, 3, siengulot_read_plan(pads, ROWS + 1, pads, ROWS + 1, joined, ROWS, &place, &count, &dropped))
 CALL(stored_room, 4, siengulot_read_plan(pads, ROWS, pads, ROWS, joined, 9, &place, &count, &dropped))
+
+/* The words of bytes that are 0, made below; words of which the last cell alone has no edge. */
+CALL(encode_most, 0, siengulot_encode(turns, 128, shorts, 128, &place, &count))
+CALL(encode_none, 0, siengulot_encode(turns, 0, shorts, 0, &place, &count))
+CALL(encode_limit, 3, siengulot_encode(turns, 129, shorts, 128, &place, &count))
+CALL(encode_room, 4, siengulot_encode(turns, 128, shorts, 127, &place, &count))
+CALL(decode_most, 0, siengulot_decode(words, 128, out, sizeof out, &place, &count))
+CALL(decode_none, 0, siengulot_decode(words, 0, out, 0, &place, &count))
+CALL(decode_no_edge, 11, siengulot_decode(flat, 128, out, sizeof out, &place, &count))
+CALL(decode_limit, 3, siengulot_decode(words, 129, out, sizeof out, &place, &count))
+CALL(decode_room, 4, siengulot_decode(words, 128, out, 127, &place, &count))
 
 CALL(smooth_most, 0, siengulot_smooth(1, mixed, LIST, out, sizeof out, &place, &count))
 CALL(smooth_slow, 0, siengulot_smooth(64, mixed, LIST, out, sizeof out, &place, &count))
@@ -148,6 +160,8 @@ static const struct {
     {"siengulot_send", {send_most, send_least, send_setting, send_entry, send_limit, send_room}},
     {"siengulot_plan", {plan_most, plan_setting, plan_entry, plan_limit, plan_room}},
     {"siengulot_read_plan", {stored_most, stored_setting, stored_row, stored_limit, stored_room}},
+    {"siengulot_encode", {encode_most, encode_none, encode_limit, encode_room}},
+    {"siengulot_decode", {decode_most, decode_none, decode_no_edge, decode_limit, decode_room}},
     {"siengulot_smooth", {smooth_most, smooth_slow, smooth_setting, smooth_entry, smooth_limit, smooth_room}},
     {"siengulot_warp",
      {warp_deepest, warp_mixed, warp_unknown, warp_even, warp_short, warp_setting, warp_entry, warp_limit,
@@ -242,6 +256,10 @@ int main(void)
     for (size_t i = 0; i < LIST; i++) {
         turns[i] = i % 2;
         mixed[i] = (i * i / 7 + i / 5) % 3 % 2;
+    }
+    for (size_t i = 0; i < 128; i++) {
+        words[i] = 0x3333;
+        flat[i] = i < 127 ? 0x3333 : 0x3331;
     }
     for (size_t i = 0; i < sizeof points / sizeof points[0]; i++) {
         size_t most = 0;

@@ -2,17 +2,17 @@
 use Prim.Native.Nat.{ℕ, _≤_}
 use mathlib.Core.Path.{_≡_, refl, sym, ap, _∙_}
 use mathlib.Core.List.{List}
-use mathlib.Core.Bool.{Bool, true, false}
+use mathlib.Core.Bool.{false}
 use native.Mathlib.Omega.{arith}
 use lib.Dec.{ltb}
 use lib.ListN.{length, take, drop}
 use lib.Seq.{take-at}
 use borrow.Author.Tests.{le-ltb, ltb-false}
-use Rattle.measure.specs.Choose.{choose}
 use Rattle.measure.specs.Ranges.{entriesMost, rowSettingsFit}
 use Rattle.measure.specs.Levels.{AtMost, Levels}
 use Rattle.measure.specs.Lists.{firstAbove, someAbove, onto}
 use Rattle.measure.specs.Refusals.{Answer, given, refused, refusedAfter}
+use Rattle.measure.proofs.Given.{refused-none, held, failed}
 use Rattle.measure.proofs.LevelLaws.{most-at, most-none-some, none-above}
 use Rattle.capture.specs.Capture.{Capture, capture, readsOfRuns}
 use Rattle.capture.specs.Writing.{runsOf, firstLevel, captureOf}
@@ -41,26 +41,6 @@ reads-written-back k n Q reads r h l = record {
 
 pub bytes-read-back : WritesBack
 bytes-read-back bytes e c g = capture-again bytes c (all-bytes bytes e) g
-
--- an answer that was given was not refused: a test that refuses where it fails held, and one that refuses where it
--- holds failed
-refused-none : {A : Type 0} (number place : ℕ) (out out′ : List ℕ) (x : A)
-    → _≡_ {A = Answer A × List ℕ} (refused number place, out) (given x, out′) → ⊥
-refused-none {A} number place out out′ x e =
-    let f : _≡_ {A = Answer A} (refused number place) (given x) = ap (λ (p : Answer A × List ℕ). p .0) e in
-    let z : _≡_ {A = ℕ} 0 1 = cc in
-    omega arith
-
-module _ {A : Type 0} (number place : ℕ) (out out′ : List ℕ) (x : A) where
-  held : (test : Bool) (rest : Answer A × List ℕ) → choose test rest (refused number place, out) ≡ (given x, out′)
-      → (test ≡ true) × (rest ≡ (given x, out′))
-  held true rest e = (refl, e)
-  held false rest e = absurd (refused-none number place out out′ x e)
-
-  failed : (test : Bool) (rest : Answer A × List ℕ) → choose test (refused number place, out) rest ≡ (given x, out′)
-      → (test ≡ false) × (rest ≡ (given x, out′))
-  failed true rest e = absurd (refused-none number place out out′ x e)
-  failed false rest e = (refl, e)
 
 -- what writing did, where it gave a size
 record Wrote (k n Q : ℕ) (reads out out′ : List ℕ) (size : ℕ) : Type 0 where

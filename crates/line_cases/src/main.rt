@@ -1,11 +1,12 @@
-// Runs the cases of the file `stdin` through settings, sender, stored, line and counted, and prints each with what it
-// gives; the file `stdout` has what that is to be. The crate `cases` says how a case is written. The list `kept` is the
-// second list of the case before.
+// Runs the cases of the file `stdin` through settings, sender, stored, line, counted and halfcells, and prints each
+// with what it gives; the file `stdout` has what that is to be. The crate `cases` says how a case is written. The list
+// `kept` is the second list of the case before.
 mod counting;
 mod joining;
 mod judging;
 mod passing;
 mod sending;
+mod words;
 
 use cases::reading;
 use cases::show;
@@ -20,7 +21,8 @@ const LIST: usize = ENTRIES_MOST + 1;
 
 // Runs the operation that a case names, and gives how many entries it has written.
 fn operate(case: &[u8], one: &[u8], two: &[u8], out: &mut [u8]) -> usize {
-    let names = b"judge judge_quiet send send_plan read_plan smooth warp settle count_bits ";
+    let names =
+        b"judge judge_quiet send send_plan read_plan smooth warp settle count_bits encode decode ";
     let n = reading::numbers_of(case);
     match reading::operation(case, names) {
         0 => judging::judge(n),
@@ -32,6 +34,8 @@ fn operate(case: &[u8], one: &[u8], two: &[u8], out: &mut [u8]) -> usize {
         6 => passing::warp(n, one, out),
         7 => passing::settle(one, two, out),
         8 => counting::count_bits(n, one, out),
+        9 => words::encode(one, out),
+        10 => words::decode(one, out),
         _ => 0,
     }
 }

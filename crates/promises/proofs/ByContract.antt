@@ -15,6 +15,8 @@ by-contract = record {
   send-plan = λ κs a x left h. h;
   pads-in-range = λ κs a x left h. h;
   read-plan = λ κs a x left h. h;
+  encode = λ κs a x left h. h;
+  decode = λ κs a x left h. h;
   smooth = λ κs a x left h. h;
   warp = λ κs a x left h. h;
   settle = λ κs a x left h. h;
@@ -54,4 +56,6 @@ by-contract = record {
   siengulot-capture-check = λ κs a x left h. h;
   siengulot-capture-read = λ κs a x left h. h;
   siengulot-capture-write = λ κs a x left h. h;
+  siengulot-encode = λ κs a x left h. h;
+  siengulot-decode = λ κs a x left h. h;
 }

@@ -4,6 +4,9 @@ use Rattle.line.proofs.Settling.{smooth-laws-hold}
 use Rattle.line.proofs.WarpLaws.{warp-laws-hold}
 use Rattle.board.proofs.WellFormedStays.{every-step}
 use Rattle.capture.proofs.RoundTrips.{written-read-back, read-written-back}
+use Rattle.halfcells.proofs.TableHolds.{table-is-the-rule}
+use Rattle.halfcells.proofs.Shown.{words-are-the-wave}
+use Rattle.halfcells.proofs.RoundTrips.{encoded-decodes, decoded-encodes}
 use Rattle.page.proofs.WholeOutput.{whole}
 use Rattle.promises.specs.Demand3.{receiverSettings}
 use Rattle.promises.specs.Hearing.{hearing}
@@ -35,6 +38,10 @@ demands = record {
     hears = every-caller;
     reads-back = written-read-back;
     writes-back = read-written-back;
+    words-table = table-is-the-rule;
+    words-wave = words-are-the-wave;
+    words-decode = encoded-decodes;
+    words-encode = decoded-encodes;
     writes-rows = whole;
   };
   demand-3 = record {

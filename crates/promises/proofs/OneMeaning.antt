@@ -8,6 +8,7 @@ use Rattle.measure.specs.Choose.{choose}
 use Rattle.measure.specs.Refusals.{Answer, given, refused, refusedAfter, numberOf, placeOf}
 use Rattle.measure.specs.declared.Refusal.{Refusal}
 use Rattle.measure.specs.declared.Refusal.the-variants.{Setting, Entry, Limit, Room, Cut, Form, Range, NoCount}
+use Rattle.measure.specs.declared.Refusal.the-variants.{NoEdge}
 use Rattle.settings.specs.declared.Judged.{Judged}
 use Rattle.settings.specs.declared.Judged.the-variants as J
 use Rattle.settings.specs.declared.QuietJudged.{QuietJudged}
@@ -23,6 +24,11 @@ use Rattle.sender.specs.Answers.{sentSays}
 use Rattle.stored.specs.declared.Joined.{Joined}
 use Rattle.stored.specs.declared.Joined.the-variants as I
 use Rattle.stored.specs.Answers.{Told, joinedSays}
+use Rattle.halfcells.specs.declared.Encoded.{Encoded}
+use Rattle.halfcells.specs.declared.Encoded.the-variants as B
+use Rattle.halfcells.specs.declared.Decoded.{Decoded}
+use Rattle.halfcells.specs.declared.Decoded.the-variants as D
+use Rattle.halfcells.specs.Answers.{encodedSays, decodedSays}
 use Rattle.line.specs.declared.Smoothed.{Smoothed}
 use Rattle.line.specs.declared.Smoothed.the-variants as M
 use Rattle.line.specs.declared.Read.{Read}
@@ -94,7 +100,8 @@ refusal number place =
     (choose (eqb number 6) (Cut place)
     (choose (eqb number 7) (Form place)
     (choose (eqb number 9) NoCount
-    (Range place)))))))
+    (choose (eqb number 11) (NoEdge place)
+    (Range place))))))))
 
 refusal-back : (f : Refusal) → refusal (numberOf f) (placeOf f) ≡ f
 unfolding refusal
@@ -106,6 +113,7 @@ refusal-back (Cut at) = refl
 refusal-back (Form at) = refl
 refusal-back (Range at) = refl
 refusal-back NoCount = refl
+refusal-back (NoEdge at) = refl
 
 -- an answer, back from what it says: from a result, from a refusal, and from one that says how much was found
 answer : {A X : Type 0} → (A → X) → (Refusal → X) → (ℕ → X) → Answer A → X
@@ -178,6 +186,14 @@ one-meaning = record {
   read-plan = record {
     always = λ κs a. tt;
     once = λ κs a x y left right h h′. leaves joined-said (λ l. (tt, (tt, (l, tt)))) h h′;
+  };
+  encode = record {
+    always = λ κs a. tt;
+    once = λ κs a x y left right h h′. leaves encoded-said (λ l. (tt, (l, tt))) h h′;
+  };
+  decode = record {
+    always = λ κs a. tt;
+    once = λ κs a x y left right h h′. leaves decoded-said (λ l. (tt, (l, tt))) h h′;
   };
   smooth = record {
     always = λ κs a. tt;
@@ -350,6 +366,18 @@ one-meaning = record {
         crosses (λ (p : (ℕ × ℕ × ℕ) × List ℕ). p .0 .0)
         (λ p. (tt, (tt, (tt, (tt, (p .1, (p .0 .1, (p .0 .2, tt)))))))) h h′;
   };
+  siengulot-encode = record {
+    always = λ κs a. tt;
+    once = λ κs a x y left right h h′.
+        crosses (λ (p : (ℕ × ℕ × ℕ) × List ℕ). p .0 .0)
+        (λ p. (tt, (p .1, (p .0 .1, (p .0 .2, tt))))) h h′;
+  };
+  siengulot-decode = record {
+    always = λ κs a. tt;
+    once = λ κs a x y left right h h′.
+        crosses (λ (p : (ℕ × ℕ × ℕ) × List ℕ). p .0 .0)
+        (λ p. (tt, (p .1, (p .0 .1, (p .0 .2, tt))))) h h′;
+  };
   held-new = λ bytes x y h h′. h ∙ sym h′;
   held-place = λ reader x y h h′. h ∙ sym h′;
   held-next = λ bytes at x y h h′. same number-said h h′;
@@ -377,6 +405,14 @@ one-meaning = record {
     joined-back : (x : Joined) → plain (λ t. I.Plan (t .rows) (record { 0 = t .dropped })) I.Refused (joinedSays x) ≡ x
     joined-back (I.Plan rows cycles) = refl
     joined-back (I.Refused f) = ap I.Refused (refusal-back f)
+
+    encode-back : (x : Encoded) → plain B.Words B.Refused (encodedSays x) ≡ x
+    encode-back (B.Words n) = refl
+    encode-back (B.Refused f) = ap B.Refused (refusal-back f)
+
+    decode-back : (x : Decoded) → plain D.Bytes D.Refused (decodedSays x) ≡ x
+    decode-back (D.Bytes n) = refl
+    decode-back (D.Refused f) = ap D.Refused (refusal-back f)
 
     smooth-back : (x : Smoothed) → plain (λ n. M.Wave (record { 0 = n })) M.Refused (smoothedSays x) ≡ x
     smooth-back (M.Wave cycles) = refl
@@ -455,6 +491,12 @@ one-meaning = record {
       back = plain (λ t. I.Plan (t .rows) (record { 0 = t .dropped })) I.Refused;
       turns = joined-back;
     }
+
+    encoded-said : Said Encoded (Answer ℕ)
+    encoded-said = record { says = encodedSays; back = plain B.Words B.Refused; turns = encode-back }
+
+    decoded-said : Said Decoded (Answer ℕ)
+    decoded-said = record { says = decodedSays; back = plain D.Bytes D.Refused; turns = decode-back }
 
     smooth-said : Said Smoothed (Answer ℕ)
     smooth-said =

@@ -8,7 +8,7 @@ use lib.Dec.{eqb, leb}
 use lib.ListN.{length, take}
 use Rattle.measure.specs.Choose.{choose}
 use Rattle.measure.specs.Ranges.{subcell, sampling, quiet, padMost, bitsMost, rowBits, rowsMost, entriesMost}
-use Rattle.measure.specs.Ranges.{settling as settlingCount, inputMost, rowSettingsFit}
+use Rattle.measure.specs.Ranges.{settling as settlingCount, inputMost, wordsMost, rowSettingsFit}
 use Rattle.measure.specs.Refusals.{Answer, given, refused, numberOf, placeOf}
 use Rattle.settings.specs.Answers.{inRange, judgement, quietJudgement}
 use Rattle.settings.specs.Margins.{zeroOrMore}
@@ -17,6 +17,8 @@ use Rattle.settings.proofs.PickHolds.{only-one, best-fits}
 use Rattle.sender.specs.Sending.{wave, planWave, rowsOf}
 use Rattle.sender.specs.Answers.{sentMessage, sentPlan, fitting, padded}
 use Rattle.stored.specs.Answers.{readPlan}
+use Rattle.halfcells.specs.HalfCells.{wordsOf, bytesOf}
+use Rattle.halfcells.specs.Answers.{encoded, decoded}
 use Rattle.line.specs.Smooth.{smooth as smoothing}
 use Rattle.line.specs.Warp.{warp as warping}
 use Rattle.line.specs.Settle.{settle as settling}
@@ -57,8 +59,8 @@ picked a b g k w r answer p h =
     go false e = out-of-range e
 
 pub answered : Demand1
-unfolding judgement quietJudgement sentMessage sentPlan readPlan smoothed warped settled countedBits begun wellFormed
-    stepped listened checked readBack written output number packed
+unfolding judgement quietJudgement sentMessage sentPlan readPlan encoded decoded smoothed warped settled countedBits
+    begun wellFormed stepped listened checked readBack written output number packed
 answered = record {
   judge = λ a b g k w r. within (inRange a b g k w r) 1 0 (done refl);
   judge-quiet = λ a b g k w r Q p1. within (inRange a b g k w r && quiet Q && leb p1 padMost) 1 0 (done refl);
@@ -126,6 +128,8 @@ answered = record {
       (past (limit entriesMost reads)
       (past (entries 1 reads)
       (laid (captureOf k n Q reads) output)));
+  encode = λ bytes output. past (limit wordsMost bytes) (laid (wordsOf bytes) output);
+  decode = λ words output. past (limit wordsMost words) (past (Good.edges words) (laid (bytesOf words) output));
   put-heading = laid headingLine;
   put-row = λ place n bits. laid (eventLine place (row (take n (unpacked 8 bits))));
   put-broken = λ place found. laid (eventLine place (broken found));
@@ -161,6 +165,8 @@ answered-from-c = record {
   capture-check = λ bytes summary. across (summed summary) (answered .check bytes);
   capture-read = λ bytes output summary. across (crossing (summed summary)) (answered .read-capture bytes output);
   capture-write = λ k n Q reads output. across (crossing crossed) (answered .write-capture k n Q reads output);
+  encode = λ bytes output. across (crossing crossed) (answered .encode bytes output);
+  decode = λ words output. across (crossing crossed) (answered .decode words output);
 }
   where
     both : (stands well : Bool)

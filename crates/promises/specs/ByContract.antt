@@ -15,6 +15,7 @@ use Rattle.settings.specs.Answers.{judgement, judgedSays, quietJudgement, quiet
 use Rattle.settings.specs.Pick.{Picks, pickedSays}
 use Rattle.sender.specs.Answers.{padded, sentMessage, sentPlan, sentSays}
 use Rattle.stored.specs.Answers.{readPlan, joinedSays}
+use Rattle.halfcells.specs.Answers.{encoded, encodedSays, decoded, decodedSays}
 use Rattle.line.specs.Answers.{smoothed, smoothedSays, warped, settled, readSays}
 use Rattle.counted.specs.Answers.{countedBits, countedSays}
 use Rattle.board.specs.Rows.{row, broken}
@@ -35,6 +36,7 @@ use Rattle.measure.proofs as Measure
 use Rattle.settings.proofs as Settings
 use Rattle.sender.proofs as Sender
 use Rattle.stored.proofs as Stored
+use Rattle.halfcells.proofs as HalfCells
 use Rattle.line.proofs as Line
 use Rattle.counted.proofs as Counted
 use Rattle.board.proofs as Board
@@ -95,6 +97,13 @@ pub record ByContract : Type 0 where
   pub read-plan : Says Stored.read_plan.ended Stored.read_plan.Reads.Post
       λ κs (leads, (trails, (out, _))) x (_, (_, (out′, _))).
       readPlan (now leads) (now trails) (now out) ≡ (joinedSays x, out′)
+  -- halfcells
+  pub encode : Says HalfCells.encode.ended HalfCells.encode.Reads.Post
+      λ κs (bytes, (out, _)) x (_, (out′, _)).
+      encoded (now bytes) (now out) ≡ (encodedSays x, out′)
+  pub decode : Says HalfCells.decode.ended HalfCells.decode.Reads.Post
+      λ κs (words, (out, _)) x (_, (out′, _)).
+      decoded (now words) (now out) ≡ (decodedSays x, out′)
   -- line
   pub smooth : Says Line.smooth.ended Line.smooth.Reads.Post
       λ κs (wave, (g, (out, _))) x (_, (_, (out′, _))).
@@ -245,3 +254,9 @@ pub record ByContract : Type 0 where
       λ κs (k, (n, (Q, (reads, (out, (place, (count, _))))))) x (_, (_, (_, (_, (out′, (place′, (count′, _))))))).
       crossing crossed (written k n Q (now reads) (now out))
       ≡ ((x, place′, count′), out′)
+  pub siengulot-encode : Says C.siengulot_encode.ended C.siengulot_encode.Reads.Post
+      λ κs (bytes, (out, (place, (count, _)))) x (_, (out′, (place′, (count′, _)))).
+      crossing crossed (encoded (now bytes) (now out)) ≡ ((x, place′, count′), out′)
+  pub siengulot-decode : Says C.siengulot_decode.ended C.siengulot_decode.Reads.Post
+      λ κs (words, (out, (place, (count, _)))) x (_, (out′, (place′, (count′, _)))).
+      crossing crossed (decoded (now words) (now out)) ≡ ((x, place′, count′), out′)

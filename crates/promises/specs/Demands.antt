@@ -19,6 +19,10 @@ use Rattle.sender.specs.Answers.{sentMessage, sentPlan}
 use Rattle.stored.specs.Stored.{joined, dropped}
 use Rattle.stored.specs.Answers.{readPlan}
 use Rattle.stored.specs.Shown.{SameWave}
+use Rattle.halfcells.specs.HalfCells.{wordsOf, bytesOf}
+use Rattle.halfcells.specs.Words.{TableIsTheRule}
+use Rattle.halfcells.specs.Answers.{encoded, decoded}
+use Rattle.halfcells.specs.Shown.{WordsAreTheWave, EncodedDecodes, DecodedEncodes}
 use Rattle.line.specs.Smooth.{smooth as smoothing}
 use Rattle.line.specs.Warp.{warp as warping}
 use Rattle.line.specs.Settle.{settle as settling}
@@ -121,6 +125,10 @@ pub record Demand1 : Type 0 where
       (λ number place. (refused number place, output))
   pub write-capture : (k n Q : ℕ) (reads output : List ℕ)
       → Fills (Good.writeCapture k n Q reads output) (captureOf k n Q reads) output (written k n Q reads output)
+  pub encode : (bytes output : List ℕ)
+      → Fills (Good.encode bytes output) (wordsOf bytes) output (encoded bytes output)
+  pub decode : (words output : List ℕ)
+      → Fills (Good.decode words output) (bytesOf words) output (decoded words output)
   -- the lines of a page, each at the front of a lent output
   pub put-heading : (output : List ℕ) → Puts headingLine output
   pub put-row : (place n : ℕ) (bits output : List ℕ) → Puts (eventLine place (row (take n (unpacked 8 bits)))) output
@@ -153,6 +161,11 @@ pub record Demand2 : Type 0 where
   -- captures both ways
   pub reads-back : WrittenReadsBack
   pub writes-back : ReadWritesBack
+  -- words of half cells: the table is the rule, held on the line they are the message's wave, and they go both ways
+  pub words-table : TableIsTheRule
+  pub words-wave : WordsAreTheWave
+  pub words-decode : EncodedDecodes
+  pub words-encode : DecodedEncodes
   -- the rows program, line after line, writes the whole of its output
   pub writes-rows : Whole
 
@@ -174,7 +187,7 @@ pub record Demand3Met : Type 0 where
   pub every-stored-plan : EveryStoredPlan
   pub stored-plans : StoredPlansHold
 
--- D1, D2, D3: what the contracts say, and the three demands, the first also of the seventeen entry points for C
+-- D1, D2, D3: what the contracts say, and the three demands, the first also of the nineteen entry points for C
 pub record Demands : Type 0 where
   pub contracts : ByContract
   pub one-meaning : OneMeaning

@@ -1,4 +1,4 @@
--- Demand 1 of the seventeen entry points for C. The tests are those of the operations. What crosses is a number, 0 for
+-- Demand 1 of the nineteen entry points for C. The tests are those of the operations. What crosses is a number, 0 for
 -- no refusal, and what is left behind each pointer.
 use Prim.Native.Nat.{ℕ}
 use mathlib.Core.List.{List, [], _∷_}
@@ -12,6 +12,8 @@ use Rattle.sender.specs.Sending.{wave, planWave, rowsOf}
 use Rattle.sender.specs.Answers.{sentMessage, sentPlan}
 use Rattle.stored.specs.Stored.{joined, dropped}
 use Rattle.stored.specs.Answers.{readPlan}
+use Rattle.halfcells.specs.HalfCells.{wordsOf, bytesOf}
+use Rattle.halfcells.specs.Answers.{encoded, decoded}
 use Rattle.line.specs.Smooth.{smooth as smoothing}
 use Rattle.line.specs.Warp.{warp as warping}
 use Rattle.line.specs.Settle.{settle as settling}
@@ -113,3 +115,7 @@ pub record Demand1FromC : Type 0 where
   pub capture-write : (k n Q : ℕ) (reads output : List ℕ)
       → FillsFromC (Good.writeCapture k n Q reads output) (captureOf k n Q reads) output
       (crossing crossed (written k n Q reads output))
+  pub encode : (bytes output : List ℕ)
+      → FillsFromC (Good.encode bytes output) (wordsOf bytes) output (crossing crossed (encoded bytes output))
+  pub decode : (words output : List ℕ)
+      → FillsFromC (Good.decode words output) (bytesOf words) output (crossing crossed (decoded words output))

@@ -7,13 +7,15 @@ use lib.Dec.{eqb, leb}
 use lib.ListN.{length, drop}
 use Rattle.measure.specs.Choose.{choose, between}
 use Rattle.measure.specs.Ranges.{subcell, settling as settlingCount, sampling, cycleLength, quiet, padMost, bitsMost}
-use Rattle.measure.specs.Ranges.{rowBits, rowsMost, entriesMost, captureMost, inputMost, rowSettingsFit}
+use Rattle.measure.specs.Ranges.{rowBits, rowsMost, entriesMost, captureMost, inputMost, wordsMost, rowSettingsFit}
 use Rattle.measure.specs.Lists.{firstAbove, someAbove}
 use Rattle.settings.specs.Margins.{zeroOrMore}
 use Rattle.settings.specs.Pick.{least, pickable}
 use Rattle.sender.specs.Sending.{wave, planWave, rowsOf}
 use Rattle.sender.specs.Answers.{fitting, padded}
 use Rattle.stored.specs.Stored.{joined}
+use Rattle.halfcells.specs.HalfCells.{wordsOf, firstNoEdge, bytesOf}
+use Rattle.halfcells.specs.Answers.{someNoEdge}
 use Rattle.line.specs.Smooth.{smooth as smoothing}
 use Rattle.line.specs.Warp.{warp as warping}
 use Rattle.line.specs.Settle.{settle as settling}
@@ -305,6 +307,18 @@ writeCapture k n Q reads output =
     ∷ entries 1 reads
     ∷ room (length (captureOf k n Q reads)) output
     ∷ []
+
+-- R70: encoding to words of half cells
+abbrev pub encode : (bytes output : List ℕ) → List Test
+encode bytes output = limit wordsMost bytes ∷ room (length (wordsOf bytes)) output ∷ []
+
+-- R11: each cell of words has an edge at its start
+abbrev pub edges : (words : List ℕ) → Test
+edges words = record { number = 11; place = firstNoEdge words; failed = someNoEdge words }
+
+-- R71: decoding them
+abbrev pub decode : (words output : List ℕ) → List Test
+decode words output = limit wordsMost words ∷ edges words ∷ room (length (bytesOf words)) output ∷ []
 
 -- E5, E6: the rows program takes so many bytes, and these have to be a capture
 abbrev pub rows : (input : List ℕ) → List Test

@@ -17,6 +17,7 @@ use Rattle.measure.proofs as Measure
 use Rattle.settings.proofs as Settings
 use Rattle.sender.proofs as Sender
 use Rattle.stored.proofs as Stored
+use Rattle.halfcells.proofs as HalfCells
 use Rattle.line.proofs as Line
 use Rattle.counted.proofs as Counted
 use Rattle.board.proofs as Board
@@ -63,6 +64,9 @@ pub record OneMeaning : Type 0 where
   pub pads-in-range : One Sender.pads_in_range.ended Sender.pads_in_range.Reads.Asked Sender.pads_in_range.Reads.Post
   -- stored
   pub read-plan : One Stored.read_plan.ended Stored.read_plan.Reads.Asked Stored.read_plan.Reads.Post
+  -- halfcells
+  pub encode : One HalfCells.encode.ended HalfCells.encode.Reads.Asked HalfCells.encode.Reads.Post
+  pub decode : One HalfCells.decode.ended HalfCells.decode.Reads.Asked HalfCells.decode.Reads.Post
   -- line
   pub smooth : One Line.smooth.ended Line.smooth.Reads.Asked Line.smooth.Reads.Post
   pub warp : One Line.warp.ended Line.warp.Reads.Asked Line.warp.Reads.Post
@@ -116,6 +120,8 @@ pub record OneMeaning : Type 0 where
       One C.siengulot_capture_read.ended C.siengulot_capture_read.Reads.Asked C.siengulot_capture_read.Reads.Post
   pub siengulot-capture-write :
       One C.siengulot_capture_write.ended C.siengulot_capture_write.Reads.Asked C.siengulot_capture_write.Reads.Post
+  pub siengulot-encode : One C.siengulot_encode.ended C.siengulot_encode.Reads.Asked C.siengulot_encode.Reads.Post
+  pub siengulot-decode : One C.siengulot_decode.ended C.siengulot_decode.Reads.Asked C.siengulot_decode.Reads.Post
   -- The exceptions: the held reader's `capture::held::new`, `capture::held::place`, `capture::held::next` and
   -- `capture::held::advance` take or hand on a struct that holds a reference. They are proved by hand, and for such a
   -- function the check makes no clause that others can name. These lines repeat their equations.

@@ -24,7 +24,7 @@ pub fn flag(yes: bool) -> usize
 }
 
 // A result of so many entries.
-fn gives(length: usize, place: &mut usize, count: &mut usize) -> usize
+pub fn gives(length: usize, place: &mut usize, count: &mut usize) -> usize
     ensures { λ x. ⌜ crossed (given length) ≡ (x, now (place .exit), now (count .exit)) ⌝ }
 {
     *place = 0;

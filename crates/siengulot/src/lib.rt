@@ -8,6 +8,7 @@ mod picking;
 mod plans;
 mod receiver;
 mod state;
+mod words;
 
 pub use captures::siengulot_capture_check;
 pub use captures::siengulot_capture_read;
@@ -26,3 +27,5 @@ pub use receiver::siengulot_fresh;
 pub use receiver::siengulot_listen;
 pub use receiver::siengulot_step;
 pub use receiver::siengulot_well_formed;
+pub use words::siengulot_decode;
+pub use words::siengulot_encode;

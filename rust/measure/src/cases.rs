@@ -4,6 +4,7 @@ use crate::inputs::{self, A, B, K, LEAD, N, Q};
 use crate::library::*;
 use crate::numbers::{at, numbers_of, NUMBERS};
 use crate::picking;
+use crate::words;
 use siengulot_plain::board::{Event, Listener, Receiver, Report};
 use siengulot_plain::{capture, counted, line, sender, settings, stored};
 
@@ -85,6 +86,41 @@ pub fn all() -> Vec<Case> {
         case("send, 5/13 cells", "cycle", "1.5", [100, 1_000], send),
         case("plan, 5/13 cells, n 80", "cycle", "1.5", [66, 660], plan),
         case("stored plan read", "row", "1.5", [100, 1_000], read_plan),
+        case(
+            "encode, Rust by the rule",
+            "byte",
+            "–",
+            [100, 1_000],
+            words::encode_beside_the_rule,
+        ),
+        case(
+            "encode, Rust with the same table",
+            "byte",
+            "1.0",
+            [100, 1_000],
+            words::encode_beside_the_table,
+        ),
+        case(
+            "encode, 16 bytes a call, Rust with the same table",
+            "byte",
+            "–",
+            [1_000, 10_000],
+            words::short_beside_the_table,
+        ),
+        case(
+            "decode, Rust by the rule",
+            "byte",
+            "–",
+            [100, 1_000],
+            words::decode_beside_the_rule,
+        ),
+        case(
+            "decode, Rust by whole words too",
+            "byte",
+            "1.0",
+            [100, 1_000],
+            words::decode_beside_whole_words,
+        ),
         case("smooth, g 1", "cycle", "1.1", SIZES, |size| smooth(1, size)),
         case("smooth, g 8", "cycle", "1.1", SIZES, |size| smooth(8, size)),
         case("smooth, g 64", "cycle", "1.1", SIZES, |size| {

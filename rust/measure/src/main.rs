@@ -12,6 +12,7 @@ mod library;
 #[path = "../../differential/numbers.rs"]
 mod numbers;
 mod picking;
+mod words;
 
 use cases::{Lent, Work};
 use siengulot_plain::settings::MAX_ROWS;

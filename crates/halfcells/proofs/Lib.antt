@@ -1,0 +1,11 @@
+pub mod Bits
+pub mod Computed
+pub mod TableHolds
+pub mod CasesHold
+pub mod Halves
+pub mod Edges
+pub mod ReadWhole
+pub mod WordLaws
+pub mod ListLaws
+pub mod Shown
+pub mod RoundTrips
