@@ -39,7 +39,7 @@ enum {
     SIENGULOT_SETTLING_MOST = 64,
     SIENGULOT_SAMPLING_LEAST = 1, /* k, in read cycles */
     SIENGULOT_SAMPLING_MOST = 511,
-    SIENGULOT_CYCLE_LEAST = 1, /* w and r, in time units */
+    SIENGULOT_CYCLE_LEAST = 1, /* w and r, and the length of a cycle or a read, in time units */
     SIENGULOT_CYCLE_MOST = 65535,
     SIENGULOT_PAD_MOST = 65535, /* a pad, in writer cycles */
     SIENGULOT_BITS_LEAST = 1,   /* n of a row; the counted receiver takes 0 too */
@@ -47,7 +47,7 @@ enum {
     SIENGULOT_QUIET_LEAST = 2,  /* Q, in reads */
     SIENGULOT_QUIET_MOST = 8191,
     SIENGULOT_ROWS_MOST = 1024,       /* rows of a plan */
-    SIENGULOT_ENTRIES_MOST = 1048576, /* entries of a wave, of reads, of choices */
+    SIENGULOT_ENTRIES_MOST = 1048576, /* entries of a wave, of reads, of choices, of lengths */
     SIENGULOT_CAPTURE_MOST = 1048583, /* bytes of a capture */
     SIENGULOT_WORDS_MOST = 128        /* bytes of a message that goes out as words of half cells, and such words */
 };
@@ -58,8 +58,8 @@ enum { SIENGULOT_LOW = 0, SIENGULOT_HIGH = 1, SIENGULOT_UNKNOWN = 2 };
 /* The numbers of the refusals. */
 enum siengulot_refusal {
     SIENGULOT_NO_REFUSAL = 0,
-    SIENGULOT_SETTING = 1, /* a setting or a level in force out of range, a plan whose lists do not fit, a row of a stored plan
-                              whose lead becomes too long, a receiver that is not well formed */
+    SIENGULOT_SETTING = 1, /* a setting, a length or a level in force out of range, a plan whose lists do not fit, a row of a
+                              stored plan whose lead becomes too long, a receiver that is not well formed */
     SIENGULOT_ENTRY = 2,   /* an entry that is not of the kind taken; `place` is where the first such entry stands */
     SIENGULOT_LIMIT = 3,   /* too long a list, lent or to be given */
     SIENGULOT_ROOM = 4,    /* too little room in a lent output */
@@ -210,6 +210,22 @@ size_t siengulot_smooth(size_t g, const uint8_t *wave, size_t wave_length, uint8
  */
 size_t siengulot_warp(size_t w, size_t r, size_t p, const uint8_t *wave, size_t wave_length, uint8_t *out, size_t out_length, size_t *place,
                       size_t *count);
+
+/*
+ * Pass 2 by lengths, for clocks that wander: writer cycle i is cycles[i] time units long and read j reads[j], and the first read starts at p. Gives
+ * the reads of `wave` at the front of `out`, and in `count` how many there are. The wave ends with the last cycle that has both a level and a
+ * length; there is a read as long as there is a length for it and it ends by then, so there are never more than reads_length.
+ * Refuses with
+ *   1  w1, w2, r1 or r2 out of 1 to 65,535, w1 above w2, r1 above r2, an entry of `cycles` out of w1 to w2 or of `reads` out of r1 to r2, or p not
+ *      below cycles[0] (where cycles_length is 0, p may be anything);
+ *   3  more than 1,048,576 entries of `wave`, `cycles` or `reads`;
+ *   2  an entry of `wave` above 2, at `place`;
+ *   4  `out` shorter than the reads.
+ * Leaves with a refusal `out` as it was, and 0 in `count`.
+ */
+size_t siengulot_warp_by_lengths(size_t w1, size_t w2, size_t r1, size_t r2, size_t p, const size_t *cycles, size_t cycles_length,
+                                 const size_t *reads, size_t reads_length, const uint8_t *wave, size_t wave_length, uint8_t *out,
+                                 size_t out_length, size_t *place, size_t *count);
 
 /*
  * Pass 3, settle. Gives `reads` at the front of `out` with each unknown read made the next of `choices`, or low once these have run out, and in

@@ -512,6 +512,80 @@ impl Bench {
         }
     }
 
+    pub fn warp_by_lengths(
+        &mut self,
+        [w1, w2, r1, r2, p]: [usize; 5],
+        cycles: &[usize],
+        reads: &[usize],
+        wave: &[u8],
+        room: Room,
+    ) {
+        if !self.tries("warp_by_lengths") {
+            return;
+        }
+        let wide = |list: &[usize]| -> Vec<u64> { list.iter().map(|&x| x as u64).collect() };
+        let (written, read) = (wide(cycles), wide(reads));
+        let plain = |out: &mut [u8]| {
+            let (w, r) = ([w1 as u64, w2 as u64], [r1 as u64, r2 as u64]);
+            line::warp_by_lengths(w, r, p as u64, &written, &read, wave, out)
+        };
+        let result = plain(&mut self.scratch);
+        let room = room.of(result.unwrap_or(0));
+        let (mut lent, out, [place, count]) = self.lend(room);
+        let mut expected = lent.clone();
+        let answer = plain(expected.part(out));
+        let number = told(&mut expected, place, count, answer);
+        let list = self.edges[0].lend(wave, &mut self.rng);
+        let cycle_list = self.edges[1].lend(cycles, &mut self.rng);
+        let read_list = self.edges[2].lend(reads, &mut self.rng);
+        let got = unsafe {
+            siengulot_warp_by_lengths(
+                w1,
+                w2,
+                r1,
+                r2,
+                p,
+                cycle_list,
+                cycles.len(),
+                read_list,
+                reads.len(),
+                list,
+                wave.len(),
+                lent.bytes_pointer(out),
+                room,
+                lent.pointer(place),
+                lent.pointer(count),
+            )
+        };
+        self.compare("warp_by_lengths", (got, &lent), (number, &expected), || {
+            format!(
+                "{:?} {:?} {:?} {:?} room {}",
+                [w1, w2, r1, r2, p],
+                cycles,
+                reads,
+                shown(wave),
+                room
+            )
+        });
+        if got == 0 {
+            let things = [
+                ("fewer lengths than levels", cycles.len() < wave.len()),
+                ("fewer levels than lengths", wave.len() < cycles.len()),
+                ("no length and any p", cycles.is_empty() && p > 65_535),
+                ("a read for each length", Ok(reads.len()) == answer),
+                (
+                    "a length for no read",
+                    answer.map_or(false, |count| 0 < count && count < reads.len()),
+                ),
+            ];
+            for (thing, met) in things {
+                if met {
+                    self.meets("warp_by_lengths", thing);
+                }
+            }
+        }
+    }
+
     pub fn settle(&mut self, reads: &[u8], choices: &[u8], room: Room) {
         if !self.tries("settle") {
             return;

@@ -237,6 +237,51 @@ impl Rng {
         }
     }
 
+    /// The least and the greatest length of a cycle, now and then out of range or out of order.
+    pub fn bounds(&mut self) -> [usize; 2] {
+        let low = self.within(1, 12);
+        let high = low + self.below(12);
+        match self.below(24) {
+            0 => [self.out_of(1, CYCLE_MOST), high],
+            1 => [low, self.out_of(1, CYCLE_MOST)],
+            2 => [high + 1, low],
+            3 | 4 => [1, CYCLE_MOST],
+            5 | 6 => [self.within(1, CYCLE_MOST), CYCLE_MOST],
+            7..=10 => [90, 110],
+            11..=13 => [low, low],
+            _ => [low, high],
+        }
+    }
+
+    /// Lengths within bounds, and now and then some that are not.
+    pub fn lengths(&mut self, [least, most]: [usize; 2], count: usize) -> Vec<usize> {
+        let low = least.max(1).min(CYCLE_MOST);
+        let high = most.max(low).min(CYCLE_MOST);
+        let mut lengths: Vec<usize> = (0..count)
+            .map(|_| match self.below(10) {
+                0 => low,
+                1 => high,
+                _ => self.within(low, high),
+            })
+            .collect();
+        if count > 0 && self.one_in(30) {
+            let place = self.below(count);
+            lengths[place] = self.out_of(low, high);
+        }
+        lengths
+    }
+
+    /// How many lengths there are for so many levels: mostly as many, else fewer, more, or any number.
+    pub fn about(&mut self, levels: usize) -> usize {
+        match self.below(8) {
+            0 => 0,
+            1 => levels / 2,
+            2 => levels + self.below(9),
+            3 => self.length(),
+            _ => levels,
+        }
+    }
+
     /// Settings near those that are accepted, so that a margin of exactly 0 and the next one below it come often.
     pub fn judged(&mut self) -> [usize; 8] {
         if self.one_in(3) {

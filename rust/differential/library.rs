@@ -112,6 +112,24 @@ extern "C" {
         count: *mut usize,
     ) -> usize;
 
+    pub fn siengulot_warp_by_lengths(
+        w1: usize,
+        w2: usize,
+        r1: usize,
+        r2: usize,
+        p: usize,
+        cycles: *const usize,
+        cycles_length: usize,
+        reads: *const usize,
+        reads_length: usize,
+        wave: *const u8,
+        wave_length: usize,
+        out: *mut u8,
+        out_length: usize,
+        place: *mut usize,
+        count: *mut usize,
+    ) -> usize;
+
     pub fn siengulot_settle(
         reads: *const u8,
         reads_length: usize,

@@ -24,7 +24,7 @@ const ROUNDS: u64 = 100_000;
 const TIME: Duration = Duration::from_secs(45);
 
 /// What each operation has to meet: the numbers it returns (of `well_formed`, 0 for no and 1 for yes), and cases that are easy to miss.
-const MUST: [(&str, &[&str], &[&str]); 19] = [
+const MUST: [(&str, &[&str], &[&str]); 20] = [
     ("judge", &["0", "1"], &["yes", "no", "a margin of 0"]),
     ("judge_quiet", &["0", "1"], &["yes", "no", "a margin of 0"]),
     (
@@ -60,6 +60,17 @@ const MUST: [(&str, &[&str], &[&str]); 19] = [
     ),
     ("smooth", &["0", "1", "2", "3", "4"], &[]),
     ("warp", &["0", "1", "2", "3", "4"], &["3 by its reads"]),
+    (
+        "warp_by_lengths",
+        &["0", "1", "2", "3", "4"],
+        &[
+            "fewer lengths than levels",
+            "fewer levels than lengths",
+            "no length and any p",
+            "a read for each length",
+            "a length for no read",
+        ],
+    ),
     ("settle", &["0", "2", "3", "4"], &["2 by a choice"]),
     (
         "counted",
@@ -121,6 +132,7 @@ fn main() {
             pick_corners(&mut bench);
             each_word(&mut bench);
             smooth_corners(&mut bench);
+            length_corners(&mut bench);
         }
         if rounds == 200 {
             longest_rows(&mut bench);
@@ -188,6 +200,22 @@ fn smooth_corners(bench: &mut Bench) {
     }
 }
 
+/// A length at an end of its bounds, and beside it, at each place of either list; the wave has a level for the first two cycles alone.
+fn length_corners(bench: &mut Bench) {
+    for [least, most] in [[1, 1], [3, 5], [1, 65_535], [65_535, 65_535]] {
+        for length in [least - 1, least, most, most + 1] {
+            for place in 0..3 {
+                let good = [least; 3];
+                let mut lengths = good;
+                lengths[place] = length;
+                let settings = [least, most, least, most, 0];
+                bench.warp_by_lengths(settings, &lengths, &good, &[1, 0], FULL);
+                bench.warp_by_lengths(settings, &good, &lengths, &[1, 0], FULL);
+            }
+        }
+    }
+}
+
 /// Every operation on input of its own.
 fn round(bench: &mut Bench) {
     let [a, b, g, k, w, r, q, p1] = bench.rng.judged();
@@ -236,6 +264,20 @@ fn round(bench: &mut Bench) {
     let wave = bench.rng.list(length, 2);
     let room = Room::random(&mut bench.rng);
     bench.warp([w, r, p], &wave, room);
+
+    let ([w1, w2], [r1, r2]) = (bench.rng.bounds(), bench.rng.bounds());
+    let length = bench.rng.length();
+    let wave = bench.rng.list(length, 2);
+    let count = bench.rng.about(length);
+    let cycles = bench.rng.lengths([w1, w2], count);
+    let count = bench.rng.about(length) * bench.rng.pick(&[1, 1, 2, 9]);
+    let reads = bench.rng.lengths([r1, r2], count);
+    let p = match cycles.first() {
+        Some(&first) => bench.rng.phase(first),
+        None => bench.rng.out_of(0, 9),
+    };
+    let room = Room::random(&mut bench.rng);
+    bench.warp_by_lengths([w1, w2, r1, r2, p], &cycles, &reads, &wave, room);
 
     let length = bench.rng.length();
     let reads = bench.rng.list(length, 2);
@@ -417,6 +459,14 @@ fn longest_lists(bench: &mut Bench) {
         // One read over all of the cycles, and over as many as it can take.
         bench.warp([1, 65_535, 0], &vec![1; length], FULL);
         bench.warp([1, 65_535, 0], &reads, FULL);
+        let (one, most) = (vec![1; length], vec![65_535; length]);
+        let [w1, w2, r1, r2] = [1, 65_535, 1, 65_535];
+        bench.warp_by_lengths([w1, w2, r1, r2, 0], &one, &most[..20], &levels, FULL);
+        bench.warp_by_lengths([w1, w2, r1, r2, 65_534], &most, &most, &reads, FULL);
+        bench.warp_by_lengths([w1, w2, r1, r2, 0], &most, &one, &reads, SHORT);
+        bench.warp_by_lengths([w1, w2, r1, r2, 0], &one, &[1], &[1, 0, 3], FULL);
+        bench.warp_by_lengths([w1, w2, r1, r2, 0], &[1, 1], &one, &[1, 0], FULL);
+        bench.warp_by_lengths([w1, w2, r1, r2, 0], &[1, 1], &[1], &bad, FULL);
         // Each read a run of its own: the longest capture.
         let turns: Vec<u8> = (0..length).map(|i| (i % 2) as u8).collect();
         bench.capture_write([511, 1_024, 8_191], &turns, FULL);
@@ -490,6 +540,7 @@ fn vast(bench: &mut Bench) {
         bench.encode(list, room);
         bench.smooth(1, list, room);
         bench.warp([4, 4, 1], list, room);
+        bench.warp_by_lengths([4, 4, 4, 4, 1], &[4], &[4], list, room);
         bench.settle(list, &[1], room);
         bench.settle(&[2], list, room);
         bench.counted([3, 2, 1], list, room);

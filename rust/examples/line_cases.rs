@@ -77,6 +77,22 @@ fn operate(case: &Case, one: &[u8], two: &[u8], out: &mut [u8]) -> (String, usiz
             let [w, r, p] = case.numbers(["w", "r", "p"]);
             made(line::warp(w as u64, r as u64, p as u64, one, out))
         }
+        "warp_by_lengths" => {
+            let [w1, w2, r1, r2, p] = case.numbers(["w", "to", "r", "to", "p"]);
+            let lengths = |place| -> Vec<u64> {
+                let list = case.number_list(place).into_iter();
+                list.map(|length| length as u64).collect()
+            };
+            made(line::warp_by_lengths(
+                [w1 as u64, w2 as u64],
+                [r1 as u64, r2 as u64],
+                p as u64,
+                &lengths(1),
+                &lengths(2),
+                one,
+                out,
+            ))
+        }
         "settle" => {
             let [] = case.numbers([]);
             made(line::settle(one, two, out))
@@ -107,13 +123,13 @@ fn main() {
     let mut out = Vec::new();
     let mut two = Vec::new();
     for case in common::cases() {
-        // The pads of a plan are numbers that are no bytes.
+        // The pads of a plan are numbers that are no bytes, and so are lengths.
         let one = match case.operation() {
             "read_plan" => Vec::new(),
             _ => case.list(0, &out),
         };
         match (case.operation(), case.text(1)) {
-            ("send_plan" | "read_plan", _) => two.clear(),
+            ("send_plan" | "read_plan" | "warp_by_lengths", _) => two.clear(),
             (_, "kept") => {}
             _ => two = case.list(1, &out),
         }

@@ -74,6 +74,84 @@ pub fn warp(w: u64, r: u64, p: u64, cycles: &[u8], out: &mut [u8]) -> Result<usi
     Ok(reads)
 }
 
+/// Pass 2 by lengths: reads the writer's cycles, each of a length of its own from w1 to w2, with reads of a length of
+/// their own from r1 to r2, and returns the number of reads.
+///
+/// The wave ends with the last cycle that has both a level and a length. There is a read as long as there is a length
+/// for it and it ends by then.
+///
+/// Refuses with 1 for a bound out of range or out of order, a length out of its bounds, or a phase that is not below the
+/// first cycle's length, 3 for too many cycles or lengths, 2 for an entry that is neither a level nor unknown, 4 for too
+/// short an output.
+pub fn warp_by_lengths(
+    [w1, w2]: [u64; 2],
+    [r1, r2]: [u64; 2],
+    p: u64,
+    cycles: &[u64],
+    reads: &[u64],
+    wave: &[u8],
+    out: &mut [u8],
+) -> Result<usize, Refusal> {
+    need_setting(
+        cycle_fits(w1)
+            && cycle_fits(w2)
+            && w1 <= w2
+            && cycle_fits(r1)
+            && cycle_fits(r2)
+            && r1 <= r2
+            && cycles.iter().all(|cycle| (w1..=w2).contains(cycle))
+            && reads.iter().all(|read| (r1..=r2).contains(read))
+            && cycles.first().map_or(true, |&first| p < first),
+    )?;
+    need_size(wave.len(), MAX_LIST)?;
+    need_size(cycles.len(), MAX_LIST)?;
+    need_size(reads.len(), MAX_LIST)?;
+    need_entries(wave, UNKNOWN)?;
+
+    // The shorter list ends the wave. At most 2^20 cycles of less than 2^16 units each.
+    let both = wave.len().min(cycles.len());
+    let (wave, cycles) = (&wave[..both], &cycles[..both]);
+    let end: u64 = cycles.iter().sum();
+    let count = if both == 0 {
+        0
+    } else {
+        let mut time = p;
+        let in_time = |&length: &u64| {
+            time += length;
+            time <= end
+        };
+        reads.iter().copied().take_while(in_time).count()
+    };
+    let out = need_output(out, count)?;
+
+    // The first cycle that shares time with the next read, and when it starts.
+    let mut first = 0;
+    let mut start = 0;
+    let mut until = p;
+    for (read, length) in out.iter_mut().zip(reads) {
+        until += length;
+        let level = wave[first];
+        let mut seen = level;
+        let mut over = start + cycles[first];
+        // The next cycle shares time with the read as well if it starts before the read ends.
+        while over < until {
+            first += 1;
+            start = over;
+            over += cycles[first];
+            if wave[first] != level {
+                seen = UNKNOWN;
+            }
+        }
+        // A cycle that is over with the read only touches the next one.
+        if over == until {
+            first += 1;
+            start = over;
+        }
+        *read = seen;
+    }
+    Ok(count)
+}
+
 /// Pass 3: gives each unknown read the next choice, or low once there is none, and returns
 /// the number of reads.
 ///

@@ -159,6 +159,8 @@ static void line(void)
     static const uint8_t smoothed[13] = {1, 1, 2, 0, 2, 1, 1, 2, 0, 0, 0, 0, 2};
     static const uint8_t reads[12] = {1, 2, 2, 2, 2, 1, 2, 2, 0, 0, 0, 2};
     static const uint8_t choices[4] = {1, 0, 0, 1}, bad[4] = {1, 0, 0, 2};
+    static const uint8_t levels[6] = {1, 1, 2, 0, 0, 1};
+    static const size_t cycles[6] = {3, 2, 4, 2, 3, 4}, lengths[7] = {2, 5, 1, 4, 3, 1, 1};
 
     lend();
     expect_answer("smooth", siengulot_smooth(1, wave, 13, out, ROOM, &place, &count), 0, 0, 13);
@@ -181,6 +183,20 @@ static void line(void)
     expect_answer("warp of p not below w", siengulot_warp(4, 4, 4, smoothed, 13, out, ROOM, &place, &count), SIENGULOT_SETTING, 0, 0);
     expect_answer("warp into no room", siengulot_warp(4, 4, 1, smoothed, 13, out, 11, &place, &count), SIENGULOT_ROOM, 0, 0);
     expect_out("warp writes though it refuses", "");
+
+    lend();
+    expect_answer("warp by lengths", siengulot_warp_by_lengths(2, 4, 1, 5, 1, cycles, 6, lengths, 7, levels, 6, out, ROOM, &place, &count), 0, 0, 7);
+    expect_out("reads of lengths that wander", "1220211");
+    lend();
+    expect_answer("warp by four lengths", siengulot_warp_by_lengths(2, 4, 1, 5, 1, cycles, 4, lengths, 7, levels, 6, out, 3, &place, &count), 0, 0, 3);
+    expect_out("reads of four lengths", "122");
+    lend();
+    expect_answer("warp by no length", siengulot_warp_by_lengths(2, 4, 1, 5, 99999, cycles, 0, lengths, 7, levels, 6, out, ROOM, &place, &count), 0, 0, 0);
+    expect_answer("warp by a length above w2", siengulot_warp_by_lengths(2, 3, 1, 5, 1, cycles, 6, lengths, 7, levels, 6, out, ROOM, &place, &count),
+                  SIENGULOT_SETTING, 0, 0);
+    expect_answer("warp by lengths into no room", siengulot_warp_by_lengths(2, 4, 1, 5, 1, cycles, 6, lengths, 7, levels, 6, out, 6, &place, &count),
+                  SIENGULOT_ROOM, 0, 0);
+    expect_out("warp by lengths writes though it refuses", "");
 
     lend();
     expect_answer("settle", siengulot_settle(reads, 12, choices, 4, out, ROOM, &place, &count), 0, 0, 12);

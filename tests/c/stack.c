@@ -17,7 +17,7 @@ enum { STACK = 2 * 1024 * 1024, PAGE = 65536, LIST = SIENGULOT_ENTRIES_MOST, ROW
 
 static uint8_t high[LIST + 1], turns[LIST], unknown[LIST], mixed[LIST], bad[LIST], out[SIENGULOT_CAPTURE_MOST], bytes[SIENGULOT_CAPTURE_MOST];
 static uint16_t words[SIENGULOT_WORDS_MOST + 1], flat[SIENGULOT_WORDS_MOST], shorts[SIENGULOT_WORDS_MOST];
-static size_t pads[ROWS + 1], long_pads[ROWS + 1], joined[ROWS], dropped, summary[SIENGULOT_SUMMARY_NUMBERS], k, place, count, accepted, event, found, used;
+static size_t pads[ROWS + 1], long_pads[ROWS + 1], joined[ROWS], dropped, shortest[LIST + 1], longest[LIST], summary[SIENGULOT_SUMMARY_NUMBERS], k, place, count, accepted, event, found, used;
 static int64_t margins[5];
 static siengulot_receiver receiver;
 /* A receiver by its numbers; those that are not named are 0, and so are all bits. */
@@ -99,6 +99,19 @@ CALL(warp_entry, 2, siengulot_warp(4, 4, 1, bad, LIST, out, sizeof out, &place, 
 CALL(warp_limit, 3, siengulot_warp(4, 1, 1, high, LIST, out, sizeof out, &place, &count))
 CALL(warp_room, 4, siengulot_warp(4, 4, 1, high, LIST, out, 9, &place, &count))
 
+/* The same by lengths: reads of 65,535 time units over cycles of one, w1 1 and r2 65,535. */
+#define LENGTHS(cycles, cycles_length, reads, reads_length, wave, room)                                                                               \
+    siengulot_warp_by_lengths(1, 65535, 1, 65535, 0, cycles, cycles_length, reads, reads_length, wave, LIST, out, room, &place, &count)
+CALL(lengths_deepest, 0, LENGTHS(shortest, LIST, longest, LIST, high, sizeof out))
+CALL(lengths_mixed, 0, LENGTHS(shortest, LIST, longest, LIST, mixed, sizeof out))
+CALL(lengths_even, 0, LENGTHS(longest, LIST, longest, LIST, mixed, sizeof out))
+CALL(lengths_short, 0, LENGTHS(longest, LIST, shortest, LIST, mixed, sizeof out))
+CALL(lengths_none, 0, LENGTHS(shortest, 0, longest, LIST, mixed, sizeof out))
+CALL(lengths_setting, 1, siengulot_warp_by_lengths(2, 65535, 1, 65535, 0, shortest, LIST, longest, LIST, high, LIST, out, sizeof out, &place, &count))
+CALL(lengths_entry, 2, LENGTHS(shortest, LIST, longest, LIST, bad, sizeof out))
+CALL(lengths_limit, 3, LENGTHS(shortest, LIST + 1, longest, LIST, high, sizeof out))
+CALL(lengths_room, 4, LENGTHS(shortest, LIST, longest, LIST, high, 9))
+
 CALL(settle_most, 0, siengulot_settle(unknown, LIST, turns, LIST, out, sizeof out, &place, &count))
 CALL(settle_mixed, 0, siengulot_settle(mixed, LIST, turns, 9, out, sizeof out, &place, &count))
 CALL(settle_entry, 2, siengulot_settle(mixed, LIST, unknown, 9, out, sizeof out, &place, &count))
@@ -166,6 +179,9 @@ static const struct {
     {"siengulot_warp",
      {warp_deepest, warp_mixed, warp_unknown, warp_even, warp_short, warp_setting, warp_entry, warp_limit,
       warp_room}},
+    {"siengulot_warp_by_lengths",
+     {lengths_deepest, lengths_mixed, lengths_even, lengths_short, lengths_none, lengths_setting, lengths_entry, lengths_limit,
+      lengths_room}},
     {"siengulot_settle", {settle_most, settle_mixed, settle_entry, settle_limit, settle_room}},
     {"siengulot_counted",
      {counted_most, counted_mixed, counted_setting, counted_entry, counted_limit, counted_room, counted_ran_out}},
@@ -253,7 +269,10 @@ int main(void)
         bytes[i] = ((const uint8_t[]){0xFF, 0x03, 0x80, 0x08, 0xFF, 0x3F, 0x00})[i];
     }
     long_pads[ROWS - 1] = long_pads[ROWS] = SIENGULOT_PAD_MOST; /* the last row's lead becomes too long */
+    shortest[LIST] = 1;
     for (size_t i = 0; i < LIST; i++) {
+        shortest[i] = 1;
+        longest[i] = 65535;
         turns[i] = i % 2;
         mixed[i] = (i * i / 7 + i / 5) % 3 % 2;
     }

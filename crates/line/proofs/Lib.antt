@@ -19,3 +19,9 @@ pub mod WarpRun
 pub mod LineLaws
 pub mod Fronts
 pub mod KnownCycles
+pub mod WanderCasesHold
+pub mod WanderLaws
+pub mod WanderClocks
+pub mod LengthsFit
+pub mod WanderReads
+pub mod WanderBounds

@@ -61,7 +61,7 @@ module _ {starts reads : ℕ → ℕ} (clocks : Clocks starts reads) (levels : L
           before-this (suc m) after over = over m (omega arith) (omega arith)
 
   -- what the read looks at makes it what it should be
-  look-is : reads (suc j) ≤ starts (length levels) → ReadIs starts reads levels j (readAt starts reads levels j)
+  pub look-is : reads (suc j) ≤ starts (length levels) → ReadIs starts reads levels j (readAt starts reads levels j)
   look-is ends = record {
     same = λ x all.
         look-same starts (reads (suc j)) levels (length levels - firstLeft starts reads levels j)

@@ -1,12 +1,13 @@
 -- A loop that warps a wave read by read: so many reads are written, the rest are to come, and the next one begins with
 -- the first cycle left.
-use mathlib.Core.Path.{_≡_, refl, sym}
-use mathlib.Core.List.{List}
+use mathlib.Core.Path.{_≡_, refl, sym, _∙_}
+use mathlib.Core.List.{List, append-nil}
 use Prim.Native.Nat.{ℕ, suc, _+_, _-_, _<_, _≤_}
 use native.Mathlib.Nat.{zero-add, sub-zero}
 use native.Mathlib.Numerals.{add-one}
 use native.Mathlib.Omega.{arith}
-use lib.ListN.{length, drop, set}
+use lib.ListN.{length, take, drop, set}
+use lib.Seq.{length-take-le, take-at}
 use Rattle.measure.specs.Lists.{onto}
 use Rattle.measure.proofs.Wrote.{Wrote, wrote-none, wrote-more, wrote-all}
 use Rattle.line.specs.Warp.{look, dropped, warpBy}
@@ -63,3 +64,15 @@ module _ {starts reads : ℕ → ℕ} (clocks : Clocks starts reads) (levels : L
       (wrote-all _ _ _ _
       (rw (reads-over starts reads levels (starts (length levels)) (starts (length levels) - j) j late) at
       (run .wrote)) room)
+
+  -- so far, as many of the reads are written
+  pub run-some : (out₀ out : List ℕ) (first j : ℕ) → Run starts reads levels out₀ out first j → j ≤ length out₀
+      → onto (take j (warpBy starts reads levels)) out₀ ≡ out
+  run-some out₀ out first j run room =
+      let w = run .wrote in
+      let rest = readsFrom starts reads levels (starts (length levels)) (starts (length levels) - j) j in
+      let size : length (take j out) ≡ j = length-take-le j out (omega (arith, w .size)) in
+      let front : take j (warpBy starts reads levels) ≡ take j out = rw (w .front) (take-at (take j out) rest j size) in
+      sym
+      (wrote-all _ _ _ j
+      (record { front = front ∙ sym (append-nil (take j out)); back = w .back; size = w .size }) room)

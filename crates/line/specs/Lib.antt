@@ -6,5 +6,8 @@ pub mod Passes
 pub mod Sharing
 pub mod Looking
 pub mod Windows
+pub mod Wander
+pub mod WanderCases
+pub mod Running
 pub mod Answers
 pub mod Cases

@@ -1,6 +1,7 @@
 // The line model: the three passes that a wave goes through before it is read, each over bytes: 0 low, 1 high, 2
 // unknown.
 mod smoothing;
+mod wander;
 
 ghost use mathlib.Core.Path.{_≡_};
 ghost use mathlib.Core.Bool.{true};
@@ -26,6 +27,7 @@ use measure::SETTLING_MOST;
 use measure::TimeUnits;
 use measure::UNKNOWN;
 use measure::WriterCycles;
+pub use wander::warp_by_lengths;
 
 // What smooth answers.
 pub enum Smoothed {

@@ -1,7 +1,7 @@
 // Reading a stored plan.
 ghost use Prim.Native.Nat.{_≤_};
-use crate::sending::PADS;
-use crate::sending::count;
+use crate::numbers::MOST;
+use crate::numbers::count;
 use cases::reading;
 use cases::reading::Numbers;
 use cases::show;
@@ -28,7 +28,7 @@ fn read(leads: &[usize], trails: &[usize], out: &mut [usize]) {
 fn places(room: usize) -> usize
     ensures { λ x. ⌜ x ≤ 1025 ⌝ }
 {
-    if room < PADS { room } else { PADS }
+    if room < MOST { room } else { MOST }
 }
 
 // how many places the output has, and the leads and the trails
@@ -36,13 +36,13 @@ pub fn read_plan(case: &[u8], n: Numbers) -> usize {
     let from = 0;
     let first = reading::after(case, b'|');
     let second = reading::after(first, b'|');
-    let mut leads = [0usize; PADS];
-    let mut trails = [0usize; PADS];
+    let mut leads = [0usize; MOST];
+    let mut trails = [0usize; MOST];
     let rows = count(first);
     let ends = count(second);
     reading::number_list(reading::until(first, b'|'), &mut leads);
     reading::number_list(second, &mut trails);
-    let mut out = [9usize; PADS];
+    let mut out = [9usize; MOST];
     let room = places(n.n0);
     read(
         &leads[from..rows],

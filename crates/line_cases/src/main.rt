@@ -4,6 +4,7 @@
 mod counting;
 mod joining;
 mod judging;
+mod numbers;
 mod passing;
 mod sending;
 mod words;
@@ -22,7 +23,7 @@ const LIST: usize = ENTRIES_MOST + 1;
 // Runs the operation that a case names, and gives how many entries it has written.
 fn operate(case: &[u8], one: &[u8], two: &[u8], out: &mut [u8]) -> usize {
     let names =
-        b"judge judge_quiet send send_plan read_plan smooth warp settle count_bits encode decode ";
+        b"judge judge_quiet send send_plan read_plan smooth warp warp_by_lengths settle count_bits encode decode ";
     let n = reading::numbers_of(case);
     match reading::operation(case, names) {
         0 => judging::judge(n),
@@ -32,10 +33,11 @@ fn operate(case: &[u8], one: &[u8], two: &[u8], out: &mut [u8]) -> usize {
         4 => joining::read_plan(case, n),
         5 => passing::smooth(n, one, out),
         6 => passing::warp(n, one, out),
-        7 => passing::settle(one, two, out),
-        8 => counting::count_bits(n, one, out),
-        9 => words::encode(one, out),
-        10 => words::decode(one, out),
+        7 => passing::warp_by_lengths(case, n, one, out),
+        8 => passing::settle(one, two, out),
+        9 => counting::count_bits(n, one, out),
+        10 => words::encode(one, out),
+        11 => words::decode(one, out),
         _ => 0,
     }
 }

@@ -1,14 +1,11 @@
 // Sending a message, and a plan.
-ghost use Prim.Native.Nat.{_≤_};
+use crate::numbers::MOST;
+use crate::numbers::count;
 use cases::reading;
 use cases::reading::Numbers;
 use cases::show;
-use measure::ROWS_MOST;
 use measure::WriterCycles;
 use sender::Sent;
-
-// No list of pads is longer: one more than a plan may have.
-pub const PADS: usize = ROWS_MOST + 1;
 
 fn sent(answer: Sent) -> usize {
     match answer {
@@ -45,19 +42,11 @@ fn plan(n: Numbers, leads: &[usize], bits: &[u8], out: &mut [u8]) -> usize {
     ))
 }
 
-// How many pads a text has.
-pub fn count(text: &[u8]) -> usize
-    ensures { λ x. ⌜ x ≤ 1025 ⌝ }
-{
-    let mut pads = [0u8; PADS];
-    reading::list(text, &mut pads)
-}
-
 // a b n, and the bits and the leads
 pub fn send_plan(case: &[u8], n: Numbers, bits: &[u8], out: &mut [u8]) -> usize {
     let from = 0;
     let list = reading::after(reading::after(case, b'|'), b'|');
-    let mut leads = [0usize; PADS];
+    let mut leads = [0usize; MOST];
     let rows = count(list);
     reading::number_list(reading::until(list, b'>'), &mut leads);
     plan(n, &leads[from..rows], bits, out)

@@ -2,6 +2,7 @@
 use Rattle.stored.proofs.ShownHolds.{same-wave}
 use Rattle.line.proofs.Settling.{smooth-laws-hold}
 use Rattle.line.proofs.WarpLaws.{warp-laws-hold}
+use Rattle.line.proofs.WanderReads.{equal-lengths-warp}
 use Rattle.board.proofs.WellFormedStays.{every-step}
 use Rattle.capture.proofs.RoundTrips.{written-read-back, read-written-back}
 use Rattle.halfcells.proofs.TableHolds.{table-is-the-rule}
@@ -32,6 +33,7 @@ demands = record {
     stored = same-wave;
     smooths = smooth-laws-hold;
     line = warp-laws-hold;
+    equal-lengths = equal-lengths-warp;
     counts = operation-returns;
     picks = picked-counts;
     well-formed = every-step;

@@ -203,6 +203,11 @@ one-meaning = record {
     always = λ κs a. tt;
     once = λ κs a x y left right h h′. leaves read (λ l. (tt, (tt, (tt, (tt, (l, tt)))))) h h′;
   };
+  warp-by-lengths = record {
+    always = λ κs a. tt;
+    once = λ κs a x y left right h h′.
+        leaves read (λ l. (tt, (tt, (tt, (tt, (tt, (tt, (tt, (tt, (l, tt)))))))))) h h′;
+  };
   settle = record {
     always = λ κs a. tt;
     once = λ κs a x y left right h h′. leaves read (λ l. (tt, (tt, (l, tt)))) h h′;
@@ -304,6 +309,12 @@ one-meaning = record {
     once = λ κs a x y left right h h′.
         crosses (λ (p : (ℕ × ℕ × ℕ) × List ℕ). p .0 .0)
         (λ p. (tt, (tt, (tt, (tt, (p .1, (p .0 .1, (p .0 .2, tt)))))))) h h′;
+  };
+  siengulot-warp-by-lengths = record {
+    always = λ κs a. tt;
+    once = λ κs a x y left right h h′.
+        crosses (λ (p : (ℕ × ℕ × ℕ) × List ℕ). p .0 .0)
+        (λ p. (tt, (tt, (tt, (tt, (tt, (tt, (tt, (tt, (p .1, (p .0 .1, (p .0 .2, tt)))))))))))) h h′;
   };
   siengulot-settle = record {
     always = λ κs a. tt;

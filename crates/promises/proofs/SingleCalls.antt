@@ -21,8 +21,9 @@ use Rattle.halfcells.specs.HalfCells.{wordsOf, bytesOf}
 use Rattle.halfcells.specs.Answers.{encoded, decoded}
 use Rattle.line.specs.Smooth.{smooth as smoothing}
 use Rattle.line.specs.Warp.{warp as warping}
+use Rattle.line.specs.Wander.{warpByLengths as warpingByLengths}
 use Rattle.line.specs.Settle.{settle as settling}
-use Rattle.line.specs.Answers.{smoothed, warped, settled, timed}
+use Rattle.line.specs.Answers.{smoothed, warped, warpedByLengths, settled, timed, lengthsFit}
 use Rattle.counted.specs.Answers.{countedBits}
 use Rattle.board.specs.Rows.{row, broken}
 use Rattle.board.specs.Packed.{number, packed, unpacked}
@@ -59,8 +60,8 @@ picked a b g k w r answer p h =
     go false e = out-of-range e
 
 pub answered : Demand1
-unfolding judgement quietJudgement sentMessage sentPlan readPlan encoded decoded smoothed warped settled countedBits
-    begun wellFormed stepped listened checked readBack written output number packed
+unfolding judgement quietJudgement sentMessage sentPlan readPlan encoded decoded smoothed warped warpedByLengths settled
+    countedBits begun wellFormed stepped listened checked readBack written output number packed
 answered = record {
   judge = λ a b g k w r. within (inRange a b g k w r) 1 0 (done refl);
   judge-quiet = λ a b g k w r Q p1. within (inRange a b g k w r && quiet Q && leb p1 padMost) 1 0 (done refl);
@@ -91,6 +92,13 @@ answered = record {
       (past (limit entriesMost (warping w r p levels))
       (past (entries 2 levels)
       (laid (warping w r p levels) output))));
+  warp-by-lengths = λ w1 w2 r1 r2 p cycles reads levels output.
+      within (lengthsFit w1 w2 r1 r2 p cycles reads) 1 0
+      (past (limit entriesMost levels)
+      (past (limit entriesMost cycles)
+      (past (limit entriesMost reads)
+      (past (entries 2 levels)
+      (laid (warpingByLengths p cycles reads levels) output)))));
   settle = λ reads choices output.
       past (limit entriesMost reads)
       (past (limit entriesMost choices)
@@ -152,6 +160,8 @@ answered-from-c = record {
   read-plan = λ leads trails output. across (crossing joinedOver) (answered .read-plan leads trails output);
   smooth = λ g wave output. across (crossing crossed) (answered .smooth g wave output);
   warp = λ w r p wave output. across (crossing crossed) (answered .warp w r p wave output);
+  warp-by-lengths = λ w1 w2 r1 r2 p cycles reads wave output.
+      across (crossing crossed) (answered .warp-by-lengths w1 w2 r1 r2 p cycles reads wave output);
   settle = λ reads choices output. across (crossing crossed) (answered .settle reads choices output);
   counted = λ k n level reads output. across (crossing crossed) (answered .count-bits k n level reads output);
   fresh = λ k n Q. across begunLent (answered .fresh k n Q);

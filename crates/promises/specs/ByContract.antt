@@ -16,7 +16,7 @@ use Rattle.settings.specs.Pick.{Picks, pickedSays}
 use Rattle.sender.specs.Answers.{padded, sentMessage, sentPlan, sentSays}
 use Rattle.stored.specs.Answers.{readPlan, joinedSays}
 use Rattle.halfcells.specs.Answers.{encoded, encodedSays, decoded, decodedSays}
-use Rattle.line.specs.Answers.{smoothed, smoothedSays, warped, settled, readSays}
+use Rattle.line.specs.Answers.{smoothed, smoothedSays, warped, warpedByLengths, settled, readSays}
 use Rattle.counted.specs.Answers.{countedBits, countedSays}
 use Rattle.board.specs.Rows.{row, broken}
 use Rattle.board.specs.Packed.{unpacked}
@@ -111,6 +111,11 @@ pub record ByContract : Type 0 where
   pub warp : Says Line.warp.ended Line.warp.Reads.Post
       λ κs (wave, (w, (r, (p, (out, _))))) x (_, (_, (_, (_, (out′, _))))).
       warped (w .0) (r .0) (p .0) (now wave) (now out) ≡ (readSays x, out′)
+  pub warp-by-lengths : Says Line.warp_by_lengths.ended Line.warp_by_lengths.Reads.Post
+      λ κs (wave, (w1, (w2, (r1, (r2, (p, (cycles, (reads, (out, _))))))))) x
+      (_, (_, (_, (_, (_, (_, (_, (_, (out′, _))))))))).
+      warpedByLengths (w1 .0) (w2 .0) (r1 .0) (r2 .0) (p .0) (now cycles) (now reads) (now wave) (now out)
+      ≡ (readSays x, out′)
   pub settle : Says Line.settle.ended Line.settle.Reads.Post
       λ κs (reads, (choices, (out, _))) x (_, (_, (out′, _))).
       settled (now reads) (now choices) (now out) ≡ (readSays x, out′)
@@ -208,6 +213,11 @@ pub record ByContract : Type 0 where
   pub siengulot-warp : Says C.siengulot_warp.ended C.siengulot_warp.Reads.Post
       λ κs (w, (r, (p, (wave, (out, (place, (count, _))))))) x (_, (_, (_, (_, (out′, (place′, (count′, _))))))).
       crossing crossed (warped w r p (now wave) (now out))
+      ≡ ((x, place′, count′), out′)
+  pub siengulot-warp-by-lengths : Says C.siengulot_warp_by_lengths.ended C.siengulot_warp_by_lengths.Reads.Post
+      λ κs (w1, (w2, (r1, (r2, (p, (cycles, (reads, (wave, (out, (place, (count, _))))))))))) x
+      (_, (_, (_, (_, (_, (_, (_, (_, (out′, (place′, (count′, _))))))))))).
+      crossing crossed (warpedByLengths w1 w2 r1 r2 p (now cycles) (now reads) (now wave) (now out))
       ≡ ((x, place′, count′), out′)
   pub siengulot-settle : Says C.siengulot_settle.ended C.siengulot_settle.Reads.Post
       λ κs (reads, (choices, (out, (place, (count, _))))) x (_, (_, (out′, (place′, (count′, _))))).

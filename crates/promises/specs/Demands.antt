@@ -25,10 +25,11 @@ use Rattle.halfcells.specs.Answers.{encoded, decoded}
 use Rattle.halfcells.specs.Shown.{WordsAreTheWave, EncodedDecodes, DecodedEncodes}
 use Rattle.line.specs.Smooth.{smooth as smoothing}
 use Rattle.line.specs.Warp.{warp as warping}
+use Rattle.line.specs.Wander.{warpByLengths as warpingByLengths, EqualLengthsWarp}
 use Rattle.line.specs.Settle.{settle as settling}
 use Rattle.line.specs.Settling.{SmoothLawsHold}
 use Rattle.line.specs.Sharing.{WarpLawsHold}
-use Rattle.line.specs.Answers.{smoothed, warped, settled}
+use Rattle.line.specs.Answers.{smoothed, warped, warpedByLengths, settled}
 use Rattle.counted.specs.Counted.{counted}
 use Rattle.counted.specs.Answers.{countedInto, countedBits}
 use Rattle.board.specs.Rows.{Settings, nothing, row, broken, fresh as freshState, next as nextState}
@@ -85,6 +86,9 @@ pub record Demand1 : Type 0 where
       → Fills (Good.smooth g wave output) (smoothing g wave) output (smoothed g wave output)
   pub warp : (w r p : ℕ) (wave output : List ℕ)
       → Fills (Good.warp w r p wave output) (warping w r p wave) output (warped w r p wave output)
+  pub warp-by-lengths : (w1 w2 r1 r2 p : ℕ) (cycles reads wave output : List ℕ)
+      → Fills (Good.warpByLengths w1 w2 r1 r2 p cycles reads wave output) (warpingByLengths p cycles reads wave) output
+      (warpedByLengths w1 w2 r1 r2 p cycles reads wave output)
   pub settle : (reads choices output : List ℕ)
       → Fills (Good.settle reads choices output) (settling reads choices) output (settled reads choices output)
   -- refusal 5 is the counted receiver's alone: `countedInto` gives it, with the bits that there are at the front
@@ -149,6 +153,8 @@ pub record Demand2 : Type 0 where
   -- which cycles are unknown; what a read looks at, and how many reads there are
   pub smooths : SmoothLawsHold
   pub line : WarpLawsHold
+  -- lengths that are all equal make warp
+  pub equal-lengths : EqualLengthsWarp
   -- accepted settings return every message
   pub counts : OperationReturns
   -- a picked sampling count is the best
@@ -187,7 +193,7 @@ pub record Demand3Met : Type 0 where
   pub every-stored-plan : EveryStoredPlan
   pub stored-plans : StoredPlansHold
 
--- D1, D2, D3: what the contracts say, and the three demands, the first also of the nineteen entry points for C
+-- D1, D2, D3: what the contracts say, and the three demands, the first also of the twenty entry points for C
 pub record Demands : Type 0 where
   pub contracts : ByContract
   pub one-meaning : OneMeaning

@@ -1,4 +1,4 @@
--- Demand 1 of the nineteen entry points for C. The tests are those of the operations. What crosses is a number, 0 for
+-- Demand 1 of the twenty entry points for C. The tests are those of the operations. What crosses is a number, 0 for
 -- no refusal, and what is left behind each pointer.
 use Prim.Native.Nat.{ℕ}
 use mathlib.Core.List.{List, [], _∷_}
@@ -16,8 +16,9 @@ use Rattle.halfcells.specs.HalfCells.{wordsOf, bytesOf}
 use Rattle.halfcells.specs.Answers.{encoded, decoded}
 use Rattle.line.specs.Smooth.{smooth as smoothing}
 use Rattle.line.specs.Warp.{warp as warping}
+use Rattle.line.specs.Wander.{warpByLengths as warpingByLengths}
 use Rattle.line.specs.Settle.{settle as settling}
-use Rattle.line.specs.Answers.{smoothed, warped, settled}
+use Rattle.line.specs.Answers.{smoothed, warped, warpedByLengths, settled}
 use Rattle.counted.specs.Counted.{counted as countedOf}
 use Rattle.counted.specs.Answers.{countedInto, countedBits}
 use Rattle.board.specs.Rows.{next}
@@ -76,6 +77,9 @@ pub record Demand1FromC : Type 0 where
   pub warp : (w r p : ℕ) (wave output : List ℕ)
       → FillsFromC (Good.warp w r p wave output) (warping w r p wave) output
       (crossing crossed (warped w r p wave output))
+  pub warp-by-lengths : (w1 w2 r1 r2 p : ℕ) (cycles reads wave output : List ℕ)
+      → FillsFromC (Good.warpByLengths w1 w2 r1 r2 p cycles reads wave output) (warpingByLengths p cycles reads wave)
+      output (crossing crossed (warpedByLengths w1 w2 r1 r2 p cycles reads wave output))
   pub settle : (reads choices output : List ℕ)
       → FillsFromC (Good.settle reads choices output) (settling reads choices) output
       (crossing crossed (settled reads choices output))

@@ -18,8 +18,9 @@ use Rattle.halfcells.specs.HalfCells.{wordsOf, firstNoEdge, bytesOf}
 use Rattle.halfcells.specs.Answers.{someNoEdge}
 use Rattle.line.specs.Smooth.{smooth as smoothing}
 use Rattle.line.specs.Warp.{warp as warping}
+use Rattle.line.specs.Wander.{warpByLengths as warpingByLengths}
 use Rattle.line.specs.Settle.{settle as settling}
-use Rattle.line.specs.Answers.{timed}
+use Rattle.line.specs.Answers.{timed, lengthsFit}
 use Rattle.board.specs.Feeding.{reports}
 use Rattle.board.specs.Packed.{settingsOf, stateOf}
 use Rattle.board.specs.WellFormed.{runFits, leftFits, foundFits, levelFits, unusedZero, wellFormed}
@@ -106,6 +107,17 @@ warp w r p levels output =
     ∷ limit entriesMost (warping w r p levels)
     ∷ entries 2 levels
     ∷ room (length (warping w r p levels)) output
+    ∷ []
+
+-- R72
+abbrev pub warpByLengths : (w1 w2 r1 r2 p : ℕ) (cycles reads levels output : List ℕ) → List Test
+warpByLengths w1 w2 r1 r2 p cycles reads levels output =
+    setting (lengthsFit w1 w2 r1 r2 p cycles reads)
+    ∷ limit entriesMost levels
+    ∷ limit entriesMost cycles
+    ∷ limit entriesMost reads
+    ∷ entries 2 levels
+    ∷ room (length (warpingByLengths p cycles reads levels)) output
     ∷ []
 
 -- R46, R23

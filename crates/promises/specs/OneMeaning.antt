@@ -70,6 +70,8 @@ pub record OneMeaning : Type 0 where
   -- line
   pub smooth : One Line.smooth.ended Line.smooth.Reads.Asked Line.smooth.Reads.Post
   pub warp : One Line.warp.ended Line.warp.Reads.Asked Line.warp.Reads.Post
+  pub warp-by-lengths :
+      One Line.warp_by_lengths.ended Line.warp_by_lengths.Reads.Asked Line.warp_by_lengths.Reads.Post
   pub settle : One Line.settle.ended Line.settle.Reads.Asked Line.settle.Reads.Post
   -- counted
   pub count-bits : One Counted.count_bits.ended Counted.count_bits.Reads.Asked Counted.count_bits.Reads.Post
@@ -107,6 +109,9 @@ pub record OneMeaning : Type 0 where
       One C.siengulot_read_plan.ended C.siengulot_read_plan.Reads.Asked C.siengulot_read_plan.Reads.Post
   pub siengulot-smooth : One C.siengulot_smooth.ended C.siengulot_smooth.Reads.Asked C.siengulot_smooth.Reads.Post
   pub siengulot-warp : One C.siengulot_warp.ended C.siengulot_warp.Reads.Asked C.siengulot_warp.Reads.Post
+  pub siengulot-warp-by-lengths :
+      One C.siengulot_warp_by_lengths.ended C.siengulot_warp_by_lengths.Reads.Asked
+      C.siengulot_warp_by_lengths.Reads.Post
   pub siengulot-settle : One C.siengulot_settle.ended C.siengulot_settle.Reads.Asked C.siengulot_settle.Reads.Post
   pub siengulot-counted : One C.siengulot_counted.ended C.siengulot_counted.Reads.Asked C.siengulot_counted.Reads.Post
   pub siengulot-fresh : One C.siengulot_fresh.ended C.siengulot_fresh.Reads.Asked C.siengulot_fresh.Reads.Post

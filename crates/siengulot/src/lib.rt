@@ -21,6 +21,7 @@ pub use link::siengulot_send;
 pub use link::siengulot_settle;
 pub use link::siengulot_smooth;
 pub use link::siengulot_warp;
+pub use link::siengulot_warp_by_lengths;
 pub use picking::siengulot_pick;
 pub use plans::siengulot_read_plan;
 pub use receiver::siengulot_fresh;

@@ -2,7 +2,7 @@
 // lent output, `count` is its length, and the rest of the output is untouched.
 ghost use mathlib.Core.Path.{_≡_};
 ghost use Rattle.sender.specs.Answers.{sentMessage, sentPlan};
-ghost use Rattle.line.specs.Answers.{smoothed, warped, settled};
+ghost use Rattle.line.specs.Answers.{smoothed, warped, warpedByLengths, settled};
 ghost use Rattle.counted.specs.Answers.{countedBits};
 ghost use Rattle.siengulot.specs.Crossing.{crossed, crossing};
 use crate::answers::of_counted;
@@ -103,6 +103,42 @@ pub extern "C" fn siengulot_warp(
         ≡ ((x, now (place .exit), now (count .exit)), now (out .exit)) ⌝ }
 {
     let answer = line::warp(wave, TimeUnits(w), TimeUnits(r), TimeUnits(p), out);
+    of_read(answer, place, count)
+}
+
+// Pass 2, warp by lengths. Gives the reads of a wave whose cycles and reads have a length each.
+// Refuses with 1 (w1, w2, r1 or r2, w1 above w2, r1 above r2, a length out of its bounds, or p not below the first
+// writer cycle's length), 3 (more than 1,048,576 cycles, or lengths of cycles or of reads), 2 (the place of the first
+// entry of the wave that is no level and not unknown), 4: the output is left, and `count` is 0.
+#[no_mangle]
+pub extern "C" fn siengulot_warp_by_lengths(
+    w1: usize,
+    w2: usize,
+    r1: usize,
+    r2: usize,
+    p: usize,
+    cycles: &[usize],
+    reads: &[usize],
+    wave: &[u8],
+    out: &mut [u8],
+    place: &mut usize,
+    count: &mut usize,
+) -> usize
+    ensures { λ x. ⌜ crossing crossed (warpedByLengths w1 w2 r1 r2 p (now (cycles .entry)) (now (reads .entry))
+        (now (wave .entry)) (now (out .entry)))
+        ≡ ((x, now (place .exit), now (count .exit)), now (out .exit)) ⌝ }
+{
+    let answer = line::warp_by_lengths(
+        wave,
+        TimeUnits(w1),
+        TimeUnits(w2),
+        TimeUnits(r1),
+        TimeUnits(r2),
+        TimeUnits(p),
+        cycles,
+        reads,
+        out,
+    );
     of_read(answer, place, count)
 }
 

@@ -149,6 +149,41 @@ pub fn all() -> Vec<Case> {
             [65_535, 655_350],
             |size| warp(1, 65_535, 0, vec![1; size]),
         ),
+        case(
+            "warp by lengths, w and r 95 to 105",
+            "cycle",
+            "1.2",
+            SIZES,
+            |size| warp_by_lengths([95, 105], [95, 105], inputs::smoothed(size)),
+        ),
+        case(
+            "warp by lengths, w 95 to 105 r 134 to 148",
+            "cycle",
+            "1.2",
+            SIZES,
+            |size| warp_by_lengths([95, 105], [134, 148], inputs::smoothed(size)),
+        ),
+        case(
+            "warp by lengths, w 95 to 105 r 9 to 11",
+            "cycle",
+            "1.2",
+            [10_000, 90_000],
+            |size| warp_by_lengths([95, 105], [9, 11], inputs::smoothed(size)),
+        ),
+        case(
+            "warp by lengths, w 9 to 11 r 95 to 105",
+            "cycle",
+            "1.2",
+            SIZES,
+            |size| warp_by_lengths([9, 11], [95, 105], inputs::smoothed(size)),
+        ),
+        case(
+            "warp by lengths, w 1 r 65,535, high",
+            "cycle",
+            "1.2",
+            [65_535, 655_350],
+            |size| warp_by_lengths([1, 1], [65_535, 65_535], vec![1; size]),
+        ),
         case("settle", "read", "1.1", SIZES, settle),
         case("counted, 5/13 cells", "read", "1.5", [100, 1_000], |size| {
             count(K, size, inputs::message(A, B, size))
@@ -454,6 +489,63 @@ fn warp(w: usize, r: usize, p: usize, wave: Vec<u8>) -> Work {
         },
         move |lent| {
             let count = line::warp(w as u64, r as u64, p as u64, &plain, &mut lent.out);
+            lent.told = [0, count.expect("can be warped") as i64, 0, 0];
+        },
+    )
+}
+
+/// As many lengths of reads as it takes to reach the wave's end.
+fn warp_by_lengths([w1, w2]: [usize; 2], [r1, r2]: [usize; 2], wave: Vec<u8>) -> Work {
+    let cycles = inputs::lengths(wave.len(), w1, w2, 3);
+    let end: usize = cycles.iter().sum();
+    let mut reads = inputs::lengths(end / r1 + 1, r1, r2, 4);
+    let mut time = 0;
+    let in_time = |&&length: &&usize| {
+        time += length;
+        time <= end
+    };
+    let count = reads.iter().take_while(in_time).count();
+    reads.truncate(count + 1);
+    let plain = wave.clone();
+    let lengths =
+        |list: &[usize]| -> Vec<u64> { list.iter().map(|&length| length as u64).collect() };
+    let (plain_cycles, plain_reads) = (lengths(&cycles), lengths(&reads));
+    two(
+        wave.len(),
+        count,
+        move |lent| {
+            let (mut place, mut count) = (0, 0);
+            let refused = unsafe {
+                siengulot_warp_by_lengths(
+                    w1,
+                    w2,
+                    r1,
+                    r2,
+                    0,
+                    cycles.as_ptr(),
+                    cycles.len(),
+                    reads.as_ptr(),
+                    reads.len(),
+                    wave.as_ptr(),
+                    wave.len(),
+                    lent.out.as_mut_ptr(),
+                    lent.out.len(),
+                    &mut place,
+                    &mut count,
+                )
+            };
+            lent.told = [refused as i64, count as i64, place as i64, 0];
+        },
+        move |lent| {
+            let count = line::warp_by_lengths(
+                [w1 as u64, w2 as u64],
+                [r1 as u64, r2 as u64],
+                0,
+                &plain_cycles,
+                &plain_reads,
+                &plain,
+                &mut lent.out,
+            );
             lent.told = [0, count.expect("can be warped") as i64, 0, 0];
         },
     )

@@ -72,3 +72,15 @@ pub fn message(a: usize, b: usize, bits: usize) -> Vec<u8> {
 pub fn repeated(part: &[u8], length: usize) -> Vec<u8> {
     part.iter().copied().cycle().take(length).collect()
 }
+
+/// Random lengths from `least` to `most`.
+pub fn lengths(count: usize, least: usize, most: usize, seed: u64) -> Vec<usize> {
+    let mut state = seed.wrapping_mul(0x9e37_79b9_7f4a_7c15) | 1;
+    let mut next = || {
+        state ^= state << 13;
+        state ^= state >> 7;
+        state ^= state << 17;
+        least + (state >> 20) as usize % (most - least + 1)
+    };
+    (0..count).map(|_| next()).collect()
+}
