@@ -14,13 +14,13 @@ use Rattle.settings.specs.Answers.{Judgement, QuietJudgement}
 use Rattle.board.specs.declared.Mode.the-variants.{Hunting}
 use Rattle.board.specs.declared.Receiver.{Receiver}
 
--- R1 to R9: a test of the table: the number and the place of its refusal, and whether the input fails it
+-- R1 to R11: a test of the table: the number and the place of its refusal, and whether the input fails it
 pub record Test : Type 0 where
   pub number : ℕ
   pub place : ℕ
   pub failed : Bool
 
--- R1 to R9: no test is failed
+-- R1 to R11: no test is failed
 unfoldable pub good : List Test → Bool
 good [] = true
 good (test ∷ tests) = not (test .failed) && good tests
