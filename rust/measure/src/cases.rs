@@ -142,6 +142,9 @@ pub fn all() -> Vec<Case> {
         case("warp, w 10 r 100", "cycle", "1.5", SIZES, |size| {
             warp(10, 100, 5, inputs::smoothed(size))
         }),
+        case("warp, w 10 r 100, high", "cycle", "–", SIZES, |size| {
+            warp(10, 100, 5, vec![1; size])
+        }),
         case(
             "warp, w 1 r 65,535, high",
             "cycle",
