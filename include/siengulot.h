@@ -39,7 +39,7 @@ enum {
     SIENGULOT_SETTLING_MOST = 64,
     SIENGULOT_SAMPLING_LEAST = 1, /* k, in read cycles */
     SIENGULOT_SAMPLING_MOST = 511,
-    SIENGULOT_CYCLE_LEAST = 1, /* w and r, and the length of a cycle or a read, in time units */
+    SIENGULOT_CYCLE_LEAST = 1, /* w and r, their ends, and the length of a cycle or a read, in time units */
     SIENGULOT_CYCLE_MOST = 65535,
     SIENGULOT_PAD_MOST = 65535, /* a pad, in writer cycles */
     SIENGULOT_BITS_LEAST = 1,   /* n of a row; the counted receiver takes 0 too */
@@ -58,7 +58,7 @@ enum { SIENGULOT_LOW = 0, SIENGULOT_HIGH = 1, SIENGULOT_UNKNOWN = 2 };
 /* The numbers of the refusals. */
 enum siengulot_refusal {
     SIENGULOT_NO_REFUSAL = 0,
-    SIENGULOT_SETTING = 1, /* a setting, a length or a level in force out of range, a plan whose lists do not fit, a row of a
+    SIENGULOT_SETTING = 1, /* a setting, a length or a level in force out of range, a least length above its greatest, a plan whose lists do not fit, a row of a
                               stored plan whose lead becomes too long, a receiver that is not well formed */
     SIENGULOT_ENTRY = 2,   /* an entry that is not of the kind taken; `place` is where the first such entry stands */
     SIENGULOT_LIMIT = 3,   /* too long a list, lent or to be given */
@@ -73,10 +73,14 @@ enum siengulot_refusal {
 
 /*
  * Judging settings
+ *
+ * A steady clock has cycles of one length: w for the writer's, r for the reads. A clock that is known by its tolerance, or that wanders, has two ends:
+ * a writer cycle is w1 to w2 long, and a read r1 to r2. The functions whose names end with _ends take these, and their yes holds for all clocks that
+ * keep to them.
  */
 
 /*
- * The judge. Gives the margins M1, M2 and M3, in time units, and in `accepted` 1 if all three are zero or more, else 0:
+ * The judge, for steady clocks. Gives the margins M1, M2 and M3, in time units, and in `accepted` 1 if all three are zero or more, else 0:
  *   M1 = (a - g) * w - 2 * r
  *   M2 = (k - 1) * r - (a + g) * w
  *   M3 = (a + b - g) * w - (k + 2) * r
@@ -88,7 +92,20 @@ enum siengulot_refusal {
 size_t siengulot_judge(size_t a, size_t b, size_t g, size_t k, size_t w, size_t r, int64_t margins[3], size_t *accepted);
 
 /*
- * The quiet judge. Gives the margins M1 to M5, the first three as above, and in `accepted` 1 if all five are zero or more, else 0:
+ * The judge over ends. Gives the margins M1, M2 and M3, in time units, and in `accepted` 1 if all three are zero or more, else 0:
+ *   M1 = (a - g) * w1 - 2 * r2
+ *   M2 = (k - 1) * r1 - (a + g) * w2
+ *   M3 = (a + b - g) * w1 - (k + 2) * r2
+ * Refuses with
+ *   1  a or b out of 1 to 255, g out of 1 to 64, k out of 1 to 511, w1, w2, r1 or r2 out of 1 to 65,535, w1 above w2, or r1 above r2.
+ * Leaves with a refusal `margins` as they were, and 0 in `accepted`.
+ */
+size_t siengulot_judge_ends(size_t a, size_t b, size_t g, size_t k, size_t w1, size_t w2, size_t r1, size_t r2, int64_t margins[3],
+                            size_t *accepted);
+
+/*
+ * The quiet judge, for steady clocks. Gives the margins M1 to M5, the first three as the judge does, and in `accepted` 1 if all five are zero or
+ * more, else 0:
  *   M4 = (Q - 2) * r - (a + b + g) * w
  *   M5 = (p1 - g) * w - (Q + 1) * r
  * Refuses with
@@ -99,14 +116,36 @@ size_t siengulot_judge_quiet(size_t a, size_t b, size_t g, size_t k, size_t w, s
                              size_t *accepted);
 
 /*
- * The picker. Gives in `k` the sampling count from 1 to 511 for which the least of M1, M2 and M3 is the greatest, and of equals the smallest. With
- * that k the judge says yes.
+ * The quiet judge over ends. Gives the margins M1 to M5, the first three as the judge over ends does, and in `accepted` 1 if all five are zero or more,
+ * else 0:
+ *   M4 = (Q - 2) * r1 - (a + b + g) * w2
+ *   M5 = (p1 - g) * w1 - (Q + 1) * r2
+ * Refuses with
+ *   1  what the judge over ends refuses, Q out of 2 to 8,191, or p1 above 65,535.
+ * Leaves with a refusal `margins` as they were, and 0 in `accepted`.
+ */
+size_t siengulot_judge_quiet_ends(size_t a, size_t b, size_t g, size_t k, size_t w1, size_t w2, size_t r1, size_t r2, size_t q, size_t p1,
+                                  int64_t margins[5], size_t *accepted);
+
+/*
+ * The picker, for steady clocks. Gives in `k` the sampling count from 1 to 511 for which the least of M1, M2 and M3 is the greatest, and of equals
+ * the smallest. With that k the judge says yes.
  * Refuses with
  *   1  a or b out of 1 to 255, g out of 1 to 64, or w or r out of 1 to 65,535;
  *   9  settings for which no k from 1 to 511 has three margins of zero or more.
  * Leaves with a refusal 0 in `k`.
  */
 size_t siengulot_pick(size_t a, size_t b, size_t g, size_t w, size_t r, size_t *k);
+
+/*
+ * The picker over ends. Gives in `k` the sampling count from 1 to 511 for which the least of M1, M2 and M3, as the judge over ends gives them, is the
+ * greatest, and of equals the smallest. With that k the judge over ends says yes.
+ * Refuses with
+ *   1  a or b out of 1 to 255, g out of 1 to 64, w1, w2, r1 or r2 out of 1 to 65,535, w1 above w2, or r1 above r2;
+ *   9  settings for which no k from 1 to 511 has three margins of zero or more.
+ * Leaves with a refusal 0 in `k`.
+ */
+size_t siengulot_pick_ends(size_t a, size_t b, size_t g, size_t w1, size_t w2, size_t r1, size_t r2, size_t *k);
 
 /*
  * Sending

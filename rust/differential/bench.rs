@@ -264,6 +264,71 @@ impl Bench {
         });
     }
 
+    pub fn judge_ends(&mut self, [a, b, g, k, w1, w2, r1, r2]: [usize; 8]) {
+        if !self.tries("judge_ends") {
+            return;
+        }
+        let mut lent = Lent::new();
+        let margins = lent.numbers("margins", 3, &mut self.rng);
+        let accepted = lent.number("accepted", &mut self.rng);
+        let mut expected = lent.clone();
+        let (w, r) = ([w1 as u64, w2 as u64], [r1 as u64, r2 as u64]);
+        let answer = settings::judge_ends(a, b, g, k, w, r);
+        let number = self.judged("judge_ends", &mut expected, margins, accepted, answer);
+        let got = unsafe {
+            siengulot_judge_ends(
+                a,
+                b,
+                g,
+                k,
+                w1,
+                w2,
+                r1,
+                r2,
+                lent.pointer(margins),
+                lent.pointer(accepted),
+            )
+        };
+        self.compare("judge_ends", (got, &lent), (number, &expected), || {
+            format!("{:?}", [a, b, g, k, w1, w2, r1, r2])
+        });
+    }
+
+    pub fn judge_quiet_ends(&mut self, [a, b, g, k, w1, w2, r1, r2, q, p1]: [usize; 10]) {
+        if !self.tries("judge_quiet_ends") {
+            return;
+        }
+        let mut lent = Lent::new();
+        let margins = lent.numbers("margins", 5, &mut self.rng);
+        let accepted = lent.number("accepted", &mut self.rng);
+        let mut expected = lent.clone();
+        let (w, r) = ([w1 as u64, w2 as u64], [r1 as u64, r2 as u64]);
+        let answer = settings::judge_quiet_ends(a, b, g, k, w, r, q, p1);
+        let number = self.judged("judge_quiet_ends", &mut expected, margins, accepted, answer);
+        let got = unsafe {
+            siengulot_judge_quiet_ends(
+                a,
+                b,
+                g,
+                k,
+                w1,
+                w2,
+                r1,
+                r2,
+                q,
+                p1,
+                lent.pointer(margins),
+                lent.pointer(accepted),
+            )
+        };
+        self.compare(
+            "judge_quiet_ends",
+            (got, &lent),
+            (number, &expected),
+            || format!("{:?}", [a, b, g, k, w1, w2, r1, r2, q, p1]),
+        );
+    }
+
     fn judged<const M: usize>(
         &mut self,
         operation: &'static str,
@@ -293,38 +358,67 @@ impl Bench {
         if !self.tries("pick") {
             return;
         }
-        let mut lent = Lent::new();
-        let k = lent.number("k", &mut self.rng);
-        let mut expected = lent.clone();
+        let (mut lent, k) = self.lent_count();
         let answer = settings::pick(a, b, g, w as u64, r as u64);
-        expected.set(k, &[answer.unwrap_or(0)]);
-        let number = answer
-            .err()
-            .map_or(0, |refusal| usize::from(refusal.number));
+        let (number, expected) = picked(&lent, k, answer);
         let got = unsafe { siengulot_pick(a, b, g, w, r, lent.pointer(k)) };
         self.compare("pick", (got, &lent), (number, &expected), || {
             format!("{:?}", [a, b, g, w, r])
         });
-        // What is easy to miss: the ends of the range and of the margins, and equals.
-        let least = |k| match settings::judge(a, b, g, k, w as u64, r as u64) {
+        self.meets_counts("pick", answer, |k| {
+            settings::judge(a, b, g, k, w as u64, r as u64)
+        });
+    }
+
+    pub fn pick_ends(&mut self, [a, b, g, w1, w2, r1, r2]: [usize; 7]) {
+        if !self.tries("pick_ends") {
+            return;
+        }
+        let (mut lent, k) = self.lent_count();
+        let (w, r) = ([w1 as u64, w2 as u64], [r1 as u64, r2 as u64]);
+        let answer = settings::pick_ends(a, b, g, w, r);
+        let (number, expected) = picked(&lent, k, answer);
+        let got = unsafe { siengulot_pick_ends(a, b, g, w1, w2, r1, r2, lent.pointer(k)) };
+        self.compare("pick_ends", (got, &lent), (number, &expected), || {
+            format!("{:?}", [a, b, g, w1, w2, r1, r2])
+        });
+        self.meets_counts("pick_ends", answer, |k| {
+            settings::judge_ends(a, b, g, k, w, r)
+        });
+    }
+
+    fn lent_count(&mut self) -> (Lent, Numbers) {
+        let mut lent = Lent::new();
+        let k = lent.number("k", &mut self.rng);
+        (lent, k)
+    }
+
+    /// Notes what is easy to miss of a picked sampling count: the ends of the range and of the margins, and equals.
+    fn meets_counts(
+        &mut self,
+        operation: &'static str,
+        answer: Result<usize, Refusal>,
+        judge: impl Fn(usize) -> Result<Verdict<3>, Refusal>,
+    ) {
+        let least = |k| match judge(k) {
             Ok(verdict) => *verdict.margins.iter().min().expect("three margins"),
             Err(_) => i64::MIN,
         };
         match answer {
             Ok(best) => {
                 if best == settings::MAX_K {
-                    self.meets("pick", "the last k");
+                    self.meets(operation, "the last k");
                 }
                 if least(best) == least(best + 1) {
-                    self.meets("pick", "equals");
+                    self.meets(operation, "equals");
                 }
                 if least(best) == 0 {
-                    self.meets("pick", "a least margin of 0");
+                    self.meets(operation, "a least margin of 0");
                 }
             }
             Err(refusal) if refusal.number == 9 => {
                 if (1..=settings::MAX_K).any(|k| least(k) == -1) {
-                    self.meets("pick", "a least margin of -1");
+                    self.meets(operation, "a least margin of -1");
                 }
             }
             Err(_) => {}
@@ -958,6 +1052,16 @@ impl Bench {
         let count = lent.number("count", &mut self.rng);
         (lent, out, [place, count])
     }
+}
+
+/// The number that a picker has to return, and what it has to leave of what is lent to it.
+fn picked(lent: &Lent, k: Numbers, answer: Result<usize, Refusal>) -> (usize, Lent) {
+    let mut expected = lent.clone();
+    expected.set(k, &[answer.unwrap_or(0)]);
+    let number = answer
+        .err()
+        .map_or(0, |refusal| usize::from(refusal.number));
+    (number, expected)
 }
 
 /// Writes the place and the count of an answer, and gives its number.

@@ -4,8 +4,8 @@ use crate::numbers::{at, numbers_of, NUMBERS};
 use siengulot_plain::board::{Mode, Receiver, ROW_BYTES};
 use siengulot_plain::halfcells;
 use siengulot_plain::settings::{
-    MAX_BITS, MAX_CYCLE, MAX_G, MAX_K, MAX_LIST, MAX_PAD, MAX_QUIET, MAX_ROWS, MAX_SUBCELL, MAX_WORDS,
-    MIN_QUIET,
+    MAX_BITS, MAX_CYCLE, MAX_G, MAX_K, MAX_LIST, MAX_PAD, MAX_QUIET, MAX_ROWS, MAX_SUBCELL,
+    MAX_WORDS, MIN_QUIET,
 };
 
 const CYCLE_MOST: usize = MAX_CYCLE as usize;
@@ -298,6 +298,45 @@ impl Rng {
         }
         let most = self.pick(&[4, 12, 150, CYCLE_MOST]);
         let (w, r) = (self.within(1, most), self.within(1, most));
+        let [a, b, g, k, q, p1] = self.near([w, w, r, r]);
+        [a, b, g, k, w, r, q, p1]
+    }
+
+    /// The same over the ends of two clocks.
+    pub fn judged_ends(&mut self) -> [usize; 10] {
+        if self.one_in(3) {
+            return [
+                self.subcell(),
+                self.subcell(),
+                self.g(),
+                self.k(),
+                self.setting(1, 150, CYCLE_MOST),
+                self.setting(1, 150, CYCLE_MOST),
+                self.setting(1, 150, CYCLE_MOST),
+                self.setting(1, 150, CYCLE_MOST),
+                self.quiet(),
+                self.pad(),
+            ];
+        }
+        let most = self.pick(&[4, 12, 150, CYCLE_MOST]);
+        let ([w1, w2], [r1, r2]) = (self.ends(most), self.ends(most));
+        let [a, b, g, k, q, p1] = self.near([w1, w2, r1, r2]);
+        [a, b, g, k, w1, w2, r1, r2, q, p1]
+    }
+
+    /// The ends of a clock: equal, near each other, or far apart; now and then out of order.
+    fn ends(&mut self, most: usize) -> [usize; 2] {
+        let least = self.within(1, most);
+        let apart = self.pick(&[0, 1, 2, most / 10, most]);
+        let greatest = (least + self.below(apart + 1)).min(CYCLE_MOST);
+        if self.one_in(40) {
+            return [greatest, least];
+        }
+        [least, greatest]
+    }
+
+    /// Settings a, b, g, k, Q and p1 near those that are accepted for these ends.
+    fn near(&mut self, [w1, w2, r1, r2]: [usize; 4]) -> [usize; 6] {
         let up = |dividend: usize, divisor: usize| (dividend + divisor - 1) / divisor;
         let off = |rng: &mut Rng| rng.pick(&[0, 0, 0, 1, 2, usize::MAX]);
         let g = match self.below(4) {
@@ -306,17 +345,19 @@ impl Rng {
             2 => self.pick(&[MAX_G - 1, MAX_G, MAX_G + 1]),
             _ => self.within(1, 6),
         };
-        let a = (g + up(2 * r, w)).wrapping_add(off(self)).min(300);
-        let k = (1 + up((a + g) * w, r)).wrapping_add(off(self)).min(600);
-        let b = (g + up((k + 2) * r, w))
+        let a = (g + up(2 * r2, w1)).wrapping_add(off(self)).min(300);
+        let k = (1 + up((a + g) * w2, r1)).wrapping_add(off(self)).min(600);
+        let b = (g + up((k + 2) * r2, w1))
             .saturating_sub(a)
             .wrapping_add(off(self))
             .min(300);
-        let q = (2 + up((a + b + g) * w, r))
+        let q = (2 + up((a + b + g) * w2, r1))
             .wrapping_add(off(self))
             .min(9_000);
-        let p1 = (g + up((q + 1) * r, w)).wrapping_add(off(self)).min(70_000);
-        [a, b, g, k, w, r, q, p1]
+        let p1 = (g + up((q + 1) * r2, w1))
+            .wrapping_add(off(self))
+            .min(70_000);
+        [a, b, g, k, q, p1]
     }
 
     /// Settings to pick a sampling count for, near those for which there is one and near those for which it is the last.
@@ -329,6 +370,17 @@ impl Rng {
         }
         let [a, b, g, _, w, r, _, _] = self.judged();
         [a, b, g, w, r]
+    }
+
+    /// The same over the ends of two clocks.
+    pub fn clocks_ends(&mut self) -> [usize; 7] {
+        if self.one_in(4) {
+            let [a, b, g, w, r] = self.clocks();
+            let apart = self.within(0, 2);
+            return [a, b, g, w, w.saturating_add(apart), r, r];
+        }
+        let [a, b, g, _, w1, w2, r1, r2, _, _] = self.judged_ends();
+        [a, b, g, w1, w2, r1, r2]
     }
 
     /// How many rows a plan has.

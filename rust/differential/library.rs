@@ -25,12 +25,45 @@ extern "C" {
         accepted: *mut usize,
     ) -> usize;
 
-    pub fn siengulot_pick(
+    pub fn siengulot_judge_ends(
         a: usize,
         b: usize,
         g: usize,
-        w: usize,
-        r: usize,
+        k: usize,
+        w1: usize,
+        w2: usize,
+        r1: usize,
+        r2: usize,
+        margins: *mut usize,
+        accepted: *mut usize,
+    ) -> usize;
+
+    pub fn siengulot_judge_quiet_ends(
+        a: usize,
+        b: usize,
+        g: usize,
+        k: usize,
+        w1: usize,
+        w2: usize,
+        r1: usize,
+        r2: usize,
+        q: usize,
+        p1: usize,
+        margins: *mut usize,
+        accepted: *mut usize,
+    ) -> usize;
+
+    pub fn siengulot_pick(a: usize, b: usize, g: usize, w: usize, r: usize, k: *mut usize)
+        -> usize;
+
+    pub fn siengulot_pick_ends(
+        a: usize,
+        b: usize,
+        g: usize,
+        w1: usize,
+        w2: usize,
+        r1: usize,
+        r2: usize,
         k: *mut usize,
     ) -> usize;
 

@@ -23,20 +23,26 @@ const ROUNDS: u64 = 100_000;
 /// No round beyond the least number begins later than this.
 const TIME: Duration = Duration::from_secs(45);
 
+/// What is easy to miss of a picked sampling count.
+const COUNTS: [&str; 4] = [
+    "the last k",
+    "equals",
+    "a least margin of 0",
+    "a least margin of -1",
+];
+
 /// What each operation has to meet: the numbers it returns (of `well_formed`, 0 for no and 1 for yes), and cases that are easy to miss.
-const MUST: [(&str, &[&str], &[&str]); 20] = [
+const MUST: [(&str, &[&str], &[&str]); 23] = [
     ("judge", &["0", "1"], &["yes", "no", "a margin of 0"]),
     ("judge_quiet", &["0", "1"], &["yes", "no", "a margin of 0"]),
+    ("judge_ends", &["0", "1"], &["yes", "no", "a margin of 0"]),
     (
-        "pick",
-        &["0", "1", "9"],
-        &[
-            "the last k",
-            "equals",
-            "a least margin of 0",
-            "a least margin of -1",
-        ],
+        "judge_quiet_ends",
+        &["0", "1"],
+        &["yes", "no", "a margin of 0"],
     ),
+    ("pick", &["0", "1", "9"], &COUNTS),
+    ("pick_ends", &["0", "1", "9"], &COUNTS),
     ("send", &["0", "1", "2", "3", "4"], &[]),
     ("plan", &["0", "1", "2", "3", "4"], &["3 by its wave"]),
     (
@@ -130,6 +136,7 @@ fn main() {
         round(&mut bench);
         if rounds == 0 {
             pick_corners(&mut bench);
+            ends_corners(&mut bench);
             each_word(&mut bench);
             smooth_corners(&mut bench);
             length_corners(&mut bench);
@@ -161,6 +168,22 @@ fn pick_corners(bench: &mut Bench) {
                         bench.pick([a, b, g, w, r]);
                     }
                 }
+            }
+        }
+    }
+}
+
+/// Two numbers at and beside the ends of their range for each clock, in either order, each with each.
+fn ends_corners(bench: &mut Bench) {
+    let lengths = [0, 1, 2, 100, 65_535, 65_536];
+    let pairs = || lengths.into_iter().flat_map(|x| lengths.map(|y| [x, y]));
+    for [w1, w2] in pairs() {
+        for [r1, r2] in pairs() {
+            for [a, b, g, k, q, p1] in [[5, 13, 1, 10, 21, 23], [255, 255, 64, 511, 8_191, 65_535]]
+            {
+                bench.judge_ends([a, b, g, k, w1, w2, r1, r2]);
+                bench.judge_quiet_ends([a, b, g, k, w1, w2, r1, r2, q, p1]);
+                bench.pick_ends([a, b, g, w1, w2, r1, r2]);
             }
         }
     }
@@ -221,8 +244,13 @@ fn round(bench: &mut Bench) {
     let [a, b, g, k, w, r, q, p1] = bench.rng.judged();
     bench.judge([a, b, g, k, w, r]);
     bench.judge_quiet([a, b, g, k, w, r, q, p1]);
+    let [a, b, g, k, w1, w2, r1, r2, q, p1] = bench.rng.judged_ends();
+    bench.judge_ends([a, b, g, k, w1, w2, r1, r2]);
+    bench.judge_quiet_ends([a, b, g, k, w1, w2, r1, r2, q, p1]);
     let clocks = bench.rng.clocks();
     bench.pick(clocks);
+    let clocks = bench.rng.clocks_ends();
+    bench.pick_ends(clocks);
 
     let settings = [bench.rng.subcell(), bench.rng.subcell(), bench.rng.pad()];
     let length = match bench.rng.below(40) {

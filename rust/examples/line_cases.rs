@@ -57,6 +57,18 @@ fn operate(case: &Case, one: &[u8], two: &[u8], out: &mut [u8]) -> (String, usiz
             let [a, b, g, k, w, r, q, p1] = case.numbers(["a", "b", "g", "k", "w", "r", "Q", "lead"]);
             judged(settings::judge_quiet(a, b, g, k, w as u64, r as u64, q, p1))
         }
+        "judge_ends" => {
+            let names = ["a", "b", "g", "k", "w", "to", "r", "to"];
+            let [a, b, g, k, w1, w2, r1, r2] = case.numbers(names);
+            let (w, r) = ([w1 as u64, w2 as u64], [r1 as u64, r2 as u64]);
+            judged(settings::judge_ends(a, b, g, k, w, r))
+        }
+        "judge_quiet_ends" => {
+            let names = ["a", "b", "g", "k", "w", "to", "r", "to", "Q", "lead"];
+            let [a, b, g, k, w1, w2, r1, r2, q, p1] = case.numbers(names);
+            let (w, r) = ([w1 as u64, w2 as u64], [r1 as u64, r2 as u64]);
+            judged(settings::judge_quiet_ends(a, b, g, k, w, r, q, p1))
+        }
         "send" => {
             let [a, b, p1] = case.numbers(["a", "b", "lead"]);
             made(sender::message(a, b, p1, one, out))

@@ -1,7 +1,7 @@
 //! The rules of docs/RULES.md on "The line, three passes": smooth, warp, settle.
 
 use crate::refusal::{need_entries, need_output, need_setting, need_size, Refusal};
-use crate::settings::{cycle_fits, g_fits, MAX_LIST};
+use crate::settings::{cycle_fits, ends_fit, g_fits, MAX_LIST};
 
 /// An unknown level.
 const UNKNOWN: u8 = 2;
@@ -93,12 +93,8 @@ pub fn warp_by_lengths(
     out: &mut [u8],
 ) -> Result<usize, Refusal> {
     need_setting(
-        cycle_fits(w1)
-            && cycle_fits(w2)
-            && w1 <= w2
-            && cycle_fits(r1)
-            && cycle_fits(r2)
-            && r1 <= r2
+        ends_fit([w1, w2])
+            && ends_fit([r1, r2])
             && cycles.iter().all(|cycle| (w1..=w2).contains(cycle))
             && reads.iter().all(|read| (r1..=r2).contains(read))
             && cycles.first().map_or(true, |&first| p < first),

@@ -66,6 +66,11 @@ pub(crate) fn cycle_fits(length: u64) -> bool {
     (1..=MAX_CYCLE).contains(&length)
 }
 
+/// The least and the greatest length of a clock's cycles: both in range, and in order.
+pub(crate) fn ends_fit([least, most]: [u64; 2]) -> bool {
+    cycle_fits(least) && cycle_fits(most) && least <= most
+}
+
 pub(crate) fn pad_fits(pad: usize) -> bool {
     pad <= MAX_PAD
 }
@@ -79,8 +84,7 @@ pub(crate) fn quiet_fits(q: usize) -> bool {
     (MIN_QUIET..=MAX_QUIET).contains(&q)
 }
 
-/// "Margins": M1, M2 and M3, and whether the settings are accepted. A "no" comes with its
-/// margins too.
+/// "Margins" of steady clocks: M1, M2 and M3, and whether the settings are accepted. A "no" comes with its margins too.
 ///
 /// Refuses with 1 for a setting out of range.
 pub fn judge(
@@ -91,37 +95,52 @@ pub fn judge(
     w: u64,
     r: u64,
 ) -> Result<Verdict<3>, Refusal> {
+    judge_ends(a, b, g, k, [w, w], [r, r])
+}
+
+/// "Margins": M1, M2 and M3 over the ends of two clocks, the least and the greatest length of a writer cycle and of a
+/// read, and whether the settings are accepted.
+///
+/// Refuses with 1 for a setting out of range.
+pub fn judge_ends(
+    a: usize,
+    b: usize,
+    g: usize,
+    k: usize,
+    w: [u64; 2],
+    r: [u64; 2],
+) -> Result<Verdict<3>, Refusal> {
     need_setting(
-        subcell_fits(a)
-            && subcell_fits(b)
-            && g_fits(g)
-            && k_fits(k)
-            && cycle_fits(w)
-            && cycle_fits(r),
+        subcell_fits(a) && subcell_fits(b) && g_fits(g) && k_fits(k) && ends_fit(w) && ends_fit(r),
     )?;
     Ok(Verdict::of(three(a, b, g, k, w, r)))
 }
 
 /// M1, M2 and M3 of settings in range.
-fn three(a: usize, b: usize, g: usize, k: usize, w: u64, r: u64) -> [i64; 3] {
+fn three(a: usize, b: usize, g: usize, k: usize, w: [u64; 2], r: [u64; 2]) -> [i64; 3] {
     let (a, b, g, k) = (a as i64, b as i64, g as i64, k as i64);
-    let (w, r) = (w as i64, r as i64);
+    let ([w1, w2], [r1, r2]) = (w.map(|w| w as i64), r.map(|r| r as i64));
     [
-        (a - g) * w - 2 * r,
-        (k - 1) * r - (a + g) * w,
-        (a + b - g) * w - (k + 2) * r,
+        (a - g) * w1 - 2 * r2,
+        (k - 1) * r1 - (a + g) * w2,
+        (a + b - g) * w1 - (k + 2) * r2,
     ]
 }
 
-/// The sampling count from 1 to 511 whose least margin among M1, M2 and M3 is the greatest; of
-/// equals, the smallest. Each of them is tried.
+/// The sampling count of steady clocks, from 1 to 511, whose least margin among M1, M2 and M3 is the greatest; of
+/// equals, the smallest.
 ///
 /// Refuses with 1 for a setting out of range, and with 9 if no sampling count has three margins
 /// of zero or more.
 pub fn pick(a: usize, b: usize, g: usize, w: u64, r: u64) -> Result<usize, Refusal> {
-    need_setting(
-        subcell_fits(a) && subcell_fits(b) && g_fits(g) && cycle_fits(w) && cycle_fits(r),
-    )?;
+    pick_ends(a, b, g, [w, w], [r, r])
+}
+
+/// The same over the ends of two clocks. Each sampling count is tried.
+///
+/// Refuses as [`pick`] does.
+pub fn pick_ends(a: usize, b: usize, g: usize, w: [u64; 2], r: [u64; 2]) -> Result<usize, Refusal> {
+    need_setting(subcell_fits(a) && subcell_fits(b) && g_fits(g) && ends_fit(w) && ends_fit(r))?;
     let mut best = (0, i64::MIN);
     for k in 1..=MAX_K {
         let [m1, m2, m3] = three(a, b, g, k, w, r);
@@ -136,7 +155,7 @@ pub fn pick(a: usize, b: usize, g: usize, w: u64, r: u64) -> Result<usize, Refus
     Ok(best.0)
 }
 
-/// "Margins": M4 and M5 alone, which do not depend on the sampling count.
+/// "Margins" of steady clocks: M4 and M5 alone, which do not depend on the sampling count.
 ///
 /// Refuses with 1 for a setting out of range.
 pub fn quiet_margins(
@@ -157,12 +176,28 @@ pub fn quiet_margins(
             && quiet_fits(q)
             && pad_fits(p1),
     )?;
-    let (a, b, g, q, p1) = (a as i64, b as i64, g as i64, q as i64, p1 as i64);
-    let (w, r) = (w as i64, r as i64);
-    Ok([(q - 2) * r - (a + b + g) * w, (p1 - g) * w - (q + 1) * r])
+    Ok(last_two(a, b, g, [w, w], [r, r], q, p1))
 }
 
-/// "Margins": all five, and whether the quiet settings are accepted.
+/// M4 and M5 of settings in range.
+fn last_two(
+    a: usize,
+    b: usize,
+    g: usize,
+    w: [u64; 2],
+    r: [u64; 2],
+    q: usize,
+    p1: usize,
+) -> [i64; 2] {
+    let (a, b, g, q, p1) = (a as i64, b as i64, g as i64, q as i64, p1 as i64);
+    let ([w1, w2], [r1, r2]) = (w.map(|w| w as i64), r.map(|r| r as i64));
+    [
+        (q - 2) * r1 - (a + b + g) * w2,
+        (p1 - g) * w1 - (q + 1) * r2,
+    ]
+}
+
+/// "Margins" of steady clocks: all five, and whether the quiet settings are accepted.
 ///
 /// Refuses with 1 for a setting out of range.
 pub fn judge_quiet(
@@ -175,7 +210,24 @@ pub fn judge_quiet(
     q: usize,
     p1: usize,
 ) -> Result<Verdict<5>, Refusal> {
-    let [m1, m2, m3] = judge(a, b, g, k, w, r)?.margins;
-    let [m4, m5] = quiet_margins(a, b, g, w, r, q, p1)?;
+    judge_quiet_ends(a, b, g, k, [w, w], [r, r], q, p1)
+}
+
+/// "Margins": all five over the ends of two clocks, and whether the quiet settings are accepted.
+///
+/// Refuses with 1 for a setting out of range.
+pub fn judge_quiet_ends(
+    a: usize,
+    b: usize,
+    g: usize,
+    k: usize,
+    w: [u64; 2],
+    r: [u64; 2],
+    q: usize,
+    p1: usize,
+) -> Result<Verdict<5>, Refusal> {
+    let [m1, m2, m3] = judge_ends(a, b, g, k, w, r)?.margins;
+    need_setting(quiet_fits(q) && pad_fits(p1))?;
+    let [m4, m5] = last_two(a, b, g, w, r, q, p1);
     Ok(Verdict::of([m1, m2, m3, m4, m5]))
 }

@@ -33,6 +33,23 @@ impl Fit {
         picked.expect("settings with a sampling count")
     }
 
+    /// The judge's answer over ends, the least and the greatest length of each clock, in place of w and r.
+    fn judged_over(self, ends: [[usize; 2]; 2]) -> ([i64; 5], bool) {
+        let Fit {
+            a, b, g, k, q, p1, ..
+        } = self;
+        let [w, r] = ends.map(|of| of.map(|end| end as u64));
+        let verdict = settings::judge_quiet_ends(a, b, g, k, w, r, q, p1);
+        let verdict = verdict.expect("settings in range");
+        (verdict.margins, verdict.accepted)
+    }
+
+    /// The k that the picker gives over ends, if there is one.
+    fn picked_over(self, ends: [[usize; 2]; 2]) -> Option<usize> {
+        let [w, r] = ends.map(|of| of.map(|end| end as u64));
+        settings::pick_ends(self.a, self.b, self.g, w, r).ok()
+    }
+
     /// The page's bounds: for a, for k from below and from above, for Q and for p1.
     fn within_bounds(self) -> [bool; 5] {
         let Fit { a, b, g, w, r, .. } = self;
@@ -170,30 +187,15 @@ fn the_shortest_settings_of_the_first_board() {
         }
     }
     // The tolerance: 100 parts in a million of 10 and of 14.1 microseconds, in nanoseconds, rounded outward.
-    let (w, r) = (10_000, 14_100);
-    let (slack_w, slack_r) = (up(w * 100, 1_000_000), up(r * 100, 1_000_000));
-    let fast = Fit {
-        w: w - slack_w,
-        r: r + slack_r,
-        ..fit
-    };
-    let slow = Fit {
-        w: w + slack_w,
-        r: r - slack_r,
-        ..fit
-    };
-    assert_eq!(
-        [fast.w, fast.r, slow.w, slow.r],
-        [9_999, 14_102, 10_001, 14_098]
-    );
-    assert_eq!(fast.judged(), ([1_793, 6_413, 1_276, 6_930, 759], true));
-    assert_eq!(slow.judged(), ([1_807, 6_387, 1_324, 6_870, 841], true));
-    let coarse = Fit {
-        w: 99,
-        r: 142,
-        ..fit
-    };
-    assert_eq!(coarse.judged(), ([13, 73, -4, 90, -21], false));
+    let outward = |length: usize| [length - up(length, 10_000), length + up(length, 10_000)];
+    let fine = [outward(10_000), outward(14_100)];
+    assert_eq!(fine, [[9_999, 10_001], [14_098, 14_102]]);
+    assert_eq!(fit.picked_over(fine), Some(5));
+    let margins = [1_793, 6_387, 1_276, 6_870, 759];
+    assert_eq!(fit.judged_over(fine), (margins, true));
+    let coarse = [[99, 101], [140, 142]];
+    assert_eq!(fit.picked_over(coarse), None);
+    assert_eq!(fit.judged_over(coarse), ([13, 55, -4, 48, -21], false));
 }
 
 #[test]
@@ -210,31 +212,78 @@ fn the_same_board_on_a_long_cable() {
 }
 
 #[test]
-fn a_yes_at_both_corners_is_a_yes_between_them() {
+fn a_yes_over_ends_is_a_yes_between_them() {
     let mut rng = Rng::new(72);
-    let mut both = 0;
+    let mut accepted = 0;
     for _ in 0..200_000 {
         let fit = near(&mut rng);
+        let (w2, r1) = (
+            fit.w + rng.below(9),
+            fit.r.saturating_sub(rng.below(9)).max(1),
+        );
+        let (margins, yes) = fit.judged_over([[fit.w, w2], [r1, fit.r]]);
         let slow = Fit {
-            w: fit.w + rng.below(9),
-            r: fit.r.saturating_sub(rng.below(9)).max(1),
+            w: w2,
+            r: r1,
             ..fit
         };
-        if fit.judged().1 && slow.judged().1 {
-            both += 1;
-            let w = rng.within(fit.w, slow.w);
-            let r = rng.within(slow.r, fit.r);
-            assert!(
-                Fit { w, r, ..fit }.judged().1,
-                "{:?} {:?} {} {}",
-                fit,
-                slow,
-                w,
-                r
-            );
+        assert_eq!(yes, fit.judged().1 && slow.judged().1, "{:?}", fit);
+        if yes {
+            accepted += 1;
+            let between = Fit {
+                w: rng.within(fit.w, w2),
+                r: rng.within(r1, fit.r),
+                ..fit
+            };
+            let (others, yes) = between.judged();
+            assert!(yes, "{:?} {:?}", fit, between);
+            let no_less = margins.iter().zip(others).all(|(m, other)| *m <= other);
+            assert!(no_less, "{:?} {:?}", fit, between);
         }
     }
-    assert!(both > 500, "{}", both);
+    assert!(accepted > 500, "{}", accepted);
+}
+
+#[test]
+fn the_bounds_over_ends_are_those_of_the_margins() {
+    let mut rng = Rng::new(74);
+    let mut fits = 0;
+    for _ in 0..2_000 {
+        let (g, w1, r1) = (rng.within(1, 4), rng.within(1, 300), rng.within(1, 300));
+        let (w2, r2) = (w1 + rng.below(9), r1 + rng.below(9));
+        let a = g + up(2 * r2, w1);
+        let k = 1 + up((a + g) * w2, r1);
+        let b = (up((k + 2) * r2, w1) + g).saturating_sub(a).max(1);
+        let q = 2 + up((a + b + g) * w2, r1);
+        let p1 = g + up((q + 1) * r2, w1);
+        if a > 255 || b > 255 || k > 510 || q > 8191 || p1 > 65535 {
+            continue;
+        }
+        fits += 1;
+        let (w, r) = (w1, r1);
+        let fit = Fit {
+            a,
+            b,
+            g,
+            k,
+            w,
+            r,
+            q,
+            p1,
+        };
+        let ends = [[w1, w2], [r1, r2]];
+        assert!(fit.judged_over(ends).1, "{:?} {:?}", fit, ends);
+        let k = fit.picked_over(ends).expect("settings with a count");
+        assert!(Fit { k, ..fit }.judged_over(ends).1, "{:?} {:?}", fit, ends);
+        for less in [
+            Fit { a: a - 1, ..fit },
+            Fit { q: q - 1, ..fit },
+            Fit { p1: p1 - 1, ..fit },
+        ] {
+            assert!(!less.judged_over(ends).1, "{:?} {:?}", less, ends);
+        }
+    }
+    assert!(fits > 1_000, "{}", fits);
 }
 
 #[test]

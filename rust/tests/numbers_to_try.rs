@@ -5,7 +5,7 @@ mod common;
 use common::{holds, lent, refusal, through_the_line};
 use siengulot_plain::capture::{self, write_number, Reader};
 use siengulot_plain::counted::{self, Stopped};
-use siengulot_plain::settings::{judge, judge_quiet, quiet_margins};
+use siengulot_plain::settings::{judge, judge_ends, judge_quiet, judge_quiet_ends, quiet_margins};
 use siengulot_plain::stored::{self, Joined};
 use siengulot_plain::{line, sender};
 
@@ -158,6 +158,17 @@ fn p14_judges_the_quiet_for_longer_settling() {
     let verdict = judge_quiet(80, 160, 64, 160, 100, 100, 306, 371).unwrap();
     assert_eq!(verdict.margins, [1_400, 1_500, 1_400, 0, 0]);
     assert!(verdict.accepted);
+}
+
+#[test]
+fn p16_judges_over_ends() {
+    let (w, r) = ([9_999, 10_001], [14_098, 14_102]);
+    let verdict = judge_quiet_ends(4, 7, 1, 5, w, r, 11, 18).unwrap();
+    assert_eq!(verdict.margins, [1_793, 6_387, 1_276, 6_870, 759]);
+    assert!(verdict.accepted);
+    let verdict = judge_ends(5, 13, 64, 10, [90, 110], [80, 120]).unwrap();
+    let expected = [-5_550, -6_870, -5_580];
+    assert_eq!((verdict.margins, verdict.accepted), (expected, false));
 }
 
 #[test]

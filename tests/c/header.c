@@ -76,6 +76,17 @@ static void judging(void)
     siengulot_judge_quiet(80, 160, SIENGULOT_SETTLING_MOST, 160, 100, 100, 306, 371, five, &accepted);
     expect(five[0] == 1400 && five[1] == 1500 && five[2] == 1400 && five[3] == 0 && five[4] == 0 && accepted == 1, "quiet judge of P14");
     expect(siengulot_judge_quiet(5, 13, 1, 10, 100, 100, SIENGULOT_QUIET_LEAST - 1, 22, five, &accepted) == SIENGULOT_SETTING, "quiet judge takes Q 1");
+
+    expect(siengulot_judge_ends(4, 7, 1, 5, 9999, 10001, 14098, 14102, three, &accepted) == SIENGULOT_NO_REFUSAL, "judge over ends refuses P16");
+    expect(three[0] == 1793 && three[1] == 6387 && three[2] == 1276 && accepted == 1, "judge over ends of P16");
+    expect(siengulot_judge_ends(4, 7, 1, 5, 10001, 9999, 14098, 14102, three, &accepted) == SIENGULOT_SETTING, "judge takes w1 above w2");
+    expect(three[0] == 1793 && accepted == 0, "judge over ends writes margins though it refuses");
+    expect(siengulot_judge_quiet_ends(4, 7, 1, 5, 9999, 10001, 14098, 14102, 11, 18, five, &accepted) == SIENGULOT_NO_REFUSAL,
+           "quiet judge over ends refuses P16");
+    expect(five[0] == 1793 && five[1] == 6387 && five[2] == 1276 && five[3] == 6870 && five[4] == 759 && accepted == 1,
+           "quiet judge over ends of P16");
+    expect(siengulot_judge_quiet_ends(4, 7, 1, 5, 9999, 10001, 14102, 14098, 11, 18, five, &accepted) == SIENGULOT_SETTING,
+           "quiet judge takes r1 above r2");
 }
 
 static void picking(void)
@@ -87,6 +98,11 @@ static void picking(void)
     expect(siengulot_pick(5, 13, 1, 65535, 1, &k) == SIENGULOT_NO_COUNT && k == 0, "pick where no k will do");
     k = 99;
     expect(siengulot_pick(SIENGULOT_SUBCELL_MOST + 1, 13, 1, 100, 142, &k) == SIENGULOT_SETTING && k == 0, "pick takes a 256");
+    k = 7;
+    expect(siengulot_pick_ends(4, 7, 1, 9999, 10001, 14098, 14102, &k) == SIENGULOT_NO_REFUSAL && k == 5, "pick over the ends of P16");
+    expect(siengulot_pick_ends(4, 7, 1, 99, 100, 141, 142, &k) == SIENGULOT_NO_COUNT && k == 0, "pick over ends where no k will do");
+    k = 7;
+    expect(siengulot_pick_ends(4, 7, 1, 10001, 9999, 14098, 14102, &k) == SIENGULOT_SETTING && k == 0, "pick takes w1 above w2");
 }
 
 static void words_of_half_cells(void)

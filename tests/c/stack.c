@@ -46,10 +46,19 @@ CALL(judge_refused, 1, siengulot_judge(0, 13, 1, 10, 100, 142, margins, &accepte
 CALL(quiet_yes, 0, siengulot_judge_quiet(5, 13, 1, 10, 100, 141, 16, 26, margins, &accepted))
 CALL(quiet_no, 0, siengulot_judge_quiet(5, 13, 1, 10, 100, 142, 16, 26, margins, &accepted))
 CALL(quiet_refused, 1, siengulot_judge_quiet(5, 13, 1, 10, 100, 142, 1, 26, margins, &accepted))
+CALL(judge_ends_yes, 0, siengulot_judge_ends(5, 13, 1, 10, 100, 101, 140, 141, margins, &accepted))
+CALL(judge_ends_no, 0, siengulot_judge_ends(5, 13, 1, 10, 100, 101, 140, 142, margins, &accepted))
+CALL(judge_ends_refused, 1, siengulot_judge_ends(5, 13, 1, 10, 101, 100, 140, 141, margins, &accepted))
+CALL(quiet_ends_yes, 0, siengulot_judge_quiet_ends(5, 13, 1, 10, 100, 101, 140, 141, 16, 26, margins, &accepted))
+CALL(quiet_ends_no, 0, siengulot_judge_quiet_ends(5, 13, 1, 10, 100, 101, 140, 142, 16, 26, margins, &accepted))
+CALL(quiet_ends_refused, 1, siengulot_judge_quiet_ends(5, 13, 1, 10, 100, 101, 142, 140, 16, 26, margins, &accepted))
 CALL(pick_given, 0, siengulot_pick(255, 255, 1, 7, 5, &k))
 CALL(pick_equals, 0, siengulot_pick(2, 3, 1, 4, 1, &k))
 CALL(pick_setting, 1, siengulot_pick(5, 13, 1, 100, 65536, &k))
 CALL(pick_none, 9, siengulot_pick(255, 255, 1, 65535, 1, &k))
+CALL(pick_ends_given, 0, siengulot_pick_ends(255, 255, 1, 7, 8, 5, 6, &k))
+CALL(pick_ends_setting, 1, siengulot_pick_ends(5, 13, 1, 100, 99, 141, 141, &k))
+CALL(pick_ends_none, 9, siengulot_pick_ends(255, 255, 1, 1, 65535, 1, 65535, &k))
 
 CALL(send_most, 0, siengulot_send(255, 255, 65535, turns, 1024, out, sizeof out, &place, &count))
 CALL(send_least, 0, siengulot_send(1, 1, 0, turns, 0, out, 0, &place, &count))
@@ -169,7 +178,10 @@ static const struct {
 } points[] = {
     {"siengulot_judge", {judge_yes, judge_no, judge_refused}},
     {"siengulot_judge_quiet", {quiet_yes, quiet_no, quiet_refused}},
+    {"siengulot_judge_ends", {judge_ends_yes, judge_ends_no, judge_ends_refused}},
+    {"siengulot_judge_quiet_ends", {quiet_ends_yes, quiet_ends_no, quiet_ends_refused}},
     {"siengulot_pick", {pick_given, pick_equals, pick_setting, pick_none}},
+    {"siengulot_pick_ends", {pick_ends_given, pick_ends_setting, pick_ends_none}},
     {"siengulot_send", {send_most, send_least, send_setting, send_entry, send_limit, send_room}},
     {"siengulot_plan", {plan_most, plan_setting, plan_entry, plan_limit, plan_room}},
     {"siengulot_read_plan", {stored_most, stored_setting, stored_row, stored_limit, stored_room}},

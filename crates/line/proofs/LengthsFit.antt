@@ -6,7 +6,7 @@ use Prim.Native.Nat.{ℕ, zero, suc, _+_, _<_, _≤_}
 use native.Mathlib.Numerals.{add-one}
 use native.Mathlib.Omega.{arith}
 use lib.Dec.{leb, ltb}
-use lib.ListN.{length, drop, getD, drop-of-length-le}
+use lib.ListN.{length, drop, getD, replicate, drop-of-length-le}
 use lib.Seq.{drop-cons}
 use borrow.Author.Tests.{le-leb, lt-leb, leb-true, ltb-true}
 use Rattle.measure.specs.Choose.{between}
@@ -73,6 +73,13 @@ judged least most lengths fits all few =
       least = λ i h. omega (arith, between-at least most lengths all i h .0);
       most = λ i h. omega (arith, between-at least most lengths all i h .1);
     }
+
+-- a length within the bounds, so many times
+pub between-equal : (least most x n : ℕ) → least ≤ x → x ≤ most → allBetween least most (replicate n x) ≡ true
+unfolding allBetween
+between-equal least most x zero low high = refl
+between-equal least most x (suc n) low high =
+    rw (le-leb least x low, le-leb x most high) (between-equal least most x n low high)
 
 -- p is below the first cycle's end, where there is a cycle
 pub phase-below : (p : ℕ) (cycles : List ℕ) → phaseFits p cycles ≡ true → 0 < length cycles

@@ -25,3 +25,4 @@ pub mod WanderClocks
 pub mod LengthsFit
 pub mod WanderReads
 pub mod WanderBounds
+pub mod WanderLine

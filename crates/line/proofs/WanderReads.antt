@@ -122,7 +122,7 @@ module _ (p : ℕ) (cycles reads levels : List ℕ) (written : Lengths cycles) (
       rw (no-cycle p cycles reads levels read (omega arith)) (sym (counts .none (omega arith))))
 
 -- the times of lengths that are all equal
-even-starts : (from n x i : ℕ) → i ≤ n → startOf from (replicate n x) i ≡ from + i * x
+pub even-starts : (from n x i : ℕ) → i ≤ n → startOf from (replicate n x) i ≡ from + i * x
 unfolding startOf
 even-starts from n x zero within = omega arith
 even-starts from n x (suc i) within =

@@ -23,21 +23,24 @@ const LIST: usize = ENTRIES_MOST + 1;
 // Runs the operation that a case names, and gives how many entries it has written.
 fn operate(case: &[u8], one: &[u8], two: &[u8], out: &mut [u8]) -> usize {
     let names =
-        b"judge judge_quiet send send_plan read_plan smooth warp warp_by_lengths settle count_bits encode decode ";
+        b"judge judge_quiet judge_ends judge_quiet_ends send send_plan read_plan smooth warp warp_by_lengths settle \
+        count_bits encode decode ";
     let n = reading::numbers_of(case);
     match reading::operation(case, names) {
         0 => judging::judge(n),
         1 => judging::judge_quiet(n),
-        2 => sending::send(n, one, out),
-        3 => sending::send_plan(case, n, one, out),
-        4 => joining::read_plan(case, n),
-        5 => passing::smooth(n, one, out),
-        6 => passing::warp(n, one, out),
-        7 => passing::warp_by_lengths(case, n, one, out),
-        8 => passing::settle(one, two, out),
-        9 => counting::count_bits(n, one, out),
-        10 => words::encode(one, out),
-        11 => words::decode(one, out),
+        2 => judging::judge_ends(n),
+        3 => judging::judge_quiet_ends(case),
+        4 => sending::send(n, one, out),
+        5 => sending::send_plan(case, n, one, out),
+        6 => joining::read_plan(case, n),
+        7 => passing::smooth(n, one, out),
+        8 => passing::warp(n, one, out),
+        9 => passing::warp_by_lengths(case, n, one, out),
+        10 => passing::settle(one, two, out),
+        11 => counting::count_bits(n, one, out),
+        12 => words::encode(one, out),
+        13 => words::decode(one, out),
         _ => 0,
     }
 }

@@ -10,10 +10,9 @@ use lib.ListN.{length, getD}
 use borrow.Author.Tests.{le-leb, lt-leb, lt-ltb}
 use Rattle.sender.specs.Sending.{Row}
 use Rattle.sender.proofs.PlanWaves.{length-one}
-use Rattle.line.specs.Warp.{cycleStart, readStart}
-use Rattle.line.proofs.ClockBounds.{mono, read-clock}
+use Rattle.line.proofs.ClockBounds.{Clock, mono}
 use Rattle.board.specs.Feeding.{Report}
-use Rattle.promises.specs.Places.{Link, planReads, placesWhere, numbered, wholly, withinLead}
+use Rattle.promises.specs.Places.{Scene, placesWhere, numbered, wholly, withinLead}
 use Rattle.promises.specs.Places.{heard, lastAfter, lastSample, deliveries}
 use Rattle.promises.specs.Replaced.{reportsAt, below}
 use Rattle.promises.proofs.Sampling.{Samples, samples-on, sampled-at}
@@ -73,22 +72,22 @@ module _ (test : ℕ → Bool) where
         go (suc q) p h f = omega (arith, numbered-all q (many - i0) i0 (omega arith) (λ i y z. f i y (omega arith)))
 
 -- rows that are placed among the first N reads are reported below N
-pub placed-below : {tw tr D : ℕ → ℕ} {g k Q d N c : ℕ} {rows : List Row} {fs : List Report}
-    → Placed tw tr D g k Q d N c rows fs → below N fs ≡ fs
+pub placed-below : {tw tr D : ℕ → ℕ} {g k Q r2 d N c : ℕ} {rows : List Row} {fs : List Report}
+    → Placed tw tr D g k Q r2 d N c rows fs → below N fs ≡ fs
 unfolding reportsAt
 placed-below no-row = refl
-placed-below {N = N} (a-row {s = s} {row = row} {fs = fs} lead samples within more) =
+placed-below {N = N} (a-row {s = s} {row = row} {fs = fs} lead samples within last more) =
     rw (lt-ltb s N within) (ap (λ (l : List Report). deliveredAt s (row .bits) ∷ l) (placed-below more))
 
-module _ (x : Link) where
+module _ (x : Scene) (reader : Clock (x .begins) (x .ends .r1) (x .ends .r2)) where
   abbrev R : List ℕ
-  R = planReads x
+  R = x .reads
 
   abbrev tw : ℕ → ℕ
-  tw = cycleStart (x .w)
+  tw = x .starts
 
   abbrev tr : ℕ → ℕ
-  tr = readStart (x .p) (x .r)
+  tr = x .begins
 
   -- the Q reads of lead cycles are the first that lie wholly within them
   module _ (c m i0 : ℕ) (lead : Lead tw tr (x .g) (x .Q) c m i0) (there : i0 + x .Q ≤ length R) where
@@ -98,9 +97,8 @@ module _ (x : Link) where
     inside : (i : ℕ) → i0 ≤ i → i < i0 + x .Q → wholly x (c + x .g) (c + m) i ≡ true
     inside i h l =
         rw (
-          le-leb (tw (c + x .g)) (tr i) (omega (arith, lead .starts, mono (read-clock (x .p) (x .r)) i0 i h)),
-          le-leb (tr (suc i)) (tw (c + m))
-              (omega (arith, lead .ends, mono (read-clock (x .p) (x .r)) (suc i) (i0 + x .Q) l)),
+          le-leb (tw (c + x .g)) (tr i) (omega (arith, lead .starts, mono reader i0 i h)),
+          le-leb (tr (suc i)) (tw (c + m)) (omega (arith, lead .ends, mono reader (suc i) (i0 + x .Q) l)),
         )
 
     pub lead-enough : x .Q ≤ length (withinLead x c m)
@@ -117,12 +115,13 @@ module _ (x : Link) where
   last-after read e samples there = rw e (sampled-at R samples there)
 
   -- rows that are placed are placed where the rules' words place them
-  pub placed-is : {c : ℕ} {rows : List Row} {fs : List Report} → 0 < x .Q → Fit (x .n) (x .Q) (x .g) (x .w) (x .r) rows
-      → Placed tw tr (λ i. getD R i 2) (x .g) (x .k) (x .Q) (x .a + x .b) (length R) c rows fs
+  pub placed-is : {c : ℕ} {rows : List Row} {fs : List Report} → 0 < x .Q
+      → Fit (x .n) (x .Q) (x .g) (x .ends .w1) (x .ends .r2) rows
+      → Placed tw tr (λ i. getD R i 2) (x .g) (x .k) (x .Q) (x .ends .r2) (x .a + x .b) (length R) c rows fs
       → fs ≡ deliveries x c rows
   unfolding deliveries lastSample
   placed-is some fit no-row = refl
-  placed-is {c} some fit (a-row {i0 = i0} {s = s} {row = row} {rows = rows} {fs = fs} lead samples within more) =
+  placed-is {c} some fit (a-row {i0 = i0} {s = s} {row = row} {rows = rows} {fs = fs} lead samples within last more) =
       rw (sampled, length-one (x .a) (x .b) row)
       (ap (λ (l : List Report). deliveredAt s (row .bits) ∷ l) (placed-is some (fit .3) more))
     where

@@ -3,18 +3,22 @@ use Rattle.stored.proofs.ShownHolds.{same-wave}
 use Rattle.line.proofs.Settling.{smooth-laws-hold}
 use Rattle.line.proofs.WarpLaws.{warp-laws-hold}
 use Rattle.line.proofs.WanderReads.{equal-lengths-warp}
+use Rattle.line.proofs.WanderLine.{equal-lengths-line}
 use Rattle.board.proofs.WellFormedStays.{every-step}
 use Rattle.capture.proofs.RoundTrips.{written-read-back, read-written-back}
 use Rattle.halfcells.proofs.TableHolds.{table-is-the-rule}
 use Rattle.halfcells.proofs.Shown.{words-are-the-wave}
 use Rattle.halfcells.proofs.RoundTrips.{encoded-decodes, decoded-encodes}
 use Rattle.page.proofs.WholeOutput.{whole}
+use Rattle.promises.specs.Places.{scene}
 use Rattle.promises.specs.Demand3.{receiverSettings}
 use Rattle.promises.specs.Hearing.{hearing}
 use Rattle.promises.specs.Demands.{Demands}
-use Rattle.promises.proofs.CountedReturns.{operation-returns}
+use Rattle.promises.proofs.Reaches.{steady-by-lengths}
+use Rattle.promises.proofs.CountedReturns.{accepted-return, operation-returns, steady-return}
 use Rattle.promises.proofs.Picked.{picked-counts}
-use Rattle.promises.proofs.Demand3.{demand-3, user-wording, grounds}
+use Rattle.promises.proofs.Demand3.{user-wording}
+use Rattle.promises.proofs.Scenes.{running, clocked, link-demand, demand-3, grounds, steady-clocks}
 use Rattle.promises.proofs.StoredPlans.{every-stored-plan, stored-plans-hold}
 use Rattle.promises.proofs.HearingFromC.{every-caller}
 use Rattle.promises.proofs.AnyHearing.{any-hearing}
@@ -34,7 +38,11 @@ demands = record {
     smooths = smooth-laws-hold;
     line = warp-laws-hold;
     equal-lengths = equal-lengths-warp;
-    counts = operation-returns;
+    equal-lengths-line = equal-lengths-line;
+    steady-by-lengths = steady-by-lengths;
+    counts = accepted-return;
+    counts-bits = operation-returns;
+    steady-counts = steady-return;
     picks = picked-counts;
     well-formed = every-step;
     hears = every-caller;
@@ -51,7 +59,11 @@ demands = record {
     in-the-users-words = user-wording;
     grounds = grounds;
     of-every-caller = λ x fits range caller.
-        any-hearing x fits (hearing caller (receiverSettings x)) (every-caller (receiverSettings x) range caller);
+        let settings = receiverSettings (scene x) in
+        link-demand x fits (hearing caller settings)
+        (any-hearing (running x) (x .highAfter) (clocked x fits) (hearing caller settings)
+        (every-caller settings range caller));
+    steady-clocks = steady-clocks;
     judged = accepted-fits;
     whole-way = whole-way;
     every-stored-plan = every-stored-plan;

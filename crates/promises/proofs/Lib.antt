@@ -6,6 +6,8 @@ pub mod Seams
 pub mod Recovery
 pub mod Deliveries
 pub mod Demand3
+pub mod Reaches
+pub mod Scenes
 pub mod StoredPlans
 pub mod Hearing
 pub mod HearingFromC

@@ -10,6 +10,7 @@ use native.Mathlib.Decide.{decLe}
 use native.Mathlib.Omega.{arith}
 use lib.ListN.{length, length-replicate}
 use Rattle.measure.specs.Ranges.{padMost, entriesMost}
+use Rattle.settings.specs.Margins.{steady}
 use Rattle.settings.proofs.BothEnds.{InRange, in-range}
 use Rattle.sender.proofs.Waves.{followed-length, followed-levels}
 use Rattle.line.specs.Smooth.{smooth}
@@ -17,8 +18,9 @@ use Rattle.line.specs.Warp.{cycleStart, readStart}
 use Rattle.line.proofs.SettleLaws.{length-settle}
 use Rattle.line.proofs.SmoothLaws.{length-smooth}
 use Rattle.line.proofs.LineLaws.{Reads, few-reads, reads-few, over-the-line, over-reads}
-use Rattle.promises.specs.CountedReturns.{followed, messageReads}
-use Rattle.promises.specs.WhatNoMeans.{almostAccepted, OneBit, Lost, WithinLimits, LostWithinLimits}
+use Rattle.promises.specs.Places.{steadily}
+use Rattle.promises.specs.WhatNoMeans.{almostAccepted, OneBit, bitWave, bitReads, Lost, WithinLimits}
+use Rattle.promises.specs.WhatNoMeans.{LostWithinLimits}
 use Rattle.promises.proofs.SignedMargins.{margins-almost}
 use Rattle.promises.proofs.Need.{unsettled}
 use Rattle.promises.proofs.Witness.{LosesHigh, margins-or, highBit, lowBit, least, start, many}
@@ -28,10 +30,10 @@ use Rattle.promises.proofs.WhatNoMeans.{loses-lost}
 -- one bit's wave and its reads
 module _ (a b g w r : ℕ) (pos : 0 < r) (m : OneBit w) where
   abbrev l : List ℕ
-  l = followed a b (m .p1) (m .after) (m .bit ∷ [])
+  l = bitWave a b m
 
   abbrev R : List ℕ
-  R = messageReads a b g w r (m .p1) (m .after) (m .p) (m .bit ∷ []) (m .choices)
+  R = bitReads a b g (steadily w r (m .p)) m
 
   reads : Reads (cycleStart w) (readStart (m .p) r) (smooth g l) R
   reads =
@@ -52,10 +54,11 @@ module _ (a b g w r : ℕ) (pos : 0 < r) (m : OneBit w) where
   same-reads : length R ≡ length (unsettled g w r (m .p) l)
   same-reads = rw (over-the-line g w r (m .p) l (m .choices)) (length-settle _ _)
 
-module _ (a b g k w r : ℕ) (range : InRange a b g k w r) (fits : (a + b) * w < w - 1 + suc entriesMost * r) where
+module _ (a b g k w r : ℕ) (range : InRange a b g k (steady w r))
+    (fits : (a + b) * w < w - 1 + suc entriesMost * r) where
   -- one bit with no cycle after it, a lead and a phase that leave its reads within the limit
   within : (m : OneBit w) → m .after ≡ 0 → m .p1 ≤ padMost → (m .p1 + (a + b)) * w < m .p + suc entriesMost * r
-      → length (m .choices) ≤ length (messageReads a b g w r (m .p1) (m .after) (m .p) (m .bit ∷ []) (m .choices))
+      → length (m .choices) ≤ length (bitReads a b g (steadily w r (m .p)) m)
       → WithinLimits a b g w r m
   within m none lead short chosen = record {
     lead = lead;
@@ -69,11 +72,11 @@ module _ (a b g k w r : ℕ) (range : InRange a b g k w r) (fits : (a + b) * w <
     chosen = omega (arith, all, chosen);
   }
     where
-      all : length (messageReads a b g w r (m .p1) (m .after) (m .p) (m .bit ∷ []) (m .choices)) ≤ entriesMost
-      all = few a b g w r (range .read .0) m (rw none (omega (arith, short)))
+      all : length (bitReads a b g (steadily w r (m .p)) m) ≤ entriesMost
+      all = few a b g w r (range .clocks .r-least) m (rw none (omega (arith, short)))
 
   abbrev Within : Type 0
-  Within = (n : OneBit w) × (n .after ≡ 0) × WithinLimits a b g w r n × Lost a b g k w r n
+  Within = (n : OneBit w) × (n .after ≡ 0) × WithinLimits a b g w r n × Lost a b g k (steadily w r (n .p)) n
 
   -- high choices
   high : (lead p x : ℕ) (below : p < w) (is : x ≤ 1) → lead ≤ padMost → (lead + (a + b)) * w < p + suc entriesMost * r
@@ -81,7 +84,7 @@ module _ (a b g k w r : ℕ) (range : InRange a b g k w r) (fits : (a + b) * w <
   high lead p x below is pad short loses = (
     m,
     refl,
-    within m refl pad short (rw length-replicate (omega (arith, same-reads a b g w r (range .read .0) m))),
+    within m refl pad short (rw length-replicate (omega (arith, same-reads a b g w r (range .clocks .r-least) m))),
     loses-lost a b g k w r m loses,
   )
     where
@@ -96,16 +99,16 @@ module _ (a b g k w r : ℕ) (range : InRange a b g k w r) (fits : (a + b) * w <
     refl,
     within (lowBit w lead p below) refl pad short (omega arith),
     loses-lost a b g k w r (lowBit w lead p below)
-        (loses-2 a b g k w r (range .read .0) lead p below (range .mark .0) (range .settles .0) (range .sample .0)
-        touches early),
+        (loses-2 a b g k w r (range .clocks .r-least) lead p below (range .mark .0) (range .settles .0)
+        (range .sample .0) touches early),
   )
 
   last : w - 1 < w
-  last = omega (arith, range .cycle)
+  last = omega (arith, range .clocks)
 
   -- a lead that is shorter than a read is within its limit
   few-cycles : (n : ℕ) → n * w < r → n ≤ padMost
-  few-cycles n h = omega (arith, range .read, mul-le-mul-left n (range .cycle .0))
+  few-cycles n h = omega (arith, range .clocks, mul-le-mul-left n (range .clocks .w-least))
 
   whole : (a + b) * w ≤ 510 * w
   whole = mul-le-mul-right w (omega (arith, range .mark, range .code))
@@ -116,7 +119,7 @@ module _ (a b g k w r : ℕ) (range : InRange a b g k w r) (fits : (a + b) * w <
       → LosesHigh a b g k w r lead p x below is)
       → Within
   started x is short loses =
-      let at = start g w r (range .settles .0) (range .cycle .0) (range .read .0) in
+      let at = start g w r (range .settles .0) (range .clocks .w-least) (range .clocks .r-least) in
       high (at .lead) (at .p) x (at .below) is (few-cycles (at .lead) (at .short))
       (omega (arith, short, at .lies, at .soon))
       (loses (at .lead) (at .p) (at .below) (at .read) (at .lies))
@@ -131,10 +134,10 @@ module _ (a b g k w r : ℕ) (range : InRange a b g k w r) (fits : (a + b) * w <
       dite (decLe a g)
       (λ y.
       high 0 (w - 1) 1 last (omega arith) (omega arith) (omega (arith, fits))
-      (loses-mark a b g k w r (range .read .0) 0 (w - 1) last y))
+      (loses-mark a b g k w r (range .clocks .r-least) 0 (w - 1) last y))
       (λ y.
       started 1 (omega arith) (omega (arith, h, whole, one-more a y))
-      (λ lead p below read lies. loses-1 a b g k w r (range .read .0) lead p below read lies h))
+      (λ lead p below read lies. loses-1 a b g k w r (range .clocks .r-least) lead p below read lies h))
 
   -- M3: the same of a cell, which is shorter than k + 2 reads more
   late-sample : (a + b) * w + 2 ≤ (k + 2) * r + g * w → Within
@@ -142,27 +145,28 @@ module _ (a b g k w r : ℕ) (range : InRange a b g k w r) (fits : (a + b) * w <
       dite (decLe (a + b) g)
       (λ y.
       high 0 (w - 1) 0 last (omega arith) (omega arith) (omega (arith, fits))
-      (loses-cell a b g k w r (range .read .0) 0 (w - 1) last y))
+      (loses-cell a b g k w r (range .clocks .r-least) 0 (w - 1) last y))
       (λ y.
       started 0 (omega arith)
       (omega (arith, h, whole, mul-le-mul-right r (range .sample .1), one-more (a + b) y))
-      (λ lead p below read lies. loses-3 a b g k w r (range .read .0) lead p below read lies h))
+      (λ lead p below read lies. loses-3 a b g k w r (range .clocks .r-least) lead p below read lies h))
 
   -- M2: with a lead of just under a read where that is within the limit, and with none where a cell is very long
   early : k * r + 2 ≤ (a + g) * w + r → Within
   early h =
       dite (decLe ((a + b) * w) (entriesMost * r))
       (λ y.
-      let (n, u, v) = least w (r - 1) (range .cycle .0) in
-      low n (n * w + 1 - r) (omega (arith, range .read)) (small n w r (range .cycle .0) v (range .read .1))
-      (omega (arith, range .read))
-      (omega (arith, range .read)) (omega (arith, range .read)))
+      let (n, u, v) = least w (r - 1) (range .clocks .w-least) in
+      low n (n * w + 1 - r) (omega (arith, range .clocks))
+      (small n w r (range .clocks .w-least) v (range .clocks .r-most))
+      (omega (arith, range .clocks))
+      (omega (arith, range .clocks)) (omega (arith, range .clocks)))
       (λ y.
       low 0 (w - 1) last (omega arith) (omega (arith, fits))
-      (omega (arith, range .cycle, range .read))
+      (omega (arith, range .clocks, range .clocks))
       (omega (
         arith,
-        range .cycle,
+        range .clocks,
         whole,
         mul-le-mul-right r (range .sample .1),
         mul-le-mul-right w (range .mark .0),
@@ -176,9 +180,9 @@ module _ (a b g k w r : ℕ) (range : InRange a b g k w r) (fits : (a + b) * w <
           under : (n r : ℕ) → (n ≤ r → ⊥) → 1 ≤ n
           under n r z = omega arith
 
-  pub lose-within : almostAccepted a b g k w r ≡ false → Within
+  pub lose-within : almostAccepted a b g k (steady w r) ≡ false → Within
   lose-within refused =
-      margins-or a b g k w w r r (λ ok. absurd (false≢true (sym refused ∙ margins-almost a b g k w r ok)))
+      margins-or a b g k w w r r (λ ok. absurd (false≢true (sym refused ∙ margins-almost a b g k (steady w r) ok)))
       short-mark early late-sample
 
 -- the message that fits says that a cell at the last phase does
@@ -189,11 +193,11 @@ lost-within-limits a b g k w r ranges m limits =
       arith,
       m .phase,
       mul-le-mul-right w (longer (m .p1) (a + b) (m .after)),
-      ends-late a b g w r (range .read .0) m (limits .reads),
+      ends-late a b g w r (range .clocks .r-least) m (limits .reads),
     ))
   where
-    range : InRange a b g k w r
-    range = in-range a b g k w r ranges
+    range : InRange a b g k (steady w r)
+    range = in-range a b g k (steady w r) ranges
 
     longer : (x y z : ℕ) → y ≤ x + y + z
     longer x y z = omega arith

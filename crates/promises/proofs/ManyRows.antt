@@ -17,7 +17,7 @@ use Rattle.board.proofs.Goes.{Goes, here, join}
 use Rattle.promises.proofs.Timing.{Waits, Margins}
 use Rattle.promises.proofs.Sent.{Filled, Line}
 use Rattle.promises.proofs.Sampling.{Samples}
-use Rattle.promises.proofs.OneRow.{deliveredAt, Ended, RowFrom, one-row, two}
+use Rattle.promises.proofs.OneRow.{deliveredAt, Ended, LastCell, RowFrom, one-row, two}
 use Rattle.promises.proofs.Quiets.{Lead, lead-reads, silent, waits, readied}
 
 -- each row has n bits and a lead with M5 -1 or more
@@ -38,13 +38,14 @@ filled n Q g w1 r2 [] p h = tt
 filled n Q g w1 r2 (row ∷ rows) p h = (omega (arith, h .1), filled n Q g w1 r2 rows p (h .3))
 
 -- Rows from cycle c on, each reported at its last sample: the n-th that the counted rule finds from the read on after
--- its lead has been heard. Each is among the first N reads.
-pub data Placed (tw tr D : ℕ → ℕ) (g k Q d N : ℕ) : ℕ → List Row → List Report → Type 0 where
-  no-row : {c : ℕ} → Placed tw tr D g k Q d N c [] []
+-- its lead has been heard, which is the sample of its last cell. Each is among the first N reads.
+pub data Placed (tw tr D : ℕ → ℕ) (g k Q r2 d N : ℕ) : ℕ → List Row → List Report → Type 0 where
+  no-row : {c : ℕ} → Placed tw tr D g k Q r2 d N c [] []
   a-row : {c i0 s : ℕ} {row : Row} {rows : List Row} {fs : List Report} → Lead tw tr g Q c (row .lead) i0
       → Samples k D (length (row .bits)) 1 (i0 + Q) s → s < N
-      → Placed tw tr D g k Q d N (c + (row .lead + length (row .bits) * d)) rows fs
-      → Placed tw tr D g k Q d N c (row ∷ rows) (deliveredAt s (row .bits) ∷ fs)
+      → LastCell tw tr d g k r2 (c + (row .lead + length (row .bits) * d)) s
+      → Placed tw tr D g k Q r2 d N (c + (row .lead + length (row .bits) * d)) rows fs
+      → Placed tw tr D g k Q r2 d N c (row ∷ rows) (deliveredAt s (row .bits) ∷ fs)
 
 -- The rows end with cycle E, and those reads that end by then are among the first N. The wave ends with cycle L, and
 -- the M reads end by then.
@@ -56,7 +57,7 @@ module _ {tw tr S D : ℕ → ℕ} {w1 w2 r1 r2 : ℕ} (E L : ℕ) (EL : E ≤ L
   -- from the state s before read j on, up to the last read, the rows from cycle c on are reported, and nothing else
   abbrev pub Reports : ℕ → State → ℕ → List Row → Type 0
   Reports j s c rows =
-      (fs : List Report) × (t : State) × Goes k n Q D j s fs M t × Placed tw tr D g k Q (a + b) N c rows fs
+      (fs : List Report) × (t : State) × Goes k n Q D j s fs M t × Placed tw tr D g k Q r2 (a + b) N c rows fs
 
   -- a row's lead, which starts at cycle c, has Q such reads
   pub heard-lead : (row : Row) (rows : List Row) (c : ℕ) → Fit n Q g w1 r2 (row ∷ rows)
@@ -102,7 +103,7 @@ module _ {tw tr S D : ℕ → ℕ} {w1 w2 r1 r2 : ℕ} (E L : ℕ) (EL : E ≤ L
       next-lead = omega arith
 
       go : RowFrom wclk rclk pos see ok n Q m4 (row .bits) cells (i0 + Q) → Reports (i0 + Q) (ready Q) c (row ∷ rows)
-      go (s, σ, f, ended, samples) = on (more s σ within ended)
+      go (s, σ, f, ended, samples, last) = on (more s σ within ended)
         where
           within : s < N
           within =
@@ -111,8 +112,12 @@ module _ {tw tr S D : ℕ → ℕ} {w1 w2 r1 r2 : ℕ} (E L : ℕ) (EL : E ≤ L
 
           on : Reports (suc s) (hunting σ) (cells + length (row .bits) * (a + b)) rows
               → Reports (i0 + Q) (ready Q) c (row ∷ rows)
-          on (fs, z, w, p) =
-              (deliveredAt s (row .bits) ∷ fs, z, join k n Q D f w, a-row reads samples within (rw next-lead at p))
+          on (fs, z, w, p) = (
+            deliveredAt s (row .bits) ∷ fs,
+            z,
+            join k n Q D f w,
+            a-row reads samples within (rw next-lead at last) (rw next-lead at p),
+          )
 
   -- from ready with a row's lead heard: exactly that row and those after it are reported
   pub heard-rows : (rows : List Row) (row : Row) (c u i0 : ℕ) → Line a b g S L c u (row ∷ rows)

@@ -172,7 +172,14 @@ one-meaning = record {
   pick = record {
     always = λ κs a. tt;
     once = λ κs a x y left right h h′.
-        (same pick-said refl (only-one _ _ _ _ _ (pickedSays x) (pickedSays y) h h′), refl);
+        (same pick-said refl (only-one _ _ _ _ (pickedSays x) (pickedSays y) h h′), refl);
+  };
+  judge-ends = record { always = λ κs a. tt; once = λ κs a x y left right h h′. (same judge-said h h′, refl) };
+  judge-quiet-ends = record { always = λ κs a. tt; once = λ κs a x y left right h h′. (same quiet-said h h′, refl) };
+  pick-ends = record {
+    always = λ κs a. tt;
+    once = λ κs a x y left right h h′.
+        (same pick-said refl (only-one _ _ _ _ (pickedSays x) (pickedSays y) h h′), refl);
   };
   send = record {
     always = λ κs a. tt;
@@ -278,7 +285,26 @@ one-meaning = record {
     once = λ κs a x y left right h h′.
         crosses (λ (p : ℕ × ℕ). p .0)
         (λ p. (tt, (tt, (tt, (tt, (tt, (p .1, tt))))))) (h .crosses)
-        (ap pickedOver (only-one _ _ _ _ _ (h .answer) (h′ .answer) (h .fits) (h′ .fits)) ∙ h′ .crosses);
+        (ap pickedOver (only-one _ _ _ _ (h .answer) (h′ .answer) (h .fits) (h′ .fits)) ∙ h′ .crosses);
+  };
+  siengulot-judge-ends = record {
+    always = λ κs a. tt;
+    once = λ κs a x y left right h h′.
+        crosses (λ (p : ℕ × ℕ × List ℤ). p .0)
+        (λ p. (tt, (tt, (tt, (tt, (tt, (tt, (tt, (tt, (p .2, (p .1, tt))))))))))) h h′;
+  };
+  siengulot-judge-quiet-ends = record {
+    always = λ κs a. tt;
+    once = λ κs a x y left right h h′.
+        crosses (λ (p : ℕ × ℕ × List ℤ). p .0)
+        (λ p. (tt, (tt, (tt, (tt, (tt, (tt, (tt, (tt, (tt, (tt, (p .2, (p .1, tt))))))))))))) h h′;
+  };
+  siengulot-pick-ends = record {
+    always = λ κs a. tt;
+    once = λ κs a x y left right h h′.
+        crosses (λ (p : ℕ × ℕ). p .0)
+        (λ p. (tt, (tt, (tt, (tt, (tt, (tt, (tt, (p .1, tt))))))))) (h .crosses)
+        (ap pickedOver (only-one _ _ _ _ (h .answer) (h′ .answer) (h .fits) (h′ .fits)) ∙ h′ .crosses);
   };
   siengulot-send = record {
     always = λ κs a. tt;

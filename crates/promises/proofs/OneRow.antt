@@ -1,6 +1,6 @@
 -- One row through the row receiver: each mark is heard and each sample is right, and M4 keeps the run of high reads
 -- below Q up to the last sample.
-use mathlib.Core.Path.{_≡_, subst, sym, ap, _∙_}
+use mathlib.Core.Path.{_≡_, refl, subst, sym, ap, _∙_}
 use mathlib.Core.List.{List, [], _∷_, _++_, append-assoc}
 use Prim.Native.Nat.{ℕ, suc, _+_, _*_, _-_, _≤_, _<_}
 use native.Mathlib.Nat.{add-assoc, lt-of-mul-lt-mul-right}
@@ -39,6 +39,16 @@ pub record Ended (tw tr S : ℕ → ℕ) (g Q c u j ρ : ℕ) : Type 0 where
   pub low-ends : u ≡ 0 → tr j ≤ tw c
   pub inside : 0 < j → tr j ≤ tw c
 
+-- Read s is the sample of a cell of d cycles that ends before cycle c: its mark touches the cell and starts soon after
+-- the edge has settled.
+pub record LastCell (tw tr : ℕ → ℕ) (d g k r2 c s : ℕ) : Type 0 where
+  pub cell : ℕ
+  pub mark : ℕ
+  pub whole : cell + d ≡ c
+  pub sample : mark + k ≡ s
+  pub edge : tw cell < tr (suc mark)
+  pub soon : tr mark < tw (cell + g) + r2
+
 module _ {tw tr S D : ℕ → ℕ} {w1 w2 r1 r2 end : ℕ} (wclk : Clock tw w1 w2) (rclk : Clock tr r1 r2) (pos : 0 < r1)
     (see : Settled tw tr S D end) {a b g k : ℕ} (ok : Margins a b g k w1 w2 r1 r2)
     (n Q : ℕ) (m4 : (a + b + g) * w2 + 2 * r1 ≤ suc (Q * r1)) where
@@ -71,6 +81,7 @@ module _ {tw tr S D : ℕ → ℕ} {w1 w2 r1 r2 end : ℕ} (wclk : Clock tw w1 w
       × Goes k n Q D (suc m) (counting k (1 - v) ρ bs) (deliveredAt s (bs ++ bits) ∷ []) (suc s) (hunting σ)
       × Ended tw tr S g Q (c + length bits * (a + b)) (final v bits) (suc s) σ
       × Samples k D (length bits) v j s
+      × LastCell tw tr (a + b) g k r2 (c + length bits * (a + b)) s
 
   -- one cell: from its mark to its sample
   module _ (x c v j m ρ : ℕ) (bs : List ℕ) (lv : v ≤ 1) (lx : x ≤ 1) (lr : ρ ≤ 1)
@@ -121,6 +132,14 @@ module _ {tw tr S D : ℕ → ℕ} {w1 w2 r1 r2 end : ℕ} (wclk : Clock tw w1 w
             inside = λ y. omega (arith, heard .ends, mono wclk (c + (a + b)) (c + 1 * (a + b)) (omega arith));
           },
           sampled none,
+          record {
+            cell = c;
+            mark = m;
+            whole = omega arith;
+            sample = refl;
+            edge = heard .edge;
+            soon = heard .soon;
+          },
         )
 
     -- from the mark up to and with the mark m′ of the next cell, which is heard from the sample on
@@ -226,8 +245,14 @@ module _ {tw tr S D : ℕ → ℕ} {w1 w2 r1 r2 end : ℕ} (wclk : Clock tw w1 w
               (counting k (1 - codeLevel v x) σ (bs ++ (x ∷ [])))
               → Delivered j m ρ v bs (x ∷ y ∷ ys) c
           on (σ, q, f) =
-              let (s, τ, h, d, p) = rest m′ σ q next′ in
-              (s, τ, join k n Q D f (rw append-assoc at h), rw further d, sampled x c v j m ρ bs lv lx lr cell heard p)
+              let (s, τ, h, d, p, z) = rest m′ σ q next′ in (
+                s,
+                τ,
+                join k n Q D f (rw append-assoc at h),
+                rw further d,
+                sampled x c v j m ρ bs lv lx lr cell heard p,
+                rw further z,
+              )
 
   -- a row from ready on: exactly the row is reported, at its last sample
   abbrev pub RowFrom : List ℕ → ℕ → ℕ → Type 0
@@ -235,6 +260,7 @@ module _ {tw tr S D : ℕ → ℕ} {w1 w2 r1 r2 end : ℕ} (wclk : Clock tw w1 w
       (s : ℕ) × (σ : ℕ) × Goes k n Q D j (ready Q) (deliveredAt s bits ∷ []) (suc s) (hunting σ)
       × Ended tw tr S g Q (c + length bits * (a + b)) (final 1 bits) (suc s) σ
       × Samples k D (length bits) 1 j s
+      × LastCell tw tr (a + b) g k r2 (c + length bits * (a + b)) s
 
   pub one-row : (bits : List ℕ) (c j : ℕ) → 0 < n → Levels bits → Holds a b g S c 1 bits → Waits tw tr D g c 1 j
       → length bits ≡ n
@@ -249,7 +275,7 @@ module _ {tw tr S D : ℕ → ℕ} {w1 w2 r1 r2 end : ℕ} (wclk : Clock tw w1 w
 
       go : (m : ℕ) × Heard tw tr D a b g k r2 c 1 (codeLevel 1 x) j m → RowFrom (x ∷ xs) c j
       go (m, heard) =
-          let (s, σ, f, d, p) =
+          let (s, σ, f, d, p, z) =
           body xs x c 1 j m 0 [] (omega arith) (hb .0) (hb .1) (omega arith) (hs .0) heard (hs .1)
           (omega arith) e in (
             s,
@@ -258,6 +284,7 @@ module _ {tw tr S D : ℕ → ℕ} {w1 w2 r1 r2 end : ℕ} (wclk : Clock tw w1 w
                 (step k n Q D (heard .differs) (opened k n Q (omega (arith, two))) f),
             d,
             p,
+            z,
           )
         where
           place : j + (m - j) ≡ m

@@ -6,6 +6,5 @@ use Rattle.promises.proofs.CountedReturns.{accepted-return}
 pub picked-counts : PickedCounts
 picked-counts = record {
   shown = pick-shown;
-  returns = λ a b g k w r p.
-      accepted-return a b g k w r (picked-settles a b g k w r p) (pick-shown .accepts a b g k w r p);
+  returns = λ a b g k e p. accepted-return a b g k e (picked-settles a b g k e p) (pick-shown .accepts a b g k e p);
 }

@@ -111,7 +111,7 @@ module _ {tw tr : ℕ → ℕ} {w1 w2 r1 r2 : ℕ} (wclk : Clock tw w1 w2) (rclk
 
   -- reports that are the rows from cycle c on, each at its last sample, which is among the first N reads
   abbrev pub Told : ℕ → List Report → ℕ → List Row → Type 0
-  Told N told c later = Placed tw tr D g k Q (a + b) N c later told
+  Told N told c later = Placed tw tr D g k Q r2 (a + b) N c later told
 
   -- with nothing replaced exactly the rows are reported, all with reads that end by their last cell's end
   pub undamaged : (N : ℕ) → N ≤ length R → ((j : ℕ) → tr (suc j) ≤ tw E → j < N)
@@ -227,7 +227,7 @@ module _ {tw tr : ℕ → ℕ} {w1 w2 r1 r2 : ℕ} (wclk : Clock tw w1 w2) (rclk
             place = omega (arith, later-heard)
 
       sampled : {fs : List Report} → Told (length R) fs c (row ∷ later) → SameSample c row (i1 + Q)
-      sampled (a-row {i0 = i0} {s = s} lead samples there more) = record {
+      sampled (a-row {i0 = i0} {s = s} lead samples there last more) = record {
         i0 = i0;
         lead = lead;
         s = s;

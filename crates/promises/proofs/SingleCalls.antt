@@ -11,7 +11,7 @@ use Rattle.measure.specs.Ranges.{subcell, sampling, quiet, padMost, bitsMost, r
 use Rattle.measure.specs.Ranges.{settling as settlingCount, inputMost, wordsMost, rowSettingsFit}
 use Rattle.measure.specs.Refusals.{Answer, given, refused, numberOf, placeOf}
 use Rattle.settings.specs.Answers.{inRange, judgement, quietJudgement}
-use Rattle.settings.specs.Margins.{zeroOrMore}
+use Rattle.settings.specs.Margins.{Ends, zeroOrMore}
 use Rattle.settings.specs.Pick.{least, pickable, Best, Picks, out-of-range}
 use Rattle.settings.proofs.PickHolds.{only-one, best-fits}
 use Rattle.sender.specs.Sending.{wave, planWave, rowsOf}
@@ -48,23 +48,23 @@ use Rattle.promises.proofs.Promised.{done, past, within, same, across, 
 use Rattle.promises.proofs.GoodCaptures.{number-answered, header-answered, capture-answered, read-answered}
 
 -- what the picker answers, told of the best k: one answer alone fits, and this one does
-picked : (a b g k w r : ℕ) (answer : Answer ℕ) → Picks a b g w r answer → Best a b g k w r
-    → Tells (Good.pick a b g k w r) k answer
-picked a b g k w r answer p h =
-    same (only-one a b g w r answer _ p (go (pickable a b g w r) refl))
-    (within (pickable a b g w r) 1 0 (within (zeroOrMore (least a b g k w r)) 9 0 (done refl)))
+picked : (a b g k : ℕ) (e : Ends) (answer : Answer ℕ) → Picks a b g e answer → Best a b g k e
+    → Tells (Good.pick a b g k e) k answer
+picked a b g k e answer p h =
+    same (only-one a b g e answer _ p (go (pickable a b g e) refl))
+    (within (pickable a b g e) 1 0 (within (zeroOrMore (least a b g k e)) 9 0 (done refl)))
   where
-    go : (t : Bool) → pickable a b g w r ≡ t
-        → Picks a b g w r (choose t (choose (zeroOrMore (least a b g k w r)) (given k) (refused 9 0)) (refused 1 0))
-    go true e = best-fits a b g w r e k h
-    go false e = out-of-range e
+    go : (t : Bool) → pickable a b g e ≡ t
+        → Picks a b g e (choose t (choose (zeroOrMore (least a b g k e)) (given k) (refused 9 0)) (refused 1 0))
+    go true fits = best-fits a b g e fits k h
+    go false out = out-of-range out
 
 pub answered : Demand1
 unfolding judgement quietJudgement sentMessage sentPlan readPlan encoded decoded smoothed warped warpedByLengths settled
     countedBits begun wellFormed stepped listened checked readBack written output number packed
 answered = record {
-  judge = λ a b g k w r. within (inRange a b g k w r) 1 0 (done refl);
-  judge-quiet = λ a b g k w r Q p1. within (inRange a b g k w r && quiet Q && leb p1 padMost) 1 0 (done refl);
+  judge = λ a b g k e. within (inRange a b g k e) 1 0 (done refl);
+  judge-quiet = λ a b g k e Q p1. within (inRange a b g k e && quiet Q && leb p1 padMost) 1 0 (done refl);
   pick = picked;
   send = λ a b p1 bits output.
       within (subcell a && subcell b && leb p1 padMost) 1 0
@@ -149,11 +149,11 @@ answered = record {
 pub answered-from-c : Demand1FromC
 unfolding begun steppedLent listenedLent wellFormedLent number packed good first
 answered-from-c = record {
-  judge = λ a b g k w r margins. across (λ answer. judgedThree answer margins) (answered .judge a b g k w r);
-  judge-quiet = λ a b g k w r Q p1 margins.
-      across (λ answer. judgedFive answer margins) (answered .judge-quiet a b g k w r Q p1);
-  pick = λ a b g k w r number picked so h.
-      same (sym (so .crosses)) (across pickedOver (answered .pick a b g k w r (so .answer) (so .fits) h));
+  judge = λ a b g k e margins. across (λ answer. judgedThree answer margins) (answered .judge a b g k e);
+  judge-quiet = λ a b g k e Q p1 margins.
+      across (λ answer. judgedFive answer margins) (answered .judge-quiet a b g k e Q p1);
+  pick = λ a b g k e number picked so h.
+      same (sym (so .crosses)) (across pickedOver (answered .pick a b g k e (so .answer) (so .fits) h));
   send = λ a b p1 bits output. across (crossing crossed) (answered .send a b p1 bits output);
   plan = λ a b n leads bits output.
       across (crossing crossed) (answered .send-plan a b n leads bits output);

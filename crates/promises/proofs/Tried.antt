@@ -1,10 +1,12 @@
 -- P10's two rows: the hypotheses are met by computation, and what demand 3 says of the replaced stretch is computed
 -- beside it. For that the rooms' definitions are unfolded.
-use Prim.Native.Nat.{ℕ, _≤_}
-use mathlib.Core.Path.{_≡_, refl}
+use Prim.Native.Nat.{ℕ, suc, _+_, _-_, _≤_}
+use mathlib.Core.Path.{_≡_, refl, subst, sym, ap, _∙_}
+use mathlib.Core.Logic.{dite}
 use mathlib.Core.List.{List, [], _∷_, _++_}
+use native.Mathlib.Decide.{decLe}
 use native.Mathlib.Omega.{arith}
-use lib.ListN.{length, replicate}
+use lib.ListN.{length, take, drop, replicate}
 use Rattle.measure.specs.Lists.{firstAbove}
 use Rattle.settings.specs.Margins.{m1, m2, m3, m4, m5, accepted, quietAccepted}
 use Rattle.settings.specs.Answers.{quietJudgement}
@@ -14,37 +16,49 @@ use Rattle.line.specs.Smooth.{smoothFrom}
 use Rattle.line.specs.Warp.{look, dropped, warpFrom, warp}
 use Rattle.line.specs.Settle.{settle}
 use Rattle.line.specs.Passes.{overTheLine}
+use Rattle.line.specs.Wander.{startOf}
+use Rattle.line.specs.Answers.{allBetween}
+use Rattle.line.specs.Running.{clockOf}
+use Rattle.line.proofs.LineLaws.{lineBy}
+use Rattle.line.proofs.WanderLine.{lengths-line}
 use Rattle.counted.specs.Counted.{fromMark}
-use Rattle.board.specs.Rows.{fresh, next}
-use Rattle.board.specs.Feeding.{reports, reportsBy}
-use Rattle.promises.specs.Places.{planReads, cyclesOf, placesWhere, numbered, withinLead, heard, markPlace}
-use Rattle.promises.specs.Places.{samplePlace, lastSample, deliveries}
-use Rattle.promises.specs.Replaced.{WhollyAfter, reportsAt, moved}
-use Rattle.promises.specs.Demand3.{Fitting, receiverSettings}
+use Rattle.board.specs.Rows.{row, broken, fresh, next}
+use Rattle.board.specs.Feeding.{Report, reports, reportsBy}
+use Rattle.promises.specs.Places.{lineWave, cyclesOf, placesWhere, numbered, wholly}
+use Rattle.promises.specs.Places.{withinLead, heard, markPlace, samplePlace, lastSample, deliveries}
+use Rattle.promises.specs.Replaced.{WhollyAfter, reportsAt, below, above, moved}
+use Rattle.promises.specs.Demand3.{Fitting, Demand3, receiverSettings}
 use Rattle.promises.specs.StoredPlans.{itself, storedFrom, storedLead, StoredFits, AsStored}
 use Rattle.promises.specs.Promised.{good}
 use Rattle.promises.specs.WholeWay.{YesForEach, waveOf, warpedOf, Within}
-use Rattle.promises.specs.Tried.{first, second, p10, p10Lent, false-quiet, Tried, stored, TriedStored}
-use Rattle.promises.specs.Tried.{slowFirst, slow, slowReports, TriedSlow}
-use Rattle.promises.proofs.Demand3.{demand-3, user-wording}
+use Rattle.promises.specs.Tried.{first, second, p10, p10Read, p10Lent, false-quiet, Tried, stored}
+use Rattle.promises.specs.Tried.{TriedStored, slowFirst, slowLink, slow, slowReports, TriedSlow}
+use Rattle.promises.specs.Tried.{wanderFirst, wanderSecond, wanderCycleLengths, wanderReadLengths, wanderLink}
+use Rattle.promises.specs.Tried.{wander, wanderReports, wanderDamaged}
+use Rattle.promises.specs.Tried.{at, TriedWandering}
+use Rattle.promises.proofs.Demand3.{user-wording}
+use Rattle.promises.proofs.Scenes.{demand-3, grounds}
+use Rattle.promises.proofs.Reaches.{wandering, starts-rise, begins-rise}
 use Rattle.promises.proofs.WholeWay.{accepted-fits, whole-way}
 use Rattle.promises.proofs.StoredPlans.{stored-plans-hold}
 
 fitting : Fitting p10
 unfolding m1 m2 m3 m4 m5
 fitting = record {
-  settles = omega arith;
-  phase = omega arith;
+  asked = record {
+    settles = omega arith;
+    some-bits = omega arith;
+    rows = (refl, (omega arith, (omega arith, tt)), refl, (refl, (omega arith, (omega arith, tt)), refl, tt));
+    m1 = refl;
+    m2 = refl;
+    m3 = refl;
+    m4 = refl;
+  };
   choices = (omega arith, (omega arith, (omega arith, (omega arith, (omega arith, (omega arith, tt))))));
-  some-bits = omega arith;
-  rows = (refl, (omega arith, (omega arith, tt)), refl, (refl, (omega arith, (omega arith, tt)), refl, tt));
-  m1 = refl;
-  m2 = refl;
-  m3 = refl;
-  m4 = refl;
+  clocks = omega arith;
 }
 
-wholly-after : WhollyAfter p10 (cyclesOf p10 (first ∷ [])) (second .lead) 58
+wholly-after : WhollyAfter p10Read (cyclesOf p10Read (first ∷ [])) (second .lead) 58
 unfolding planWave wave cells
 wholly-after i read lo hi here shares = omega (arith, shares .before-the-end)
 
@@ -67,7 +81,7 @@ within-limits = record {
 }
 
 pub tried : Tried
-unfolding rowsOf planReads overTheLine settle warp warpFrom look dropped smoothFrom planWave wave cells next reportsBy
+unfolding rowsOf overTheLine settle warp warpFrom look dropped smoothFrom planWave wave cells next reportsBy
     fromMark placesWhere numbered withinLead heard markPlace samplePlace lastSample deliveries reportsAt moved
 tried = record {
   fits = fitting;
@@ -77,8 +91,9 @@ tried = record {
   hears = refl;
   reports = refl;
   before = demand-3 p10 fitting .before 54 58 false-quiet (omega arith) (omega arith);
-  after = user-wording p10 (reports (receiverSettings p10) fresh 0) fitting (demand-3 p10 fitting) (first ∷ []) second
-      [] refl 54 58 false-quiet (omega arith) (omega arith) wholly-after;
+  after = user-wording p10Read (reports (receiverSettings p10Read) fresh 0) (fitting .asked)
+      (demand-3 p10 fitting) (first ∷ []) second [] refl 54 58 false-quiet (omega arith) (omega arith)
+      wholly-after;
   lent = refl;
   within = within-limits;
   whole-way = whole-way p10Lent within-limits;
@@ -88,17 +103,17 @@ stored-fits : StoredFits stored
 unfolding m1 m2 m3 m4 m5 rowsOf
 stored-fits = record {
   lists = refl;
-  margins = record {
+  asked = record {
     settles = omega arith;
-    phase = omega arith;
-    choices = fitting .choices;
     some-bits = omega arith;
-    rows = fitting .rows;
+    rows = fitting .asked .rows;
     m1 = refl;
     m2 = refl;
     m3 = refl;
     m4 = refl;
   };
+  choices = fitting .choices;
+  clocks = omega arith;
 }
 
 stored-after : WhollyAfter (itself stored) (storedFrom stored 1) (storedLead stored 1) 63
@@ -106,7 +121,7 @@ unfolding storedWave storedRowsOf wave cells
 stored-after i read lo hi here shares = omega (arith, shares .before-the-end)
 
 pub tried-stored : TriedStored
-unfolding planReads overTheLine settle warp warpFrom look dropped smoothFrom planWave wave cells next reportsBy fromMark
+unfolding overTheLine settle warp warpFrom look dropped smoothFrom planWave wave cells next reportsBy fromMark
     placesWhere numbered withinLead heard markPlace samplePlace lastSample deliveries reportsAt moved rowsOf storedWave
     storedRowsOf joinedLeads lastTrail
 tried-stored = record {
@@ -119,7 +134,7 @@ tried-stored = record {
       );
   wholly = stored-after;
   hears = refl;
-  after = shown .as-it-was (reports (receiverSettings p10) fresh 0) (shown .demand 3) (first ∷ [])
+  after = shown .as-it-was (reports (receiverSettings p10Read) fresh 0) (shown .demand 3 (omega arith)) (first ∷ [])
       (record { lead = 28; bits = 0 ∷ 1 ∷ [] }) [] refl 54 63 false-quiet (omega arith) (omega arith) stored-after;
 }
   where
@@ -134,32 +149,155 @@ quick-judged : YesForEach (slow 1 17) (18 ∷ 17 ∷ [])
 unfolding quietJudgement accepted quietAccepted m1 m2 m3 m4 m5
 quick-judged = (refl, (refl, tt))
 
-slow-fits : Fitting (slow 2 18)
-slow-fits =
-    accepted-fits (slow 2 18) (omega arith) slow-judged (omega arith) (omega arith)
-    (refl, (omega arith, (omega arith, tt)), (refl, (omega arith, (omega arith, tt)), tt)) tt
+slow-fits : Fitting (slowLink 2 18)
+slow-fits = record {
+  asked =
+      accepted-fits (slow 2 18) (omega arith) slow-judged (omega arith)
+      (refl, (omega arith, (omega arith, tt)), (refl, (omega arith, (omega arith, tt)), tt));
+  choices = tt;
+  clocks = omega arith;
+}
 
 slow-after : WhollyAfter (slow 2 18) (cyclesOf (slow 2 18) (slowFirst ∷ [])) 18 39
 unfolding planWave wave cells
 slow-after i read lo hi here shares = omega (arith, shares .before-the-end)
 
 pub tried-slow : TriedSlow
-unfolding planReads overTheLine settle warp warpFrom look dropped smoothFrom planWave wave cells next reportsBy fromMark
+unfolding overTheLine settle warp warpFrom look dropped smoothFrom planWave wave cells next reportsBy fromMark
     placesWhere numbered withinLead heard markPlace samplePlace lastSample deliveries reportsAt moved
 tried-slow = record {
   judged = slow-judged;
   fits = slow-fits;
-  demand = demand-3 (slow 2 18) slow-fits;
+  demand = demand-3 (slowLink 2 18) slow-fits;
   wholly = slow-after;
   slow-edge = refl;
   quick-edge = refl;
   hears = refl;
   hears-sooner = refl;
   reports = refl;
-  after = user-wording (slow 2 18) slowReports slow-fits (demand-3 (slow 2 18) slow-fits) (slowFirst ∷ [])
+  after = user-wording (slow 2 18) slowReports (slow-fits .asked) (demand-3 (slowLink 2 18) slow-fits)
+      (slowFirst ∷ [])
       (record { lead = 18; bits = 0 ∷ 1 ∷ [] }) [] refl 36 39 (replicate 15 1 ++ replicate 3 0) (omega arith)
       (omega arith) slow-after;
   judged-quick = quick-judged;
   quick = refl;
   lost = refl;
 }
+
+wander-judged : YesForEach wander (20 ∷ 20 ∷ [])
+unfolding quietJudgement accepted quietAccepted m1 m2 m3 m4 m5
+wander-judged = (refl, (refl, tt))
+
+wander-fits : Fitting wanderLink
+unfolding planWave wave cells startOf allBetween
+wander-fits = record {
+  asked =
+      accepted-fits wander (omega arith) wander-judged (omega arith)
+      (refl, (omega arith, (omega arith, tt)), (refl, (omega arith, (omega arith, tt)), tt));
+  choices = tt;
+  clocks = record {
+    w-order = omega arith;
+    r-order = omega arith;
+    written = refl;
+    read = refl;
+    phase = omega arith;
+    lasting = omega arith;
+    reach = at-most 812 844 (omega arith) refl refl;
+  };
+}
+  where
+    at-most : {x y : ℕ} (one other : ℕ) → one ≤ other → x ≡ one → y ≡ other → x ≤ y
+    at-most one other h e f = omega arith
+
+-- the reads, by the clocks that the lengths make
+abbrev wanderRead : List ℕ
+wanderRead =
+    replicate 19 1 ++ replicate 6 0 ++ replicate 5 1 ++ replicate 13 0 ++ replicate 19 1 ++ replicate 13 0
+    ++ replicate 2 1 ++ replicate 7 0
+
+by-clocks : wander .reads ≡ lineBy (clockOf 9 0 (wanderCycleLengths)) (clockOf 9 8 (wanderReadLengths)) 1
+    (lineWave wanderLink) []
+by-clocks =
+    lengths-line (wandering (wander-fits .clocks) (omega arith)) 1 (lineWave wanderLink) []
+    (wander-fits .clocks .lasting) (wander-fits .clocks .reach)
+
+by-reading : lineBy (clockOf 9 0 (wanderCycleLengths)) (clockOf 9 8 (wanderReadLengths)) 1 (lineWave wanderLink) []
+    ≡ wanderRead
+unfolding clockOf settle warpFrom look dropped smoothFrom planWave wave cells
+by-reading = refl
+
+wander-after : WhollyAfter wander (cyclesOf wander (wanderFirst ∷ [])) 20 41
+unfolding planWave wave cells startOf
+wander-after i q lo hi here shares =
+    dite (decLe 41 q) (λ h. h)
+    (λ h. absurd
+    (omega (
+      arith,
+      shares .before-the-end,
+      starts-rise (wander-fits .clocks) (omega arith) 42 i lo (omega arith),
+      begins-rise (wander-fits .clocks) (omega arith) (suc q) 41 (omega arith) (omega arith),
+      cycle-42,
+      read-41,
+    )))
+  where
+    cycle-42 : startOf 0 (wanderCycleLengths) 42 ≡ 406
+    cycle-42 = refl
+
+    read-41 : startOf 8 (wanderReadLengths) 41 ≡ 398
+    read-41 = refl
+
+wander-reads : wander .reads ≡ wanderRead
+wander-reads = by-clocks ∙ by-reading
+
+wander-hears : (many : ℕ) → length (wander .reads) ≡ many
+    → numbered 16 (placesWhere (wholly wander 43 62) 0 many) ≡ 58
+    → heard wander (cyclesOf wander (wanderFirst ∷ [])) 20 ≡ 58
+unfolding heard withinLead planWave wave cells
+wander-hears many is counted = rw is counted
+
+within-62 : numbered 16 (placesWhere (wholly wander 43 62) 0 84) ≡ 58
+unfolding startOf placesWhere numbered
+within-62 = refl
+
+wander-demand : Demand3 wander wanderReports
+wander-demand = demand-3 wanderLink wander-fits
+
+wander-samples : deliveries wander 0 (wanderFirst ∷ wanderSecond ∷ [])
+    ≡ at 37 (row (1 ∷ 0 ∷ [])) ∷ at 82 (row (0 ∷ 1 ∷ [])) ∷ []
+unfolding next reportsBy reportsAt
+wander-samples =
+    let N = length (wander .reads) in
+    sym (grounds wanderLink wander-fits .samples) ∙ sym (wander-demand .before N N [] (omega arith) (omega arith))
+    ∙ subst (λ (l : List ℕ). below (length l) (wanderReports (take (length l) l ++ [] ++ drop (length l) l))
+    ≡ at 37 (row (1 ∷ 0 ∷ [])) ∷ at 82 (row (0 ∷ 1 ∷ [])) ∷ []) (sym wander-reads) refl
+
+-- the second row by itself
+wander-second : deliveries wander (cyclesOf wander (wanderFirst ∷ [])) (wanderSecond ∷ [])
+    ≡ at 82 (row (0 ∷ 1 ∷ [])) ∷ []
+unfolding deliveries planWave wave cells
+wander-second = ap (λ (l : List Report). drop 1 l) wander-samples
+
+pub tried-wandering : TriedWandering
+unfolding next reportsBy moved
+tried-wandering = record {
+  judged = wander-judged;
+  fits = wander-fits;
+  demand = wander-demand;
+  wholly = wander-after;
+  samples = wander-samples;
+  hears = hears;
+  reports =
+      subst (λ (l : List ℕ). wanderReports (take 39 l ++ junk ++ drop 41 l)
+      ≡ at 37 (row (1 ∷ 0 ∷ [])) ∷ at 75 (broken 1) ∷ at 99 (row (0 ∷ 1 ∷ [])) ∷ []) (sym wander-reads) refl;
+  after =
+      subst (λ (h : ℕ). above (39 + 19 + (h - 41)) (wanderReports wanderDamaged) ≡ at 99 (row (0 ∷ 1 ∷ [])) ∷ []) hears
+      (user-wording wander wanderReports (wander-fits .asked) wander-demand (wanderFirst ∷ []) wanderSecond [] refl
+      39 41 junk (omega arith) (rw wander-reads (omega arith)) wander-after
+      ∙ ap (λ (l : List Report). moved 39 41 junk l) wander-second);
+}
+  where
+    junk : List ℕ
+    junk = replicate 16 1 ++ replicate 3 0
+
+    hears : heard wander (cyclesOf wander (wanderFirst ∷ [])) 20 ≡ 58
+    hears = wander-hears 84 (ap (λ (l : List ℕ). length l) wander-reads) within-62

@@ -17,25 +17,25 @@ use Rattle.line.specs.Passes.{overTheLine}
 use Rattle.counted.specs.Counted.{fromMark}
 use Rattle.board.specs.Rows.{next}
 use Rattle.board.specs.Feeding.{Report, reportsBy}
-use Rattle.promises.specs.Places.{planReads, placesWhere, numbered, withinLead, heard, markPlace, samplePlace}
+use Rattle.promises.specs.Places.{placesWhere, numbered, withinLead, heard, markPlace, samplePlace}
 use Rattle.promises.specs.Places.{lastSample, deliveries}
 use Rattle.promises.specs.Replaced.{damaged, reportsAt, below}
 use Rattle.promises.specs.Demand3.{Demand3}
-use Rattle.promises.specs.Tried.{p10}
+use Rattle.promises.specs.Tried.{p10Read}
 use Rattle.promises.specs.Promised.{Test, good, first, Answered, Fills}
 use Rattle.promises.specs.GoodInput as Good
 use Rattle.promises.specs.Useless.{Sender, Line, ShutOut1, ShutOut}
 
-too-few : (hear : List ℕ → List Report) → length (below 117 (hear (damaged p10 117 117 []))) < 2 → Demand3 p10 hear
-    → ⊥
-unfolding planReads overTheLine settle warp warpFrom look dropped smoothFrom planWave wave cells fromMark
+too-few : (hear : List ℕ → List Report) → length (below 117 (hear (damaged p10Read 117 117 []))) < 2
+    → Demand3 p10Read hear → ⊥
+unfolding overTheLine settle warp warpFrom look dropped smoothFrom planWave wave cells fromMark
     placesWhere numbered withinLead heard markPlace samplePlace lastSample deliveries reportsAt
 too-few hear few demand =
     let two = ap (λ (l : List Report). length l) (demand .before 117 117 [] (omega arith) (omega arith)) in
     omega arith
 
 pub shut-out : ShutOut
-unfolding planReads overTheLine settle warp warpFrom look dropped smoothFrom planWave wave cells next reportsBy
+unfolding overTheLine settle warp warpFrom look dropped smoothFrom planWave wave cells next reportsBy
     reportsAt
 shut-out = record {
   refusing = too-few _ (omega arith);

@@ -16,8 +16,8 @@ use Rattle.measure.specs.Levels.{AtMost, Levels}
 use Rattle.measure.specs.Refusals.{given}
 use Rattle.measure.proofs.Both.{both, each, both-3}
 use Rattle.measure.proofs.LevelLaws.{none-some, most-none-some, most-take, most-drop}
-use Rattle.settings.specs.Margins.{quietAccepted}
-use Rattle.settings.specs.Answers.{inRange, quietJudgement}
+use Rattle.settings.specs.Margins.{Ends, steady, quietAccepted}
+use Rattle.settings.specs.Answers.{endsFit, inRange, quietJudgement}
 use Rattle.settings.proofs.BothEnds.{in-range as in-ranges}
 use Rattle.settings.proofs.Inequalities.{Accepted, QuietAccepted, quiet-keeps, m1-met, m2-met, m3-met, m4-met, m5-met}
 use Rattle.sender.specs.Sending.{Row, rowsOf}
@@ -35,14 +35,15 @@ use Rattle.line.proofs.Clocks.{even-clocks}
 use Rattle.line.proofs.ReadsThere.{reads-most}
 use Rattle.line.proofs.WarpLaws.{warp-by}
 use Rattle.board.specs.Rows.{fresh}
-use Rattle.promises.specs.Places.{Link, planReads}
-use Rattle.promises.specs.Demand3.{RowsFit, Fitting, receiverSettings}
+use Rattle.promises.specs.Places.{Scene}
+use Rattle.promises.specs.Demand3.{RowsFit, Asked, Fitting, receiverSettings}
 use Rattle.promises.specs.Promised.{good, quietJudged, Tells}
 use Rattle.promises.specs.GoodInput as Good
 use Rattle.promises.specs.Hearing.{hearing}
-use Rattle.promises.specs.WholeWay.{SaysYes, YesForEach, BitsFit, leadsOf, AcceptedFits, linkOf, waveOf, warpedOf}
-use Rattle.promises.specs.WholeWay.{front, sending, smoothing, warping, settling, WholeWayHolds}
-use Rattle.promises.proofs.Demand3.{timed as timed-reads, whole}
+use Rattle.promises.specs.WholeWay.{SaysYes, YesForEach, BitsFit, leadsOf, AcceptedFits, linkOf, sceneOf, waveOf}
+use Rattle.promises.specs.WholeWay.{warpedOf, front, sending, smoothing, warping, settling, WholeWayHolds}
+use Rattle.promises.proofs.Demand3.{Clocked, whole}
+use Rattle.promises.proofs.Scenes.{reads-take, clocked}
 use Rattle.promises.proofs.Promised.{passes, passing, none-left}
 use Rattle.promises.proofs.Hearing.{heeded-reports}
 use Rattle.promises.proofs.HearingFromC.{every-caller}
@@ -50,62 +51,60 @@ use Rattle.promises.proofs.AnyHearing.{read-binary, any-hearing}
 use Rattle.promises.proofs.SingleCalls.{answered}
 
 -- a yes is that of settings in range, and of margins that are all zero or more
-pub record Yes (a b g k w r Q p1 : ℕ) : Type 0 where
-  pub range : inRange a b g k w r ≡ true
+pub record Yes (a b g k : ℕ) (e : Ends) (Q p1 : ℕ) : Type 0 where
+  pub range : inRange a b g k e ≡ true
   pub quiet-range : quiet Q ≡ true
-  pub three : Accepted a b g k w r
-  pub two : QuietAccepted a b g w r Q p1
+  pub three : Accepted a b g k e
+  pub two : QuietAccepted a b g e Q p1
 
-pub yes-keeps : (a b g k w r Q p1 : ℕ) → SaysYes (quietJudgement a b g k w r Q p1) → Yes a b g k w r Q p1
-yes-keeps a b g k w r Q p1 said = go (good (Good.judgeQuiet a b g k w r Q p1)) refl
+pub yes-keeps : (a b g k : ℕ) (e : Ends) (Q p1 : ℕ) → SaysYes (quietJudgement a b g k e Q p1) → Yes a b g k e Q p1
+yes-keeps a b g k e Q p1 said = go (good (Good.judgeQuiet a b g k e Q p1)) refl
   where
-    line : Tells (Good.judgeQuiet a b g k w r Q p1) (quietJudged a b g k w r Q p1) (quietJudgement a b g k w r Q p1)
-    line = answered .judge-quiet a b g k w r Q p1
+    line : Tells (Good.judgeQuiet a b g k e Q p1) (quietJudged a b g k e Q p1) (quietJudgement a b g k e Q p1)
+    line = answered .judge-quiet a b g k e Q p1
 
-    go : (fits : Bool) → good (Good.judgeQuiet a b g k w r Q p1) ≡ fits → Yes a b g k w r Q p1
-    go true e =
-        let accepts : quietAccepted a b g k w r Q p1 ≡ true = rw (line .gives e) at said in
-        let keeps = quiet-keeps a b g k w r Q p1 accepts in
-        let ranges = both-3 (inRange a b g k w r) (quiet Q) (leb p1 padMost) (not-false _ (passes _ [] e .0)) in
+    go : (fits : Bool) → good (Good.judgeQuiet a b g k e Q p1) ≡ fits → Yes a b g k e Q p1
+    go true is =
+        let accepts : quietAccepted a b g k e Q p1 ≡ true = rw (line .gives is) at said in
+        let keeps = quiet-keeps a b g k e Q p1 accepts in
+        let ranges = both-3 (inRange a b g k e) (quiet Q) (leb p1 padMost) (not-false _ (passes _ [] is .0)) in
         record { range = ranges .0; quiet-range = ranges .1; three = keeps .0; two = keeps .1 }
-    go false e = absurd (rw (line .refuses e) at said)
+    go false is = absurd (rw (line .refuses is) at said)
 
 pub accepted-fits : AcceptedFits
-accepted-fits x some all phase bits-some bits choices = go (x .rows) some all
+accepted-fits x some all bits-some bits = go (x .rows) some all
   where
     rows-fit : (rows : List Row) → YesForEach x (leadsOf rows) → BitsFit x rows → RowsFit x rows
     rows-fit [] each bits = tt
     rows-fit (row ∷ rows) each bits =
-        let keeps = yes-keeps (x .a) (x .b) (x .g) (x .k) (x .w) (x .r) (x .Q) (row .lead) (each .0) in (
+        let keeps = yes-keeps (x .a) (x .b) (x .g) (x .k) (x .ends) (x .Q) (row .lead) (each .0) in (
           bits .0,
           bits .1,
-          m5-met (x .g) (x .w) (x .r) (x .Q) (row .lead) ∙ le-leb _ _ (keeps .two .M5),
+          m5-met (x .g) (x .ends) (x .Q) (row .lead) ∙ le-leb _ _ (keeps .two .M5),
           rows-fit rows (each .1) (bits .2),
         )
 
-    go : (rows : List Row) → 1 ≤ length rows → YesForEach x (leadsOf rows) → Fitting x
+    go : (rows : List Row) → 1 ≤ length rows → YesForEach x (leadsOf rows) → Asked x
     go [] some each = absurd (omega arith)
     go (row ∷ rows) some each =
-        let keeps = yes-keeps (x .a) (x .b) (x .g) (x .k) (x .w) (x .r) (x .Q) (row .lead) (each .0) in
+        let keeps = yes-keeps (x .a) (x .b) (x .g) (x .k) (x .ends) (x .Q) (row .lead) (each .0) in
         record {
-          settles = in-ranges (x .a) (x .b) (x .g) (x .k) (x .w) (x .r) (keeps .range) .settles .0;
-          phase = phase;
-          choices = choices;
+          settles = in-ranges (x .a) (x .b) (x .g) (x .k) (x .ends) (keeps .range) .settles .0;
           some-bits = bits-some;
           rows = rows-fit (x .rows) all bits;
-          m1 = m1-met (x .a) (x .g) (x .w) (x .r) ∙ le-leb _ _ (keeps .three .M1);
-          m2 = m2-met (x .a) (x .g) (x .k) (x .w) (x .r) ∙ le-leb _ _ (keeps .three .M2);
-          m3 = m3-met (x .a) (x .b) (x .g) (x .k) (x .w) (x .r) ∙ le-leb _ _ (keeps .three .M3);
-          m4 = m4-met (x .a) (x .b) (x .g) (x .w) (x .r) (x .Q) ∙ le-leb _ _ (keeps .two .M4);
+          m1 = m1-met (x .a) (x .g) (x .ends) ∙ le-leb _ _ (keeps .three .M1);
+          m2 = m2-met (x .a) (x .g) (x .k) (x .ends) ∙ le-leb _ _ (keeps .three .M2);
+          m3 = m3-met (x .a) (x .b) (x .g) (x .k) (x .ends) ∙ le-leb _ _ (keeps .three .M3);
+          m4 = m4-met (x .a) (x .b) (x .g) (x .ends) (x .Q) ∙ le-leb _ _ (keeps .two .M4);
         }
 
 -- a plan's rows
-pub record Plan (x : Link) (leads : List ℕ) (rows : List Row) : Type 0 where
+pub record Plan (x : Scene) (leads : List ℕ) (rows : List Row) : Type 0 where
   pub bits : BitsFit x rows
   pub same : leadsOf rows ≡ leads
   pub many : length rows ≡ length leads
 
-plan-of : (x : Link) (leads bits : List ℕ) → length bits ≡ length leads * x .n → Levels bits
+plan-of : (x : Scene) (leads bits : List ℕ) → length bits ≡ length leads * x .n → Levels bits
     → Plan x leads (rowsOf (x .n) leads bits)
 plan-of x [] bits h levels = rw (rows-none (x .n) bits) (record { bits = tt; same = refl; many = refl })
 plan-of x (p1 ∷ leads) bits h levels =
@@ -122,7 +121,7 @@ front-is : (result output : List ℕ) → front (given (length result), onto res
 front-is result output = take-append-seam result (drop (length result) output)
 
 pub whole-way : WholeWayHolds
-unfolding planReads overTheLine
+unfolding overTheLine
 whole-way y within = record {
   sends = sends;
   smooths = smooths ∙ ap (λ (n : ℕ). (given n, onto (smooth (y .g) wave) (y .forSmooth))) (length-smooth (y .g) wave);
@@ -135,15 +134,15 @@ whole-way y within = record {
   reads = reads-front;
   delivers = λ caller.
       ap (hearing caller (receiverSettings x)) reads-front
-      ∙ every-caller (receiverSettings x) range caller (planReads x)
-      ∙ heeded-reports (receiverSettings x) fresh 0 (planReads x) (read-binary x fits)
-      ∙ whole x fits;
+      ∙ every-caller (receiverSettings x) range caller (x .reads)
+      ∙ heeded-reports (receiverSettings x) fresh 0 (x .reads) (read-binary x 0 runs)
+      ∙ whole x 0 runs;
   recovers = λ caller.
-      any-hearing x fits (hearing caller (receiverSettings x)) (every-caller (receiverSettings x) range caller);
+      any-hearing x 0 runs (hearing caller (receiverSettings x)) (every-caller (receiverSettings x) range caller);
 }
   where
-    x : Link
-    x = linkOf y
+    x : Scene
+    x = sceneOf y
 
     wave : List ℕ
     wave = waveOf y
@@ -152,7 +151,7 @@ whole-way y within = record {
     reads = warpedOf y
 
     -- no cycle follows the plan
-    plain : settle reads (y .choices) ≡ planReads x
+    plain : settle reads (y .choices) ≡ x .reads
     plain =
         ap (λ (l : List ℕ). settle (warp (y .w) (y .r) (y .p) (smooth (y .g) l)) (y .choices)) (sym (append-nil wave))
 
@@ -192,28 +191,36 @@ whole-way y within = record {
     some-bits : 1 ≤ y .n
     some-bits = leb-true 1 (y .n) (both (leb 1 (y .n)) (leb (y .n) bitsMost) row-bits .0)
 
-    fits : Fitting x
-    fits = accepted-fits x some-rows (rw (plan .same) (within .accepted)) (within .phase) some-bits (plan .bits)
-        (within .choices)
+    fits : Fitting (linkOf y)
+    fits = record {
+      asked = accepted-fits x some-rows (rw (plan .same) (within .accepted)) some-bits (plan .bits);
+      choices = within .choices;
+      clocks = within .phase;
+    }
+
+    runs : Clocked x 0
+    runs = clocked (linkOf y) fits
 
     -- what the judge's yes for the first lead says of the ranges
-    judged : (inRange (y .a) (y .b) (y .g) (y .k) (y .w) (y .r) ≡ true) × (quiet (y .Q) ≡ true)
+    judged : (inRange (y .a) (y .b) (y .g) (y .k) (steady (y .w) (y .r)) ≡ true) × (quiet (y .Q) ≡ true)
     judged = go (y .leads) (leb-true 1 (length (y .leads)) (lists .0)) (within .accepted)
       where
         go : (leads : List ℕ) → 1 ≤ length leads → YesForEach x leads
-            → (inRange (y .a) (y .b) (y .g) (y .k) (y .w) (y .r) ≡ true) × (quiet (y .Q) ≡ true)
+            → (inRange (y .a) (y .b) (y .g) (y .k) (steady (y .w) (y .r)) ≡ true) × (quiet (y .Q) ≡ true)
         go [] some each = absurd (omega arith)
         go (p1 ∷ leads) some each =
-            let keeps = yes-keeps (y .a) (y .b) (y .g) (y .k) (y .w) (y .r) (y .Q) p1 (each .0) in
+            let keeps = yes-keeps (y .a) (y .b) (y .g) (y .k) (steady (y .w) (y .r)) (y .Q) p1 (each .0) in
             (keeps .range, keeps .quiet-range)
 
     ranges : (settlingCount (y .g) ≡ true) × (sampling (y .k) ≡ true) × (cycleLength (y .w) ≡ true)
         × (cycleLength (y .r) ≡ true)
     ranges =
         let test = each (subcell (y .a))
-        (subcell (y .b) ∷ settlingCount (y .g) ∷ sampling (y .k) ∷ cycleLength (y .w) ∷ cycleLength (y .r) ∷ [])
-        (judged .0) in
-        (test 2, test 3, test 4, test 5)
+        (subcell (y .b) ∷ settlingCount (y .g) ∷ sampling (y .k) ∷ endsFit (steady (y .w) (y .r)) ∷ []) (judged .0) in
+        let ends = each (cycleLength (y .w))
+        (cycleLength (y .w) ∷ cycleLength (y .r) ∷ cycleLength (y .r) ∷ leb (y .w) (y .w) ∷ leb (y .r) (y .r) ∷ [])
+        (test 4) in
+        (test 2, test 3, ends 0, ends 2)
 
     range : rowSettingsFit (y .k) (y .n) (y .Q) ≡ true
     range = rw (ranges .1, row-bits, judged .1)
@@ -259,7 +266,7 @@ whole-way y within = record {
     read-kinds : AtMost 2 reads
     read-kinds =
         rw (warp-by (y .w) (y .r) (y .p) (smooth (y .g) wave))
-        (reads-most (even-clocks (y .w) (y .r) (y .p) (timed-reads x fits) (within .phase)) (smooth (y .g) wave)
+        (reads-most (even-clocks (y .w) (y .r) (y .p) (reads-take (linkOf y) fits) (within .phase)) (smooth (y .g) wave)
         smooth-levels)
 
     settles : settling y
@@ -274,5 +281,5 @@ whole-way y within = record {
         (passing _ _ (le-ltb (length (y .forSettled)) (length (settle reads (y .choices)))
         (omega (arith, length-settle reads (y .choices), within .settled-room))) none-left)))))
 
-    reads-front : front (settling y) ≡ planReads x
+    reads-front : front (settling y) ≡ x .reads
     reads-front = ap front settles ∙ front-is (settle reads (y .choices)) (y .forSettled) ∙ plain

@@ -11,6 +11,7 @@ use Rattle.measure.specs.Choose.{between as isBetween}
 use Rattle.measure.specs.Ranges.{rowSettingsFit}
 use Rattle.measure.specs.Lists.{firstAbove}
 use Rattle.measure.specs.Refusals.{lent, numberOf, placeOf}
+use Rattle.settings.specs.Margins.{ends, steady}
 use Rattle.settings.specs.Answers.{judgement, judgedSays, quietJudgement, quietJudgedSays}
 use Rattle.settings.specs.Pick.{Picks, pickedSays}
 use Rattle.sender.specs.Answers.{padded, sentMessage, sentPlan, sentSays}
@@ -76,13 +77,23 @@ pub record ByContract : Type 0 where
   -- settings
   pub judge : Says Settings.judge.ended Settings.judge.Reads.Post
       λ κs (a, (b, (g, (k, (w, (r, _)))))) x _.
-      judgement (a .0) (b .0) (g .0) (k .0) (w .0) (r .0) ≡ judgedSays x
+      judgement (a .0) (b .0) (g .0) (k .0) (steady (w .0) (r .0)) ≡ judgedSays x
   pub judge-quiet : Says Settings.judge_quiet.ended Settings.judge_quiet.Reads.Post
       λ κs (a, (b, (g, (k, (w, (r, (Q, (p1, _)))))))) x _.
-      quietJudgement (a .0) (b .0) (g .0) (k .0) (w .0) (r .0) (Q .0) (p1 .0) ≡ quietJudgedSays x
+      quietJudgement (a .0) (b .0) (g .0) (k .0) (steady (w .0) (r .0)) (Q .0) (p1 .0) ≡ quietJudgedSays x
   pub pick : Says Settings.pick.ended Settings.pick.Reads.Post
       λ κs (a, (b, (g, (w, (r, _))))) x _.
-      Picks (a .0) (b .0) (g .0) (w .0) (r .0) (pickedSays x)
+      Picks (a .0) (b .0) (g .0) (steady (w .0) (r .0)) (pickedSays x)
+  pub judge-ends : Says Settings.judge_ends.ended Settings.judge_ends.Reads.Post
+      λ κs (a, (b, (g, (k, (w1, (w2, (r1, (r2, _)))))))) x _.
+      judgement (a .0) (b .0) (g .0) (k .0) (ends (w1 .0) (w2 .0) (r1 .0) (r2 .0)) ≡ judgedSays x
+  pub judge-quiet-ends : Says Settings.judge_quiet_ends.ended Settings.judge_quiet_ends.Reads.Post
+      λ κs (a, (b, (g, (k, (w1, (w2, (r1, (r2, (Q, (p1, _)))))))))) x _.
+      quietJudgement (a .0) (b .0) (g .0) (k .0) (ends (w1 .0) (w2 .0) (r1 .0) (r2 .0)) (Q .0) (p1 .0)
+      ≡ quietJudgedSays x
+  pub pick-ends : Says Settings.pick_ends.ended Settings.pick_ends.Reads.Post
+      λ κs (a, (b, (g, (w1, (w2, (r1, (r2, _))))))) x _.
+      Picks (a .0) (b .0) (g .0) (ends (w1 .0) (w2 .0) (r1 .0) (r2 .0)) (pickedSays x)
   -- sender
   pub send : Says Sender.send.ended Sender.send.Reads.Post
       λ κs (a, (b, (p1, (bits, (out, _))))) x (_, (_, (_, (_, (out′, _))))).
@@ -185,14 +196,25 @@ pub record ByContract : Type 0 where
   pub siengulot-judge : Says C.siengulot_judge.ended C.siengulot_judge.Reads.Post
       λ κs (a, (b, (g, (k, (w, (r, (margins, (accepted, _)))))))) x
       (_, (_, (_, (_, (_, (_, (margins′, (accepted′, _)))))))).
-      judgedThree (judgement a b g k w r) (now margins) ≡ (x, accepted′, margins′)
+      judgedThree (judgement a b g k (steady w r)) (now margins) ≡ (x, accepted′, margins′)
   pub siengulot-judge-quiet : Says C.siengulot_judge_quiet.ended C.siengulot_judge_quiet.Reads.Post
       λ κs (a, (b, (g, (k, (w, (r, (Q, (p1, (margins, (accepted, _)))))))))) x
       (_, (_, (_, (_, (_, (_, (_, (_, (margins′, (accepted′, _)))))))))).
-      judgedFive (quietJudgement a b g k w r Q p1) (now margins) ≡ (x, accepted′, margins′)
+      judgedFive (quietJudgement a b g k (steady w r) Q p1) (now margins) ≡ (x, accepted′, margins′)
   pub siengulot-pick : Says C.siengulot_pick.ended C.siengulot_pick.Reads.Post
       λ κs (a, (b, (g, (w, (r, (k, _)))))) x (_, (_, (_, (_, (_, (k′, _)))))).
-      PickCrosses a b g w r x k′
+      PickCrosses a b g (steady w r) x k′
+  pub siengulot-judge-ends : Says C.siengulot_judge_ends.ended C.siengulot_judge_ends.Reads.Post
+      λ κs (a, (b, (g, (k, (w1, (w2, (r1, (r2, (margins, (accepted, _)))))))))) x
+      (_, (_, (_, (_, (_, (_, (_, (_, (margins′, (accepted′, _)))))))))).
+      judgedThree (judgement a b g k (ends w1 w2 r1 r2)) (now margins) ≡ (x, accepted′, margins′)
+  pub siengulot-judge-quiet-ends : Says C.siengulot_judge_quiet_ends.ended C.siengulot_judge_quiet_ends.Reads.Post
+      λ κs (a, (b, (g, (k, (w1, (w2, (r1, (r2, (Q, (p1, (margins, (accepted, _)))))))))))) x
+      (_, (_, (_, (_, (_, (_, (_, (_, (_, (_, (margins′, (accepted′, _)))))))))))).
+      judgedFive (quietJudgement a b g k (ends w1 w2 r1 r2) Q p1) (now margins) ≡ (x, accepted′, margins′)
+  pub siengulot-pick-ends : Says C.siengulot_pick_ends.ended C.siengulot_pick_ends.Reads.Post
+      λ κs (a, (b, (g, (w1, (w2, (r1, (r2, (k, _)))))))) x (_, (_, (_, (_, (_, (_, (_, (k′, _)))))))).
+      PickCrosses a b g (ends w1 w2 r1 r2) x k′
   pub siengulot-send : Says C.siengulot_send.ended C.siengulot_send.Reads.Post
       λ κs (a, (b, (p1, (bits, (out, (place, (count, _))))))) x (_, (_, (_, (_, (out′, (place′, (count′, _))))))).
       crossing crossed (sentMessage a b p1 (now bits) (now out))

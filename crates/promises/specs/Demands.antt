@@ -12,6 +12,7 @@ use Rattle.measure.specs.Ranges.{rowSettingsFit}
 use Rattle.measure.specs.Lists.{onto}
 use Rattle.measure.specs.Refusals.{Answer, given, refused, numberOf, placeOf}
 use Rattle.measure.specs.declared.Refusal.{Refusal}
+use Rattle.settings.specs.Margins.{Ends}
 use Rattle.settings.specs.Answers.{judgement, quietJudgement}
 use Rattle.settings.specs.Pick.{Best, Picks}
 use Rattle.sender.specs.Sending.{wave, planWave, rowsOf}
@@ -26,6 +27,7 @@ use Rattle.halfcells.specs.Shown.{WordsAreTheWave, EncodedDecodes, DecodedEncod
 use Rattle.line.specs.Smooth.{smooth as smoothing}
 use Rattle.line.specs.Warp.{warp as warping}
 use Rattle.line.specs.Wander.{warpByLengths as warpingByLengths, EqualLengthsWarp}
+use Rattle.line.specs.Passes.{EqualLengthsLine}
 use Rattle.line.specs.Settle.{settle as settling}
 use Rattle.line.specs.Settling.{SmoothLawsHold}
 use Rattle.line.specs.Sharing.{WarpLawsHold}
@@ -54,10 +56,12 @@ use Rattle.promises.specs.Promised.{unstarted}
 use Rattle.promises.specs.ByContract.{ByContract}
 use Rattle.promises.specs.FromC.{Demand1FromC}
 use Rattle.promises.specs.OneMeaning.{OneMeaning}
-use Rattle.promises.specs.CountedReturns.{OperationReturns}
+use Rattle.promises.specs.Reaching.{SteadyByLengths}
+use Rattle.promises.specs.CountedReturns.{AcceptedReturn, OperationReturns, SteadyReturn}
 use Rattle.promises.specs.Picked.{PickedCounts}
-use Rattle.promises.specs.Places.{Link}
+use Rattle.promises.specs.Places.{Link, scene}
 use Rattle.promises.specs.Demand3.{Fitting, receiverSettings, Demand3, UserWording, Demand3Holds, GroundsHold}
+use Rattle.promises.specs.Demand3.{SteadyClocksAreACase}
 use Rattle.promises.specs.StoredPlans.{EveryStoredPlan, StoredPlansHold}
 use Rattle.promises.specs.Hearing.{Caller, hearing, Hears}
 use Rattle.promises.specs.WholeWay.{AcceptedFits, WholeWayHolds}
@@ -67,12 +71,13 @@ use Rattle.promises.specs.WholeWay.{AcceptedFits, WholeWayHolds}
 -- lent is as it was; only a start that is refused hands back a receiver of zeros, which from C is written over what was
 -- lent. GoodInput lists the tests. Refusal 5 is none of them: it is a result, and leaves the bits that were found.
 pub record Demand1 : Type 0 where
-  pub judge : (a b g k w r : ℕ) → Tells (Good.judge a b g k w r) (judgedSettings a b g k w r) (judgement a b g k w r)
-  pub judge-quiet : (a b g k w r Q p1 : ℕ)
-      → Tells (Good.judgeQuiet a b g k w r Q p1) (quietJudged a b g k w r Q p1) (quietJudgement a b g k w r Q p1)
+  -- the judges and the picker over the ends of two clocks; those of steady clocks are the case of equal ends
+  pub judge : (a b g k : ℕ) (e : Ends) → Tells (Good.judge a b g k e) (judgedSettings a b g k e) (judgement a b g k e)
+  pub judge-quiet : (a b g k : ℕ) (e : Ends) (Q p1 : ℕ)
+      → Tells (Good.judgeQuiet a b g k e Q p1) (quietJudged a b g k e Q p1) (quietJudgement a b g k e Q p1)
   -- the answer that the picker's contract allows, told of the best k
-  pub pick : (a b g k w r : ℕ) (answer : Answer ℕ) → Picks a b g w r answer → Best a b g k w r
-      → Tells (Good.pick a b g k w r) k answer
+  pub pick : (a b g k : ℕ) (e : Ends) (answer : Answer ℕ) → Picks a b g e answer → Best a b g k e
+      → Tells (Good.pick a b g k e) k answer
   pub send : (a b p1 : ℕ) (bits output : List ℕ)
       → Fills (Good.send a b p1 bits output) (wave a b p1 bits) output (sentMessage a b p1 bits output)
   pub send-plan : (a b n : ℕ) (leads bits output : List ℕ)
@@ -153,10 +158,14 @@ pub record Demand2 : Type 0 where
   -- which cycles are unknown; what a read looks at, and how many reads there are
   pub smooths : SmoothLawsHold
   pub line : WarpLawsHold
-  -- lengths that are all equal make warp
+  -- lengths that are all equal make warp, and the three passes, so steady clocks are a case of lengths
   pub equal-lengths : EqualLengthsWarp
-  -- accepted settings return every message
-  pub counts : OperationReturns
+  pub equal-lengths-line : EqualLengthsLine
+  pub steady-by-lengths : SteadyByLengths
+  -- accepted settings return every message, and so does the operation, with steady clocks as a case
+  pub counts : AcceptedReturn
+  pub counts-bits : OperationReturns
+  pub steady-counts : SteadyReturn
   -- a picked sampling count is the best
   pub picks : PickedCounts
   -- every step gives a well formed state; and the row receiver hears what the rules hear, whatever comes in, one read a
@@ -176,15 +185,16 @@ pub record Demand2 : Type 0 where
   pub writes-rows : Whole
 
 -- D3: each row of a plan is delivered once and in order; and where a stretch of reads is replaced by any others, each
--- row again from the next lead quiet that is heard. It holds of the rules, with the user's own wording as a case and
--- with its grounds, and of every caller: of `step` with one read a call, of `listen` with a list a call, and of both
--- from C.
+-- row again from the next lead quiet that is heard. It holds with all clocks that keep to their ends and reach the
+-- wave's end, of the rules, with the user's own wording and steady clocks as cases and with its grounds, and of every
+-- caller: of `step` with one read a call, of `listen` with a list a call, and of both from C.
 pub record Demand3Met : Type 0 where
   pub of-the-rules : Demand3Holds
   pub in-the-users-words : UserWording
   pub grounds : GroundsHold
   pub of-every-caller : (x : Link) → Fitting x → rowSettingsFit (x .k) (x .n) (x .Q) ≡ true → (caller : Caller)
-      → Demand3 x (hearing caller (receiverSettings x))
+      → Demand3 (scene x) (hearing caller (receiverSettings (scene x)))
+  pub steady-clocks : SteadyClocksAreACase
   -- a yes of the quiet judge for each row's lead is what is asked of the settings; and from the lent lists of a plan
   -- to the delivered rows, call after call
   pub judged : AcceptedFits
@@ -193,7 +203,7 @@ pub record Demand3Met : Type 0 where
   pub every-stored-plan : EveryStoredPlan
   pub stored-plans : StoredPlansHold
 
--- D1, D2, D3: what the contracts say, and the three demands, the first also of the twenty entry points for C
+-- D1, D2, D3: what the contracts say, and the three demands, the first also of the twenty-three entry points for C
 pub record Demands : Type 0 where
   pub contracts : ByContract
   pub one-meaning : OneMeaning

@@ -1,11 +1,11 @@
--- Demand 1 of the twenty entry points for C. The tests are those of the operations. What crosses is a number, 0 for
--- no refusal, and what is left behind each pointer.
+-- Demand 1 of the twenty-three entry points for C. The tests are those of the operations. What crosses is a number, 0
+-- for no refusal, and what is left behind each pointer.
 use Prim.Native.Nat.{ℕ}
 use mathlib.Core.List.{List, [], _∷_}
 use lib.IntN.{ℤ}
 use lib.ListN.{length, replicate}
 use Rattle.measure.specs.Lists.{onto}
-use Rattle.settings.specs.Margins.{m1, m2, m3, m4, m5, accepted, quietAccepted}
+use Rattle.settings.specs.Margins.{Ends, m1, m2, m3, m4, m5, accepted, quietAccepted}
 use Rattle.settings.specs.Answers.{judgement, quietJudgement}
 use Rattle.settings.specs.Pick.{Best}
 use Rattle.sender.specs.Sending.{wave, planWave, rowsOf}
@@ -47,20 +47,21 @@ summaryOf bytes =
 
 -- D1, H1
 pub record Demand1FromC : Type 0 where
-  -- judging: the number, whether the settings are accepted, and the margins, which a refusal leaves
-  pub judge : (a b g k w r : ℕ) (margins : List ℤ)
-      → Answered (Good.judge a b g k w r) (judgedThree (judgement a b g k w r) margins)
-      (0, flag (accepted a b g k w r), m1 a g w r ∷ m2 a g k w r ∷ m3 a b g k w r ∷ [])
+  -- judging: the number, whether the settings are accepted, and the margins, which a refusal leaves; steady clocks are
+  -- the case of equal ends
+  pub judge : (a b g k : ℕ) (e : Ends) (margins : List ℤ)
+      → Answered (Good.judge a b g k e) (judgedThree (judgement a b g k e) margins)
+      (0, flag (accepted a b g k e), m1 a g e ∷ m2 a g k e ∷ m3 a b g k e ∷ [])
       (λ number place. (number, 0, margins))
-  pub judge-quiet : (a b g k w r Q p1 : ℕ) (margins : List ℤ)
-      → Answered (Good.judgeQuiet a b g k w r Q p1) (judgedFive (quietJudgement a b g k w r Q p1) margins) (
+  pub judge-quiet : (a b g k : ℕ) (e : Ends) (Q p1 : ℕ) (margins : List ℤ)
+      → Answered (Good.judgeQuiet a b g k e Q p1) (judgedFive (quietJudgement a b g k e Q p1) margins) (
         0,
-        flag (quietAccepted a b g k w r Q p1),
-        m1 a g w r ∷ m2 a g k w r ∷ m3 a b g k w r ∷ m4 a b g w r Q ∷ m5 g w r Q p1 ∷ [],
+        flag (quietAccepted a b g k e Q p1),
+        m1 a g e ∷ m2 a g k e ∷ m3 a b g k e ∷ m4 a b g e Q ∷ m5 g e Q p1 ∷ [],
       ) (λ number place. (number, 0, margins))
   -- H11: picking: the number, and k, which is 0 with a refusal
-  pub pick : (a b g k w r number picked : ℕ) → PickCrosses a b g w r number picked → Best a b g k w r
-      → Answered {O = ℕ × ℕ} (Good.pick a b g k w r) (number, picked) (0, k) (λ number place. (number, 0))
+  pub pick : (a b g k : ℕ) (e : Ends) (number picked : ℕ) → PickCrosses a b g e number picked → Best a b g k e
+      → Answered {O = ℕ × ℕ} (Good.pick a b g k e) (number, picked) (0, k) (λ number place. (number, 0))
   pub send : (a b p1 : ℕ) (bits output : List ℕ)
       → FillsFromC (Good.send a b p1 bits output) (wave a b p1 bits) output
       (crossing crossed (sentMessage a b p1 bits output))

@@ -6,10 +6,11 @@ use mathlib.Core.List.{List, [], _∷_, _++_}
 use lib.Dec.{eqb, leb}
 use lib.ListN.{length, drop}
 use Rattle.measure.specs.Choose.{choose, between}
-use Rattle.measure.specs.Ranges.{subcell, settling as settlingCount, sampling, cycleLength, quiet, padMost, bitsMost}
+use Rattle.measure.specs.Ranges.{subcell, settling as settlingCount, sampling, quiet, padMost, bitsMost}
 use Rattle.measure.specs.Ranges.{rowBits, rowsMost, entriesMost, captureMost, inputMost, wordsMost, rowSettingsFit}
 use Rattle.measure.specs.Lists.{firstAbove, someAbove}
-use Rattle.settings.specs.Margins.{zeroOrMore}
+use Rattle.settings.specs.Margins.{Ends, zeroOrMore}
+use Rattle.settings.specs.Answers.{endsFit}
 use Rattle.settings.specs.Pick.{least, pickable}
 use Rattle.sender.specs.Sending.{wave, planWave, rowsOf}
 use Rattle.sender.specs.Answers.{fitting, padded}
@@ -32,24 +33,22 @@ use Rattle.capture.specs.Writing.{captureOf}
 use Rattle.siengulot.specs.Receivers.{Lent, named, numbersFit, receiverLent}
 use Rattle.promises.specs.Promised.{Test, setting, limit, entries, entry, room}
 
--- R40: the judges
-abbrev pub judge : (a b g k w r : ℕ) → List Test
-judge a b g k w r =
-    setting (subcell a && subcell b && settlingCount g && sampling k && cycleLength w && cycleLength r) ∷ []
+-- R40, R74: the judges, over the ends of two clocks; those of steady clocks are the case of equal ends
+abbrev pub judge : (a b g k : ℕ) (e : Ends) → List Test
+judge a b g k e = setting (subcell a && subcell b && settlingCount g && sampling k && endsFit e) ∷ []
 
--- R41
-abbrev pub judgeQuiet : (a b g k w r Q p1 : ℕ) → List Test
-judgeQuiet a b g k w r Q p1 =
+-- R41, R75
+abbrev pub judgeQuiet : (a b g k : ℕ) (e : Ends) (Q p1 : ℕ) → List Test
+judgeQuiet a b g k e Q p1 =
     setting
-    ((subcell a && subcell b && settlingCount g && sampling k && cycleLength w && cycleLength r) && quiet Q
-    && leb p1 padMost)
+    ((subcell a && subcell b && settlingCount g && sampling k && endsFit e) && quiet Q && leb p1 padMost)
     ∷ []
 
--- R58, M31: the picker, where k is the best sampling count: refusal 9, unless its least margin is zero or more
-abbrev pub pick : (a b g k w r : ℕ) → List Test
-pick a b g k w r =
-    setting (pickable a b g w r)
-    ∷ record { number = 9; place = 0; failed = not (zeroOrMore (least a b g k w r)) }
+-- R58, R76, M31: the picker, where k is the best sampling count: refusal 9, unless its least margin is zero or more
+abbrev pub pick : (a b g k : ℕ) (e : Ends) → List Test
+pick a b g k e =
+    setting (pickable a b g e)
+    ∷ record { number = 9; place = 0; failed = not (zeroOrMore (least a b g k e)) }
     ∷ []
 
 -- R42: sending; a plan is lent as its lead pads and the bits of all rows

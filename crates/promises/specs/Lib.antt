@@ -1,4 +1,5 @@
 pub mod Places
+pub mod Reaching
 pub mod Replaced
 pub mod Demand3
 pub mod StoredPlans

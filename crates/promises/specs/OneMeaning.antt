@@ -58,6 +58,10 @@ pub record OneMeaning : Type 0 where
   pub judge : One Settings.judge.ended Settings.judge.Reads.Asked Settings.judge.Reads.Post
   pub judge-quiet : One Settings.judge_quiet.ended Settings.judge_quiet.Reads.Asked Settings.judge_quiet.Reads.Post
   pub pick : One Settings.pick.ended Settings.pick.Reads.Asked Settings.pick.Reads.Post
+  pub judge-ends : One Settings.judge_ends.ended Settings.judge_ends.Reads.Asked Settings.judge_ends.Reads.Post
+  pub judge-quiet-ends :
+      One Settings.judge_quiet_ends.ended Settings.judge_quiet_ends.Reads.Asked Settings.judge_quiet_ends.Reads.Post
+  pub pick-ends : One Settings.pick_ends.ended Settings.pick_ends.Reads.Asked Settings.pick_ends.Reads.Post
   -- sender
   pub send : One Sender.send.ended Sender.send.Reads.Asked Sender.send.Reads.Post
   pub send-plan : One Sender.send_plan.ended Sender.send_plan.Reads.Asked Sender.send_plan.Reads.Post
@@ -103,6 +107,13 @@ pub record OneMeaning : Type 0 where
   pub siengulot-judge-quiet :
       One C.siengulot_judge_quiet.ended C.siengulot_judge_quiet.Reads.Asked C.siengulot_judge_quiet.Reads.Post
   pub siengulot-pick : One C.siengulot_pick.ended C.siengulot_pick.Reads.Asked C.siengulot_pick.Reads.Post
+  pub siengulot-judge-ends :
+      One C.siengulot_judge_ends.ended C.siengulot_judge_ends.Reads.Asked C.siengulot_judge_ends.Reads.Post
+  pub siengulot-judge-quiet-ends :
+      One C.siengulot_judge_quiet_ends.ended C.siengulot_judge_quiet_ends.Reads.Asked
+      C.siengulot_judge_quiet_ends.Reads.Post
+  pub siengulot-pick-ends :
+      One C.siengulot_pick_ends.ended C.siengulot_pick_ends.Reads.Asked C.siengulot_pick_ends.Reads.Post
   pub siengulot-send : One C.siengulot_send.ended C.siengulot_send.Reads.Asked C.siengulot_send.Reads.Post
   pub siengulot-plan : One C.siengulot_plan.ended C.siengulot_plan.Reads.Asked C.siengulot_plan.Reads.Post
   pub siengulot-read-plan :

@@ -9,7 +9,7 @@ use lib.ListN.{length, replicate}
 use Rattle.measure.specs.Choose.{choose}
 use Rattle.measure.specs.Lists.{firstAbove, someAbove, onto}
 use Rattle.measure.specs.Refusals.{Answer, given, refused, lent}
-use Rattle.settings.specs.Margins.{m1, m2, m3, m4, m5, accepted, quietAccepted}
+use Rattle.settings.specs.Margins.{Ends, m1, m2, m3, m4, m5, accepted, quietAccepted}
 use Rattle.settings.specs.Answers.{Judgement, QuietJudgement}
 use Rattle.board.specs.declared.Mode.the-variants.{Hunting}
 use Rattle.board.specs.declared.Receiver.{Receiver}
@@ -78,20 +78,16 @@ FillsFromC tests result output outcome =
     (λ number place. ((number, place, 0), output))
 
 -- M13: what the judges tell: the margins, and whether they are all zero or more
-abbrev pub judged : (a b g k w r : ℕ) → Judgement
-judged a b g k w r =
-    record {
-      margins = record { m1 = m1 a g w r; m2 = m2 a g k w r; m3 = m3 a b g k w r };
-      accepts = accepted a b g k w r;
-    }
+abbrev pub judged : (a b g k : ℕ) (e : Ends) → Judgement
+judged a b g k e =
+    record { margins = record { m1 = m1 a g e; m2 = m2 a g k e; m3 = m3 a b g k e }; accepts = accepted a b g k e }
 
 -- M13
-abbrev pub quietJudged : (a b g k w r Q p1 : ℕ) → QuietJudgement
-quietJudged a b g k w r Q p1 =
+abbrev pub quietJudged : (a b g k : ℕ) (e : Ends) (Q p1 : ℕ) → QuietJudgement
+quietJudged a b g k e Q p1 =
     record {
-      margins =
-          record { m1 = m1 a g w r; m2 = m2 a g k w r; m3 = m3 a b g k w r; m4 = m4 a b g w r Q; m5 = m5 g w r Q p1 };
-      accepts = quietAccepted a b g k w r Q p1;
+      margins = record { m1 = m1 a g e; m2 = m2 a g k e; m3 = m3 a b g k e; m4 = m4 a b g e Q; m5 = m5 g e Q p1 };
+      accepts = quietAccepted a b g k e Q p1;
     }
 
 -- R33: what a refused start hands back: hunting, and all numbers 0

@@ -1,13 +1,15 @@
 -- Demand 3 tried at P10's settings: two rows, and reads between their last samples replaced by a false quiet with a
--- false mark after it; tried of the same rows stored with a trail pad; and tried on a line with a settling count of 2.
-use Prim.Native.Nat.{ℕ}
+-- false mark after it; tried of the same rows stored with a trail pad; tried on a line with a settling count of 2; and
+-- tried with clocks that wander.
+use Prim.Native.Nat.{ℕ, zero, suc}
 use mathlib.Core.Path.{_≡_}
 use mathlib.Core.List.{List, [], _∷_, _++_}
 use lib.ListN.{getD, replicate}
+use Rattle.settings.specs.Margins.{ends}
 use Rattle.sender.specs.Sending.{Row}
 use Rattle.board.specs.Rows.{Event, row, broken, fresh}
 use Rattle.board.specs.Feeding.{Report, reports as reportsOf}
-use Rattle.promises.specs.Places.{Link, planReads, cyclesOf, heard, deliveries}
+use Rattle.promises.specs.Places.{Scene, steadily, byLengths, Link, scene, cyclesOf, heard, deliveries}
 use Rattle.promises.specs.Replaced.{WhollyAfter, damaged, below, above}
 use Rattle.promises.specs.Demand3.{Fitting, Demand3, receiverSettings}
 use Rattle.promises.specs.WholeWay.{YesForEach, Way, linkOf, Within, WholeWay}
@@ -29,15 +31,17 @@ p10 = record {
   b = 13;
   g = 1;
   k = 10;
-  w = 100;
-  r = 100;
   n = 2;
   Q = 21;
-  p = 40;
+  clocks = steadily 100 100 40;
   rows = first ∷ second ∷ [];
   highAfter = 0;
   choices = 1 ∷ 0 ∷ 0 ∷ 1 ∷ 1 ∷ 0 ∷ [];
 }
+
+-- D10
+abbrev pub p10Read : Scene
+p10Read = scene p10
 
 -- D20: the same plan as it is lent, with no more room than the results take
 abbrev pub p10Lent : Way
@@ -46,11 +50,11 @@ p10Lent = record {
   b = p10 .b;
   g = p10 .g;
   k = p10 .k;
-  w = p10 .w;
-  r = p10 .r;
+  w = 100;
+  r = 100;
   n = p10 .n;
   Q = p10 .Q;
-  p = p10 .p;
+  p = 40;
   leads = 23 ∷ 23 ∷ [];
   bits = 1 ∷ 0 ∷ 0 ∷ 1 ∷ [];
   choices = p10 .choices;
@@ -66,20 +70,21 @@ false-quiet = replicate 21 1 ++ replicate 3 0
 
 -- reads 54 up to 58 replaced; read 58 is the first that shares time with the second row's lead
 abbrev pub damagedReports : List Report
-damagedReports = reportsOf (receiverSettings p10) fresh 0 (damaged p10 54 58 false-quiet)
+damagedReports = reportsOf (receiverSettings p10Read) fresh 0 (damaged p10Read 54 58 false-quiet)
 
-abbrev at : (place : ℕ) (event : Event) → Report
+-- D16: a report
+abbrev pub at : (place : ℕ) (event : Event) → Report
 at place event = record { place = place; event = event }
 
 -- D3
 pub record Tried : Type 0 where
   -- the hypotheses are met, so demand 3 holds here
   pub fits : Fitting p10
-  pub demand : Demand3 p10 (reportsOf (receiverSettings p10) fresh 0)
-  pub wholly : WhollyAfter p10 (cyclesOf p10 (first ∷ [])) (second .lead) 58
+  pub demand : Demand3 p10Read (reportsOf (receiverSettings p10Read) fresh 0)
+  pub wholly : WhollyAfter p10Read (cyclesOf p10Read (first ∷ [])) (second .lead) 58
   -- the places that it speaks of: the last samples, and the read with which the second lead quiet has been heard
-  pub samples : deliveries p10 0 (first ∷ second ∷ []) ≡ at 51 (row (1 ∷ 0 ∷ [])) ∷ at 111 (row (0 ∷ 1 ∷ [])) ∷ []
-  pub hears : heard p10 (cyclesOf p10 (first ∷ [])) (second .lead) ≡ 80
+  pub samples : deliveries p10Read 0 (first ∷ second ∷ []) ≡ at 51 (row (1 ∷ 0 ∷ [])) ∷ at 111 (row (0 ∷ 1 ∷ [])) ∷ []
+  pub hears : heard p10Read (cyclesOf p10Read (first ∷ [])) (second .lead) ≡ 80
   -- The reports. The false row is broken with the very read that the second lead quiet is heard with, now at 54 + 24 +
   -- (80 - 58): its own report comes before.
   pub reports : damagedReports ≡ at 51 (row (1 ∷ 0 ∷ [])) ∷ at 100 (broken 1) ∷ at 131 (row (0 ∷ 1 ∷ [])) ∷ []
@@ -97,11 +102,9 @@ stored = record {
   b = 13;
   g = 1;
   k = 10;
-  w = 100;
-  r = 100;
   n = 2;
   Q = 21;
-  p = 40;
+  clocks = p10 .clocks;
   leads = 23 ∷ 23 ∷ [];
   trails = 5 ∷ 3 ∷ [];
   bits = 1 ∷ 0 ∷ 0 ∷ 1 ∷ [];
@@ -117,7 +120,7 @@ pub record TriedStored : Type 0 where
   -- the read with which these have been heard, which the stretch moves to 54 + 24 + (85 - 63)
   pub hears : heard (itself stored) (storedFrom stored 1) (storedLead stored 1) ≡ 85
   -- so the user's wording says nothing of the second row, and the last 23 cycles still bring it
-  pub after : above 100 (reportsOf (receiverSettings p10) fresh 0 (damaged (itself stored) 54 63 false-quiet))
+  pub after : above 100 (reportsOf (receiverSettings p10Read) fresh 0 (damaged (itself stored) 54 63 false-quiet))
       ≡ at 131 (row (0 ∷ 1 ∷ [])) ∷ []
 
 -- D3
@@ -126,21 +129,23 @@ slowFirst = record { lead = 18; bits = 1 ∷ 0 ∷ [] }
 
 -- D14: Two rows, with this second lead, on a line with this settling count. With g 2 and a lead of 18 all five margins
 -- are 0. Each read shares time with two cycles, and every unknown read falls low.
-abbrev pub slow : (g lead : ℕ) → Link
-slow g lead = record {
+abbrev pub slowLink : (g lead : ℕ) → Link
+slowLink g lead = record {
   a = 4;
   b = 7;
   g = g;
   k = 7;
-  w = 2;
-  r = 2;
   n = 2;
   Q = 15;
-  p = 1;
+  clocks = steadily 2 2 1;
   rows = slowFirst ∷ record { lead = lead; bits = 0 ∷ 1 ∷ [] } ∷ [];
   highAfter = 0;
   choices = [];
 }
+
+-- D10
+abbrev pub slow : (g lead : ℕ) → Scene
+slow g lead = scene (slowLink g lead)
 
 -- D14: what is reported of reads on this line
 abbrev pub slowReports : List ℕ → List Report
@@ -154,12 +159,12 @@ slowDamaged = damaged (slow 2 18) 36 39 (replicate 15 1 ++ replicate 3 0)
 -- D14
 pub record TriedSlow : Type 0 where
   pub judged : YesForEach (slow 2 18) (18 ∷ 18 ∷ [])
-  pub fits : Fitting (slow 2 18)
+  pub fits : Fitting (slowLink 2 18)
   pub demand : Demand3 (slow 2 18) slowReports
   pub wholly : WhollyAfter (slow 2 18) (cyclesOf (slow 2 18) (slowFirst ∷ [])) 18 39
   -- The slow edge: read 41 lies within the second lead without its first cycle, and is low. With g 1 it is high.
-  pub slow-edge : getD (planReads (slow 2 18)) 41 2 ≡ 0
-  pub quick-edge : getD (planReads (slow 1 18)) 41 2 ≡ 1
+  pub slow-edge : getD (slow 2 18 .reads) 41 2 ≡ 0
+  pub quick-edge : getD (slow 1 18 .reads) 41 2 ≡ 1
   -- so the lead quiet has been heard one read later than it would be with g 1
   pub hears : heard (slow 2 18) (cyclesOf (slow 2 18) (slowFirst ∷ [])) 18 ≡ 56
   pub hears-sooner : heard (slow 1 18) (cyclesOf (slow 1 18) (slowFirst ∷ [])) 18 ≡ 55
@@ -169,5 +174,70 @@ pub record TriedSlow : Type 0 where
   pub after : above 71 (slowReports slowDamaged) ≡ at 93 (row (0 ∷ 1 ∷ [])) ∷ []
   -- A second lead of 17 is accepted with g 1, and brings the row; on this line it is lost.
   pub judged-quick : YesForEach (slow 1 17) (18 ∷ 17 ∷ [])
-  pub quick : slowReports (planReads (slow 1 17)) ≡ at 35 (row (1 ∷ 0 ∷ [])) ∷ at 76 (row (0 ∷ 1 ∷ [])) ∷ []
-  pub lost : slowReports (planReads (slow 2 17)) ≡ at 35 (row (1 ∷ 0 ∷ [])) ∷ []
+  pub quick : slowReports (slow 1 17 .reads) ≡ at 35 (row (1 ∷ 0 ∷ [])) ∷ at 76 (row (0 ∷ 1 ∷ [])) ∷ []
+  pub lost : slowReports (slow 2 17 .reads) ≡ at 35 (row (1 ∷ 0 ∷ [])) ∷ []
+
+-- L40: lengths that come again and again
+abbrev pub again : (times : ℕ) (lengths : List ℕ) → List ℕ
+again zero lengths = []
+again (suc times) lengths = lengths ++ again times lengths
+
+-- D3
+abbrev pub wanderFirst : Row
+wanderFirst = record { lead = 20; bits = 1 ∷ 0 ∷ [] }
+
+-- D3
+abbrev pub wanderSecond : Row
+wanderSecond = record { lead = 20; bits = 0 ∷ 1 ∷ [] }
+
+-- L40
+abbrev pub wanderCycleLengths : List ℕ
+wanderCycleLengths = again 28 (9 ∷ 10 ∷ 10 ∷ [])
+
+-- L40
+abbrev pub wanderReadLengths : List ℕ
+wanderReadLengths = again 44 (10 ∷ 9 ∷ [])
+
+-- D10: Two rows on a line both of whose clocks wander by a tenth, from cycle to cycle and from read to read. M3 is 0,
+-- M5 is 1, and every unknown read falls low.
+abbrev pub wanderLink : Link
+wanderLink = record {
+  a = 4;
+  b = 7;
+  g = 1;
+  k = 7;
+  n = 2;
+  Q = 16;
+  clocks = byLengths (ends 9 10 9 10) 8 wanderCycleLengths wanderReadLengths;
+  rows = wanderFirst ∷ wanderSecond ∷ [];
+  highAfter = 0;
+  choices = [];
+}
+
+-- D10
+abbrev pub wander : Scene
+wander = scene wanderLink
+
+-- D3: what is reported of reads on this line
+abbrev pub wanderReports : List ℕ → List Report
+wanderReports reads = reportsOf (receiverSettings wander) fresh 0 reads
+
+-- D11: reads 39 up to 41 replaced by Q high reads and a mark; read 41 is the first that shares time with the second
+-- row's lead
+abbrev pub wanderDamaged : List ℕ
+wanderDamaged = damaged wander 39 41 (replicate 16 1 ++ replicate 3 0)
+
+-- D3, D20
+pub record TriedWandering : Type 0 where
+  pub judged : YesForEach wander (20 ∷ 20 ∷ [])
+  pub fits : Fitting wanderLink
+  pub demand : Demand3 wander wanderReports
+  pub wholly : WhollyAfter wander (cyclesOf wander (wanderFirst ∷ [])) 20 41
+  -- the last samples, and the read with which the second lead quiet has been heard
+  pub samples : deliveries wander 0 (wanderFirst ∷ wanderSecond ∷ [])
+      ≡ at 37 (row (1 ∷ 0 ∷ [])) ∷ at 82 (row (0 ∷ 1 ∷ [])) ∷ []
+  pub hears : heard wander (cyclesOf wander (wanderFirst ∷ [])) 20 ≡ 58
+  -- The reports. The false row is broken with read 58, now at 39 + 19 + (58 - 41).
+  pub reports : wanderReports wanderDamaged
+      ≡ at 37 (row (1 ∷ 0 ∷ [])) ∷ at 75 (broken 1) ∷ at 99 (row (0 ∷ 1 ∷ [])) ∷ []
+  pub after : above 75 (wanderReports wanderDamaged) ≡ at 99 (row (0 ∷ 1 ∷ [])) ∷ []

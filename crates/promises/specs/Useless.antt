@@ -16,9 +16,8 @@ use Rattle.board.specs.declared.Mode.{Mode}
 use Rattle.board.specs.declared.Mode.the-variants.{Hunting, Ready, Counting, Waiting}
 use Rattle.promises.specs.Promised.{Test, Answered, Fills}
 use Rattle.promises.specs.GoodInput as Good
-use Rattle.promises.specs.Places.{planReads}
 use Rattle.promises.specs.Demand3.{Demand3, receiverSettings}
-use Rattle.promises.specs.Tried.{p10}
+use Rattle.promises.specs.Tried.{p10Read}
 
 -- D34: What could be put in the place of `send`, and demand 1's line for it.
 abbrev pub Sender : Type 0
@@ -116,8 +115,8 @@ deliversOnce g s read =
 
 -- D34: demand 3 is false of each; the last one does deliver the first row
 pub record ShutOut : Type 0 where
-  pub refusing : Demand3 p10 (reportsBy refusesAll fresh 0) → ⊥
-  pub leaving : Demand3 p10 (reportsBy (leavesState (receiverSettings p10)) fresh 0) → ⊥
-  pub once : Demand3 p10 (reportsBy (deliversOnce (receiverSettings p10)) fresh 0) → ⊥
-  pub once-is : reportsBy (deliversOnce (receiverSettings p10)) fresh 0 (planReads p10)
+  pub refusing : Demand3 p10Read (reportsBy refusesAll fresh 0) → ⊥
+  pub leaving : Demand3 p10Read (reportsBy (leavesState (receiverSettings p10Read)) fresh 0) → ⊥
+  pub once : Demand3 p10Read (reportsBy (deliversOnce (receiverSettings p10Read)) fresh 0) → ⊥
+  pub once-is : reportsBy (deliversOnce (receiverSettings p10Read)) fresh 0 (p10Read .reads)
       ≡ record { place = 51; event = row (1 ∷ 0 ∷ []) } ∷ []

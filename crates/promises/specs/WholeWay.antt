@@ -15,8 +15,8 @@ use Rattle.line.specs.Smooth.{smooth}
 use Rattle.line.specs.Warp.{warp}
 use Rattle.line.specs.Answers.{smoothed, warped, settled}
 use Rattle.measure.specs.Levels.{Levels}
-use Rattle.promises.specs.Places.{Link, planReads, deliveries}
-use Rattle.promises.specs.Demand3.{Fitting, receiverSettings, Demand3}
+use Rattle.promises.specs.Places.{Scene, steadily, Link, scene, deliveries}
+use Rattle.promises.specs.Demand3.{Asked, Fitting, receiverSettings, Demand3}
 use Rattle.promises.specs.Promised.{good}
 use Rattle.promises.specs.GoodInput as Good
 use Rattle.promises.specs.Hearing.{Caller, hearing}
@@ -28,13 +28,13 @@ SaysYes (refused number place) = ⊥
 SaysYes (refusedAfter number place count) = ⊥
 
 -- D3: it does so for each of these lead pads
-abbrev pub YesForEach : Link → List ℕ → Type 0
+abbrev pub YesForEach : Scene → List ℕ → Type 0
 YesForEach x [] = Unit {0}
 YesForEach x (p1 ∷ leads) =
-    SaysYes (quietJudgement (x .a) (x .b) (x .g) (x .k) (x .w) (x .r) (x .Q) p1) × YesForEach x leads
+    SaysYes (quietJudgement (x .a) (x .b) (x .g) (x .k) (x .ends) (x .Q) p1) × YesForEach x leads
 
 -- D20: each of these rows has n bits, 0 or 1
-abbrev pub BitsFit : Link → List Row → Type 0
+abbrev pub BitsFit : Scene → List Row → Type 0
 BitsFit x [] = Unit {0}
 BitsFit x (row ∷ rows) = (length (row .bits) ≡ x .n) × Levels (row .bits) × BitsFit x rows
 
@@ -44,10 +44,10 @@ leadsOf [] = []
 leadsOf (row ∷ rows) = row .lead ∷ leadsOf rows
 
 -- D3, D20: The judge joined to demand 3: a yes for the lead of each row, at least one, is what demand 3 asks of the
--- settings. The rest is asked of the phase, the bits and the choices.
+-- settings, whether the clocks wander within their ends or are steady. The rest is asked of the bits.
 abbrev pub AcceptedFits : Type 0
-AcceptedFits = (x : Link) → 1 ≤ length (x .rows) → YesForEach x (leadsOf (x .rows)) → x .p < x .w → 1 ≤ x .n
-    → BitsFit x (x .rows) → Levels (x .choices) → Fitting x
+AcceptedFits = (x : Scene) → 1 ≤ length (x .rows) → YesForEach x (leadsOf (x .rows)) → 1 ≤ x .n
+    → BitsFit x (x .rows) → Asked x
 
 -- D3: a plan as it is lent, the settings of its link, the line's choices, and the outputs that are lent to the four
 -- calls
@@ -77,15 +77,17 @@ linkOf y =
       b = y .b;
       g = y .g;
       k = y .k;
-      w = y .w;
-      r = y .r;
       n = y .n;
       Q = y .Q;
-      p = y .p;
+      clocks = steadily (y .w) (y .r) (y .p);
       rows = rowsOf (y .n) (y .leads) (y .bits);
       highAfter = 0;
       choices = y .choices;
     }
+
+-- D10: that plan as it is read
+abbrev pub sceneOf : Way → Scene
+sceneOf y = scene (linkOf y)
 
 -- D10: the plan's wave, what smoothing makes of it, and its reads before they settle
 abbrev pub waveOf : Way → List ℕ
@@ -128,7 +130,7 @@ pub record Within (y : Way) : Type 0 where
   pub smooth-room : length (waveOf y) ≤ length (y .forSmooth)
   pub reads-room : length (warpedOf y) ≤ length (y .forReads)
   pub settled-room : length (warpedOf y) ≤ length (y .forSettled)
-  pub accepted : YesForEach (linkOf y) (y .leads)
+  pub accepted : YesForEach (sceneOf y) (y .leads)
 
 -- D3: what holds then
 pub record WholeWay (y : Way) : Type 0 where
@@ -136,15 +138,15 @@ pub record WholeWay (y : Way) : Type 0 where
   pub sends : sending y ≡ (given (length (waveOf y)), onto (waveOf y) (y .forWave))
   pub smooths : smoothing y ≡ (given (length (waveOf y)), onto (smooth (y .g) (waveOf y)) (y .forSmooth))
   pub warps : warping y ≡ (given (length (warpedOf y)), onto (warpedOf y) (y .forReads))
-  pub settles : settling y ≡ (given (length (warpedOf y)), onto (planReads (linkOf y)) (y .forSettled))
+  pub settles : settling y ≡ (given (length (warpedOf y)), onto (sceneOf y .reads) (y .forSettled))
   -- demand 3 speaks of this link and these reads
   pub fits : Fitting (linkOf y)
-  pub reads : front (settling y) ≡ planReads (linkOf y)
+  pub reads : front (settling y) ≡ sceneOf y .reads
   -- whoever hears them, each row is delivered once, in order, at its last sample, and nothing else is reported
   pub delivers : (caller : Caller)
-      → hearing caller (receiverSettings (linkOf y)) (front (settling y)) ≡ deliveries (linkOf y) 0 (linkOf y .rows)
+      → hearing caller (receiverSettings (sceneOf y)) (front (settling y)) ≡ deliveries (sceneOf y) 0 (sceneOf y .rows)
   -- and with any stretch of them replaced by any others
-  pub recovers : (caller : Caller) → Demand3 (linkOf y) (hearing caller (receiverSettings (linkOf y)))
+  pub recovers : (caller : Caller) → Demand3 (sceneOf y) (hearing caller (receiverSettings (sceneOf y)))
 
 -- D3
 abbrev pub WholeWayHolds : Type 0

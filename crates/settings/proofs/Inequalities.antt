@@ -9,7 +9,7 @@ use lib.Dec.{leb}
 use lib.IntN.{ℤ, pos, negℤ, _+ℤ_, _-ℤ_, _*ℤ_, +ℤ-predℤ, +ℤ-assoc, +ℤ-comm, negℤ-+ℤ, negℤ-sucℤ, predℤ-*ℤ}
 use borrow.Author.Tests.{lt-ltb, le-ltb, le-leb, lt-leb, leb-true}
 use Rattle.measure.proofs.Both.{both-3}
-use Rattle.settings.specs.Margins.{m1, m2, m3, m4, m5, zeroOrMore, accepted, quietAccepted}
+use Rattle.settings.specs.Margins.{Ends, m1, m2, m3, m4, m5, zeroOrMore, accepted, quietAccepted}
 
 -- a difference of two lengths is zero or more exactly if the second is at most the first
 pub difference-met : (p q : ℕ) → zeroOrMore (pos p -ℤ pos q) ≡ leb q p
@@ -59,70 +59,74 @@ margin-least d x c u y v =
         ∙ sym (+ℤ-assoc (pos p) (pos d) (negℤ (pos q)))
 
 -- Each margin is zero or more exactly if what it takes away is at most what it has.
-pub m1-met : (a g w r : ℕ) → zeroOrMore (m1 a g w r) ≡ leb (2 * r + g * w) (a * w)
+pub m1-met : (a g : ℕ) (e : Ends) → zeroOrMore (m1 a g e) ≡ leb (2 * e .r2 + g * e .w1) (a * e .w1)
 unfolding m1
-m1-met a g w r = margin-met a g w 2 r ∙ ap (λ (n : ℕ). leb n (a * w)) (omega arith)
+m1-met a g e = margin-met a g (e .w1) 2 (e .r2) ∙ ap (λ (n : ℕ). leb n (a * e .w1)) (omega arith)
 
-pub m2-met : (a g k w r : ℕ) → zeroOrMore (m2 a g k w r) ≡ leb ((a + g) * w + r) (k * r)
+pub m2-met : (a g k : ℕ) (e : Ends) → zeroOrMore (m2 a g k e) ≡ leb ((a + g) * e .w2 + e .r1) (k * e .r1)
 unfolding m2
-m2-met a g k w r = margin-met k 1 r (a + g) w ∙ ap (λ (n : ℕ). leb n (k * r)) (omega arith)
+m2-met a g k e = margin-met k 1 (e .r1) (a + g) (e .w2) ∙ ap (λ (n : ℕ). leb n (k * e .r1)) (omega arith)
 
-pub m3-met : (a b g k w r : ℕ) → zeroOrMore (m3 a b g k w r) ≡ leb ((k + 2) * r + g * w) ((a + b) * w)
+pub m3-met : (a b g k : ℕ) (e : Ends)
+    → zeroOrMore (m3 a b g k e) ≡ leb ((k + 2) * e .r2 + g * e .w1) ((a + b) * e .w1)
 unfolding m3
-m3-met a b g k w r = margin-met (a + b) g w (k + 2) r ∙ ap (λ (n : ℕ). leb n ((a + b) * w)) (omega arith)
+m3-met a b g k e =
+    margin-met (a + b) g (e .w1) (k + 2) (e .r2) ∙ ap (λ (n : ℕ). leb n ((a + b) * e .w1)) (omega arith)
 
-pub m4-met : (a b g w r Q : ℕ) → zeroOrMore (m4 a b g w r Q) ≡ leb ((a + b + g) * w + 2 * r) (Q * r)
+pub m4-met : (a b g : ℕ) (e : Ends) (Q : ℕ)
+    → zeroOrMore (m4 a b g e Q) ≡ leb ((a + b + g) * e .w2 + 2 * e .r1) (Q * e .r1)
 unfolding m4
-m4-met a b g w r Q = margin-met Q 2 r (a + b + g) w ∙ ap (λ (n : ℕ). leb n (Q * r)) (omega arith)
+m4-met a b g e Q = margin-met Q 2 (e .r1) (a + b + g) (e .w2) ∙ ap (λ (n : ℕ). leb n (Q * e .r1)) (omega arith)
 
-pub m5-met : (g w r Q p1 : ℕ) → zeroOrMore (m5 g w r Q p1) ≡ leb ((Q + 1) * r + g * w) (p1 * w)
+pub m5-met : (g : ℕ) (e : Ends) (Q p1 : ℕ)
+    → zeroOrMore (m5 g e Q p1) ≡ leb ((Q + 1) * e .r2 + g * e .w1) (p1 * e .w1)
 unfolding m5
-m5-met g w r Q p1 = margin-met p1 g w (Q + 1) r ∙ ap (λ (n : ℕ). leb n (p1 * w)) (omega arith)
+m5-met g e Q p1 = margin-met p1 g (e .w1) (Q + 1) (e .r2) ∙ ap (λ (n : ℕ). leb n (p1 * e .w1)) (omega arith)
 
 -- what accepted settings keep to: M1, M2 and M3
-pub record Accepted (a b g k w r : ℕ) : Type 0 where
-  pub M1 : 2 * r + g * w ≤ a * w
-  pub M2 : (a + g) * w + r ≤ k * r
-  pub M3 : (k + 2) * r + g * w ≤ (a + b) * w
+pub record Accepted (a b g k : ℕ) (e : Ends) : Type 0 where
+  pub M1 : 2 * e .r2 + g * e .w1 ≤ a * e .w1
+  pub M2 : (a + g) * e .w2 + e .r1 ≤ k * e .r1
+  pub M3 : (k + 2) * e .r2 + g * e .w1 ≤ (a + b) * e .w1
 
 -- what accepted quiet settings keep to besides: M4 and M5
-pub record QuietAccepted (a b g w r Q p1 : ℕ) : Type 0 where
-  pub M4 : (a + b + g) * w + 2 * r ≤ Q * r
-  pub M5 : (Q + 1) * r + g * w ≤ p1 * w
+pub record QuietAccepted (a b g : ℕ) (e : Ends) (Q p1 : ℕ) : Type 0 where
+  pub M4 : (a + b + g) * e .w2 + 2 * e .r1 ≤ Q * e .r1
+  pub M5 : (Q + 1) * e .r2 + g * e .w1 ≤ p1 * e .w1
 
-pub accepted-keeps : (a b g k w r : ℕ) → accepted a b g k w r ≡ true → Accepted a b g k w r
+pub accepted-keeps : (a b g k : ℕ) (e : Ends) → accepted a b g k e ≡ true → Accepted a b g k e
 unfolding accepted
-accepted-keeps a b g k w r e =
-    let parts = both-3 (zeroOrMore (m1 a g w r)) (zeroOrMore (m2 a g k w r)) (zeroOrMore (m3 a b g k w r)) e in
+accepted-keeps a b g k e met =
+    let parts = both-3 (zeroOrMore (m1 a g e)) (zeroOrMore (m2 a g k e)) (zeroOrMore (m3 a b g k e)) met in
     record {
-      M1 = leb-true _ _ (sym (m1-met a g w r) ∙ parts .0);
-      M2 = leb-true _ _ (sym (m2-met a g k w r) ∙ parts .1);
-      M3 = leb-true _ _ (sym (m3-met a b g k w r) ∙ parts .2);
+      M1 = leb-true _ _ (sym (m1-met a g e) ∙ parts .0);
+      M2 = leb-true _ _ (sym (m2-met a g k e) ∙ parts .1);
+      M3 = leb-true _ _ (sym (m3-met a b g k e) ∙ parts .2);
     }
 
-pub keeps-accepted : (a b g k w r : ℕ) → Accepted a b g k w r → accepted a b g k w r ≡ true
+pub keeps-accepted : (a b g k : ℕ) (e : Ends) → Accepted a b g k e → accepted a b g k e ≡ true
 unfolding accepted
-keeps-accepted a b g k w r h =
+keeps-accepted a b g k e h =
     rw (
-      m1-met a g w r ∙ le-leb _ _ (h .M1),
-      m2-met a g k w r ∙ le-leb _ _ (h .M2),
-      m3-met a b g k w r ∙ le-leb _ _ (h .M3),
+      m1-met a g e ∙ le-leb _ _ (h .M1),
+      m2-met a g k e ∙ le-leb _ _ (h .M2),
+      m3-met a b g k e ∙ le-leb _ _ (h .M3),
     )
 
-pub quiet-keeps : (a b g k w r Q p1 : ℕ) → quietAccepted a b g k w r Q p1 ≡ true
-    → Accepted a b g k w r × QuietAccepted a b g w r Q p1
+pub quiet-keeps : (a b g k : ℕ) (e : Ends) (Q p1 : ℕ) → quietAccepted a b g k e Q p1 ≡ true
+    → Accepted a b g k e × QuietAccepted a b g e Q p1
 unfolding quietAccepted
-quiet-keeps a b g k w r Q p1 e =
-    let parts = both-3 (accepted a b g k w r) (zeroOrMore (m4 a b g w r Q)) (zeroOrMore (m5 g w r Q p1)) e in (
-      accepted-keeps a b g k w r (parts .0),
+quiet-keeps a b g k e Q p1 met =
+    let parts = both-3 (accepted a b g k e) (zeroOrMore (m4 a b g e Q)) (zeroOrMore (m5 g e Q p1)) met in (
+      accepted-keeps a b g k e (parts .0),
       record {
-        M4 = leb-true _ _ (sym (m4-met a b g w r Q) ∙ parts .1);
-        M5 = leb-true _ _ (sym (m5-met g w r Q p1) ∙ parts .2);
+        M4 = leb-true _ _ (sym (m4-met a b g e Q) ∙ parts .1);
+        M5 = leb-true _ _ (sym (m5-met g e Q p1) ∙ parts .2);
       },
     )
 
-pub keeps-quiet : (a b g k w r Q p1 : ℕ) → Accepted a b g k w r → QuietAccepted a b g w r Q p1
-    → quietAccepted a b g k w r Q p1 ≡ true
+pub keeps-quiet : (a b g k : ℕ) (e : Ends) (Q p1 : ℕ) → Accepted a b g k e → QuietAccepted a b g e Q p1
+    → quietAccepted a b g k e Q p1 ≡ true
 unfolding quietAccepted
-keeps-quiet a b g k w r Q p1 h q =
-    rw (keeps-accepted a b g k w r h, m4-met a b g w r Q ∙ le-leb _ _ (q .M4), m5-met g w r Q p1 ∙ le-leb _ _ (q .M5))
+keeps-quiet a b g k e Q p1 h q =
+    rw (keeps-accepted a b g k e h, m4-met a b g e Q ∙ le-leb _ _ (q .M4), m5-met g e Q p1 ∙ le-leb _ _ (q .M5))

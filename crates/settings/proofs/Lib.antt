@@ -1,5 +1,4 @@
 pub mod CasesHold
-pub mod Ranged
 pub mod Size
 pub mod Signs
 pub mod Judging

@@ -39,7 +39,7 @@ module _ {stays : ℕ} {rises falls : ℕ → ℕ} {most k : ℕ} (t : Turns sta
       go (no l) = omega (arith, t .rising j k (omega arith))
 
   -- up to k the least is the rising one
-  before : (j : ℕ) → j ≤ k → at j ≡ rises j
+  pub before : (j : ℕ) → j ≤ k → at j ≡ rises j
   before j h = omega (arith, rises-to j h, t .falling j k h)
 
   -- past k it does not rise

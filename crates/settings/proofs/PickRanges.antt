@@ -1,58 +1,43 @@
--- Settings that a sampling count is picked for keep to the bounds that the code's arithmetic needs.
-use mathlib.Core.Path.{_≡_, sym, _∙_}
+-- With an M1 of zero or more, M2 starts below M1 and below M3, and no distance passes what the code can say.
+use mathlib.Core.Path.{_≡_, sym, ap, _∙_}
 use mathlib.Core.Bool.{true}
-use mathlib.Core.List.{[], _∷_}
-use Prim.Native.Nat.{ℕ, _+_, _*_, _≤_, _<_}
-use native.Mathlib.Nat.{mul-le-mul}
+use Prim.Native.Nat.{ℕ, _+_, _*_, _-_, _≤_}
+use native.Mathlib.Nat.{add-mul, sub-add-cancel, mul-le-mul, mul-le-mul-left, le-of-mul-le-mul-right}
 use native.Mathlib.Omega.{arith}
 use borrow.Author.Tests.{leb-true}
-use Rattle.measure.specs.Ranges.{subcell, settling, cycleLength}
-use Rattle.settings.specs.Margins.{m1, zeroOrMore}
+use Rattle.settings.specs.Margins.{Ends, m1, zeroOrMore}
 use Rattle.settings.specs.Pick.{pickable}
-use Rattle.settings.specs.Turning.{LongMark}
-use Rattle.measure.proofs.Both.{each, range-ends}
 use Rattle.settings.proofs.Inequalities.{m1-met}
+use Rattle.settings.proofs.BothEnds.{EndsFit, pick-in-range}
 
-pub record PickBounded (a b g w r : ℕ) : Type 0 where
-  pub mark : (1 ≤ a) × (a ≤ 255)
-  pub code : (1 ≤ b) × (b ≤ 255)
-  pub settles : (1 ≤ g) × (g ≤ 64)
-  pub cycle : (1 ≤ w) × (w ≤ 65535)
-  pub read : (1 ≤ r) × (r ≤ 65535)
+pub record Rising (a b g : ℕ) (e : Ends) : Type 0 where
+  pub clocks : EndsFit e
+  pub a-most : a ≤ 255
+  pub g-most : g ≤ 64
+  pub g-under : g ≤ a
+  pub left : (a - g) * e .w1 + g * e .w1 ≡ a * e .w1
+  pub two-reads : 2 * e .r2 + g * e .w1 ≤ a * e .w1
+  pub wider : a * e .w1 ≤ a * e .w2
+  pub mark : a * e .w2 ≤ 255 * 65535
+  pub settles : g * e .w2 ≤ 64 * 65535
+  pub code : b * e .w1 ≤ 255 * 65535
 
-pub pick-bounded : (a b g w r : ℕ) → pickable a b g w r ≡ true → PickBounded a b g w r
-pick-bounded a b g w r e =
-    let test = each (subcell a) (subcell b ∷ settling g ∷ cycleLength w ∷ cycleLength r ∷ []) e in
+pub rising : (a b g : ℕ) (e : Ends) → pickable a b g e ≡ true → zeroOrMore (m1 a g e) ≡ true → Rising a b g e
+rising a b g e fits met =
+    let bounds = pick-in-range a b g e fits in
+    let ends = bounds .clocks in
+    let keeps : 2 * e .r2 + g * e .w1 ≤ a * e .w1 = leb-true _ _ (sym (m1-met a g e) ∙ met) in
+    let under : g ≤ a = le-of-mul-le-mul-right {k = e .w1} (omega arith) (ends .w-least) in
+    let shorter : e .w1 ≤ 65535 = omega (arith, ends .w-order, ends .w-most) in
     record {
-      mark = range-ends 1 255 a (test 0);
-      code = range-ends 1 255 b (test 1);
-      settles = range-ends 1 64 g (test 2);
-      cycle = range-ends 1 65535 w (test 3);
-      read = range-ends 1 65535 r (test 4);
+      clocks = ends;
+      a-most = bounds .mark .1;
+      g-most = bounds .settles .1;
+      g-under = under;
+      left = sym (add-mul (a - g) g (e .w1)) ∙ ap (λ (n : ℕ). n * e .w1) (sub-add-cancel under);
+      two-reads = keeps;
+      wider = mul-le-mul-left a (ends .w-order);
+      mark = mul-le-mul (bounds .mark .1) (ends .w-most);
+      settles = mul-le-mul (bounds .settles .1) (ends .w-most);
+      code = mul-le-mul (bounds .code .1) shorter;
     }
-
--- with a mark subcell longer than two reads, M2 starts below M1 and below M3, and no distance passes what the code can
--- say
-pub record Rising (a b w r : ℕ) : Type 0 where
-  pub r-least : 1 ≤ r
-  pub r-most : r ≤ 65535
-  pub two-reads : 2 * r < a * w
-  pub mark : a * w ≤ 255 * 65535
-  pub code : b * w ≤ 255 * 65535
-
-pub rising : (a b w r : ℕ) → LongMark a b w r → Rising a b w r
-rising a b w r (mark, code, cycle, least, most, longer) = record {
-  r-least = least;
-  r-most = most;
-  two-reads = longer;
-  mark = mul-le-mul mark cycle;
-  code = mul-le-mul code cycle;
-}
-
--- with an M1 of zero or more it is longer
-pub long-mark : (a b g w r : ℕ) → pickable a b g w r ≡ true → zeroOrMore (m1 a g w r) ≡ true → LongMark a b w r
-long-mark a b g w r fits met =
-    let bounds = pick-bounded a b g w r fits in
-    let keeps : 2 * r + g * w ≤ a * w = leb-true _ _ (sym (m1-met a g w r) ∙ met) in
-    let some : 1 * 1 ≤ g * w = mul-le-mul (bounds .settles .0) (bounds .cycle .0) in
-    (bounds .mark .1, bounds .code .1, bounds .cycle .1, bounds .read .0, bounds .read .1, omega arith)

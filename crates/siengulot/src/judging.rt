@@ -2,7 +2,8 @@
 ghost use mathlib.Core.Path.{_≡_};
 ghost use mathlib.Core.List.{[], _∷_};
 ghost use Rattle.measure.specs.Refusals.{numberOf};
-ghost use Rattle.settings.specs.Answers.{judgement, quietJudgement};
+ghost use Rattle.settings.specs.Margins.{ends, steady};
+ghost use Rattle.settings.specs.Answers.{judgement, quietJudgement, judgedSays, quietJudgedSays};
 ghost use Rattle.siengulot.specs.Crossing.{judgedThree, judgedFive};
 use measure::ReadCycles;
 use measure::Refusal;
@@ -46,8 +47,32 @@ fn refuse(refusal: Refusal, accepted: &mut usize) -> usize
     measure::number(refusal)
 }
 
-// The judge. Gives M1, M2 and M3, and 1 in `accepted` exactly if all three are zero or more, otherwise 0.
-// Refuses with 1 a setting out of range: the margins are left, and `accepted` is 0.
+// What the judges answer.
+fn of_judged(answer: Judged, margins: &mut [i64; 3], accepted: &mut usize) -> usize
+    ensures { λ x. ⌜ judgedThree (judgedSays answer) (now (margins .entry))
+        ≡ (x, now (accepted .exit), now (margins .exit)) ⌝ }
+{
+    match answer {
+        Judged::Yes(m) => give_three(m, YES, margins, accepted),
+        Judged::No(m) => give_three(m, NO, margins, accepted),
+        Judged::Refused(refusal) => refuse(refusal, accepted),
+    }
+}
+
+// What the quiet judges answer.
+fn of_quiet_judged(answer: QuietJudged, margins: &mut [i64; 5], accepted: &mut usize) -> usize
+    ensures { λ x. ⌜ judgedFive (quietJudgedSays answer) (now (margins .entry))
+        ≡ (x, now (accepted .exit), now (margins .exit)) ⌝ }
+{
+    match answer {
+        QuietJudged::Yes(m) => give_five(m, YES, margins, accepted),
+        QuietJudged::No(m) => give_five(m, NO, margins, accepted),
+        QuietJudged::Refused(refusal) => refuse(refusal, accepted),
+    }
+}
+
+// The judge, for steady clocks. Gives M1, M2 and M3, and 1 in `accepted` exactly if all three are zero or more,
+// otherwise 0. Refuses with 1 a setting out of range: the margins are left, and `accepted` is 0.
 #[no_mangle]
 pub extern "C" fn siengulot_judge(
     a: usize,
@@ -59,7 +84,7 @@ pub extern "C" fn siengulot_judge(
     margins: &mut [i64; 3],
     accepted: &mut usize,
 ) -> usize
-    ensures { λ x. ⌜ judgedThree (judgement a b g k w r) (now (margins .entry))
+    ensures { λ x. ⌜ judgedThree (judgement a b g k (steady w r)) (now (margins .entry))
         ≡ (x, now (accepted .exit), now (margins .exit)) ⌝ }
 {
     let answer = settings::judge(
@@ -70,15 +95,43 @@ pub extern "C" fn siengulot_judge(
         TimeUnits(w),
         TimeUnits(r),
     );
-    match answer {
-        Judged::Yes(m) => give_three(m, YES, margins, accepted),
-        Judged::No(m) => give_three(m, NO, margins, accepted),
-        Judged::Refused(refusal) => refuse(refusal, accepted),
-    }
+    of_judged(answer, margins, accepted)
 }
 
-// The quiet judge. Gives M1 to M5, and 1 in `accepted` exactly if all five are zero or more, otherwise 0.
-// Refuses with 1 a setting out of range: the margins are left, and `accepted` is 0.
+// The judge over the ends of two clocks. Gives M1, M2 and M3 over them, and 1 in `accepted`
+// exactly if all three are zero or more, otherwise 0. Refuses with 1 a setting out of range, and a least length above
+// its greatest: the margins are left, and `accepted` is 0.
+#[no_mangle]
+pub extern "C" fn siengulot_judge_ends(
+    a: usize,
+    b: usize,
+    g: usize,
+    k: usize,
+    w1: usize,
+    w2: usize,
+    r1: usize,
+    r2: usize,
+    margins: &mut [i64; 3],
+    accepted: &mut usize,
+) -> usize
+    ensures { λ x. ⌜ judgedThree (judgement a b g k (ends w1 w2 r1 r2)) (now (margins .entry))
+        ≡ (x, now (accepted .exit), now (margins .exit)) ⌝ }
+{
+    let answer = settings::judge_ends(
+        WriterCycles(a),
+        WriterCycles(b),
+        WriterCycles(g),
+        ReadCycles(k),
+        TimeUnits(w1),
+        TimeUnits(w2),
+        TimeUnits(r1),
+        TimeUnits(r2),
+    );
+    of_judged(answer, margins, accepted)
+}
+
+// The quiet judge, for steady clocks. Gives M1 to M5, and 1 in `accepted` exactly if all five are zero or more,
+// otherwise 0. Refuses with 1 a setting out of range: the margins are left, and `accepted` is 0.
 #[no_mangle]
 pub extern "C" fn siengulot_judge_quiet(
     a: usize,
@@ -92,7 +145,7 @@ pub extern "C" fn siengulot_judge_quiet(
     margins: &mut [i64; 5],
     accepted: &mut usize,
 ) -> usize
-    ensures { λ x. ⌜ judgedFive (quietJudgement a b g k w r q p1) (now (margins .entry))
+    ensures { λ x. ⌜ judgedFive (quietJudgement a b g k (steady w r) q p1) (now (margins .entry))
         ≡ (x, now (accepted .exit), now (margins .exit)) ⌝ }
 {
     let answer = settings::judge_quiet(
@@ -105,9 +158,41 @@ pub extern "C" fn siengulot_judge_quiet(
         ReadCycles(q),
         WriterCycles(p1),
     );
-    match answer {
-        QuietJudged::Yes(m) => give_five(m, YES, margins, accepted),
-        QuietJudged::No(m) => give_five(m, NO, margins, accepted),
-        QuietJudged::Refused(refusal) => refuse(refusal, accepted),
-    }
+    of_quiet_judged(answer, margins, accepted)
+}
+
+// The quiet judge over the ends of two clocks. Gives M1 to M5 over them, and 1 in `accepted`
+// exactly if all five are zero or more, otherwise 0. Refuses with 1 a setting out of range, and a least length above
+// its greatest: the margins are left, and `accepted` is 0.
+#[no_mangle]
+pub extern "C" fn siengulot_judge_quiet_ends(
+    a: usize,
+    b: usize,
+    g: usize,
+    k: usize,
+    w1: usize,
+    w2: usize,
+    r1: usize,
+    r2: usize,
+    q: usize,
+    p1: usize,
+    margins: &mut [i64; 5],
+    accepted: &mut usize,
+) -> usize
+    ensures { λ x. ⌜ judgedFive (quietJudgement a b g k (ends w1 w2 r1 r2) q p1) (now (margins .entry))
+        ≡ (x, now (accepted .exit), now (margins .exit)) ⌝ }
+{
+    let answer = settings::judge_quiet_ends(
+        WriterCycles(a),
+        WriterCycles(b),
+        WriterCycles(g),
+        ReadCycles(k),
+        TimeUnits(w1),
+        TimeUnits(w2),
+        TimeUnits(r1),
+        TimeUnits(r2),
+        ReadCycles(q),
+        WriterCycles(p1),
+    );
+    of_quiet_judged(answer, margins, accepted)
 }

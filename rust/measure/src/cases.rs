@@ -1,5 +1,6 @@
 //! The measured cases: for each the same input to the static library and to the plain implementation.
 
+use crate::ends;
 use crate::inputs::{self, A, B, K, LEAD, N, Q};
 use crate::library::*;
 use crate::numbers::{at, numbers_of, NUMBERS};
@@ -69,6 +70,14 @@ pub fn all() -> Vec<Case> {
     vec![
         case("judge", "call", "1.5", SIZES, judge),
         case("judge quiet", "call", "1.5", SIZES, judge_quiet),
+        case("judge over ends", "call", "1.5", SIZES, ends::judge),
+        case(
+            "judge quiet over ends",
+            "call",
+            "1.5",
+            SIZES,
+            ends::judge_quiet,
+        ),
         case(
             "pick, Rust tries all 511",
             "call",
@@ -82,6 +91,13 @@ pub fn all() -> Vec<Case> {
             "1.2",
             SIZES,
             picking::beside_divisions,
+        ),
+        case(
+            "pick over ends, Rust divides too",
+            "call",
+            "1.2",
+            SIZES,
+            ends::pick,
         ),
         case("send, 5/13 cells", "cycle", "1.5", [100, 1_000], send),
         case("plan, 5/13 cells, n 80", "cycle", "1.5", [66, 660], plan),

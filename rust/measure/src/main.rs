@@ -6,6 +6,7 @@
 //! names begin with it.
 
 mod cases;
+mod ends;
 mod inputs;
 #[path = "../../differential/library.rs"]
 mod library;

@@ -15,11 +15,8 @@ between-requires-3 c κs = search needs
 between-requires-4 : tie.Need-between-requires-4
 between-requires-4 c κs = search needs
 
-between-requires-5 : tie.Need-between-requires-5
-between-requires-5 c κs = search needs
-
-between-requires-6 : tie.Need-between-requires-6
-between-requires-6 c κs = search needs
+ends-fit-requires : tie.Need-ends-fit-requires
+ends-fit-requires c κs = search needs
 
 returns : tie.Need-returns
 returns c = cc
@@ -32,6 +29,5 @@ in-range-spec =
     between-requires-2
     between-requires-3
     between-requires-4
-    between-requires-5
-    between-requires-6
+    ends-fit-requires
     returns)

@@ -11,7 +11,7 @@ margin-requires c κs = search needs
 
 returns : tie.Need-returns
 unfolding m1
-returns c = read-back (c .margin .result) (c .margin .ok) ∙ c .margin .ensures
+returns c = λ w2 r1. read-back (c .margin .result) (c .margin .ok) ∙ c .margin .ensures
 
 pub margin1-spec : {M : Type 1} → statement M
 margin1-spec = tie.close (tie.spec margin-requires returns)

@@ -14,7 +14,7 @@ margin-requires c κs = search needs
 
 returns : tie.Need-returns
 unfolding m2
-returns c = read-back (c .margin .result) (c .margin .ok) ∙ c .margin .ensures
+returns c = λ w1 r2. read-back (c .margin .result) (c .margin .ok) ∙ c .margin .ensures
 
 pub margin2-spec : {M : Type 1} → statement M
 margin2-spec = tie.close (tie.spec add-margin margin-requires returns)

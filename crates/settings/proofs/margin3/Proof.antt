@@ -17,7 +17,7 @@ margin-requires c κs = search needs
 
 returns : tie.Need-returns
 unfolding m3
-returns c = read-back (c .margin .result) (c .margin .ok) ∙ c .margin .ensures
+returns c = λ w2 r1. read-back (c .margin .result) (c .margin .ok) ∙ c .margin .ensures
 
 pub margin3-spec : {M : Type 1} → statement M
 margin3-spec = tie.close (tie.spec add-margin add-margin-2 margin-requires returns)

@@ -14,7 +14,7 @@ margin-requires c κs = search needs
 
 returns : tie.Need-returns
 unfolding m5
-returns c = read-back (c .margin .result) (c .margin .ok) ∙ c .margin .ensures
+returns c = λ w2 r1. read-back (c .margin .result) (c .margin .ok) ∙ c .margin .ensures
 
 pub margin5-spec : {M : Type 1} → statement M
 margin5-spec = tie.close (tie.spec add-margin margin-requires returns)

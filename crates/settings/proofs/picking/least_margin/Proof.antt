@@ -24,6 +24,7 @@ lower-requires-2 c κs = search needs
 returns : tie.Need-returns
 unfolding least
 returns c =
+    let args = c .before .before .before .before .before .args in
     let third = c .before .before .margin3 in
     let second = c .before .before .before .margin2 in
     let first = c .before .before .before .before .margin1 in
@@ -33,14 +34,14 @@ returns c =
     rw (
       read-back (second .result) (second .ok),
       read-back (third .result) (third .ok),
-      second .ensures,
-      third .ensures,
+      second .ensures (args .w1 .0) (args .r2 .0),
+      third .ensures (args .w2 .0) (args .r1 .0),
     ) at (inner .ensures) in
     read-back (outer .result) (outer .ok)
     ∙ rw (
       read-back (first .result) (first .ok),
       read-back (inner .result) (inner .ok),
-      first .ensures,
+      first .ensures (args .w2 .0) (args .r1 .0),
       of-two,
     ) at (outer .ensures)
 

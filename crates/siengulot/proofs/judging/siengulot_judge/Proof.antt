@@ -1,61 +1,16 @@
--- `siengulot_judge` meets its contract: each case of the operation's answer is laid out as what it says.
-use mathlib.Core.Path.{refl, sym}
+-- `siengulot_judge` meets its contract: the operation's answer is laid out.
 use borrow.Author.Needs.{needs}
-use Rattle.siengulot.proofs.Across.{laid-out}
 use Rattle.siengulot.proofs.judging.siengulot_judge.Statement.{statement}
 use Rattle.siengulot.proofs.judging.siengulot_judge.Tie as tie
 
 judge-requires : tie.Need-judge-requires
 judge-requires c κs = search needs
 
-enum-known-answer : tie.Need-enum-known-answer
-enum-known-answer c = search needs
-
-give-three-requires : tie.Need-give-three-requires
-give-three-requires c κs = search needs
-
-enum-known-answer-2 : tie.Need-enum-known-answer-2
-enum-known-answer-2 c = search needs
-
-give-three-requires-2 : tie.Need-give-three-requires-2
-give-three-requires-2 c κs = search needs
-
-enum-known-answer-3 : tie.Need-enum-known-answer-3
-enum-known-answer-3 c = search needs
-
-refuse-requires : tie.Need-refuse-requires
-refuse-requires c κs = search needs
+of-judged-requires : tie.Need-of-judged-requires
+of-judged-requires c κs = search needs
 
 returns : tie.Need-returns
-returns c =
-    rw (
-      c .before .before .before .before .before .before .judge .ensures,
-      c .before .before .before .before .answer .given .1,
-    ) (laid-out (c .give-three .ensures .0) (c .give-three .ensures .1) (c .give-three .ensures .2))
-
-returns-2 : tie.Need-returns-2
-returns-2 c =
-    rw (
-      c .before .before .before .before .before .before .judge .ensures,
-      c .before .before .before .before .answer2 .given .1,
-    ) (laid-out (c .give-three2 .ensures .0) (c .give-three2 .ensures .1) (c .give-three2 .ensures .2))
-
-returns-3 : tie.Need-returns-3
-returns-3 c =
-    rw (c .before .before .before .before .before .judge .ensures, c .before .before .before .answer3 .given .1)
-    (laid-out (c .refuse .ensures .0) (sym (c .refuse .ensures .1)) refl)
+returns c = rw (c .before .before .before .judge .ensures) (c .of-judged .ensures)
 
 pub siengulot-judge-spec : {M : Type 1} → statement M
-siengulot-judge-spec =
-    tie.close
-    (tie.spec
-    judge-requires
-    enum-known-answer
-    give-three-requires
-    enum-known-answer-2
-    give-three-requires-2
-    enum-known-answer-3
-    refuse-requires
-    returns
-    returns-2
-    returns-3)
+siengulot-judge-spec = tie.close (tie.spec judge-requires of-judged-requires returns)
