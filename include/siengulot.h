@@ -6,11 +6,11 @@
  * What holds of every function here:
  *
  * - It returns the number of its refusal, and 0 where it refuses nothing (enum siengulot_refusal). siengulot_well_formed alone returns a yes or no.
- * - Faults are looked for in the order 1, 3, 2, 11, 4, 5, or 1 and then 9, and the first that is there is returned. A capture has an order of its own, said with
+ * - Faults are looked for in the order 1, 3, 2, 11, 4 and then 5 or 10, or 1 and then 9, and the first that is there is returned. A capture has an order of its own, said with
  *   siengulot_capture_check.
  * - Each single number that is lent (k, place, count, dropped, accepted, event, found, used) is written with every answer, a refusal included. `place`
- *   is 0 but for refusals 2, 6, 7, 8 and 11, and for a row that siengulot_read_plan refuses with 1.
- * - A result stands at the front of its lent output, and the rest of the output is untouched. With every refusal but 5 the whole output is untouched;
+ *   is 0 but for refusals 2, 5, 6, 7, 8, 10 and 11, for a row that siengulot_read_plan refuses with 1, and for siengulot_counted without a refusal.
+ * - A result stands at the front of its lent output, and the rest of the output is untouched. With every refusal but 5 and 10 the whole output is untouched;
  *   siengulot_fresh alone writes zeros where it refuses.
  * - Levels and bits are bytes, 0 or 1. An unknown level is 2. Only words of half cells have a level in each bit.
  * - A pointer must be valid for its length, and not NULL even where that is 0. What a function writes must not overlap anything else that is lent
@@ -47,7 +47,7 @@ enum {
     SIENGULOT_QUIET_LEAST = 2,  /* Q, in reads */
     SIENGULOT_QUIET_MOST = 8191,
     SIENGULOT_ROWS_MOST = 1024,       /* rows of a plan */
-    SIENGULOT_ENTRIES_MOST = 1048576, /* entries of a wave, of reads, of choices, of lengths */
+    SIENGULOT_ENTRIES_MOST = 1048576, /* entries of a wave, of reads, of choices, of lengths, bits of time code */
     SIENGULOT_CAPTURE_MOST = 1048583, /* bytes of a capture */
     SIENGULOT_WORDS_MOST = 128        /* bytes of a message that goes out as words of half cells, and such words */
 };
@@ -58,8 +58,8 @@ enum { SIENGULOT_LOW = 0, SIENGULOT_HIGH = 1, SIENGULOT_UNKNOWN = 2 };
 /* The numbers of the refusals. */
 enum siengulot_refusal {
     SIENGULOT_NO_REFUSAL = 0,
-    SIENGULOT_SETTING = 1, /* a setting, a length or a level in force out of range, a least length above its greatest, a plan whose lists do not fit, a row of a
-                              stored plan whose lead becomes too long, a receiver that is not well formed */
+    SIENGULOT_SETTING = 1, /* a setting, a length, a level in force or a time to be written out of range, a least length above its greatest, a plan
+                              whose lists do not fit, a row of a stored plan whose lead becomes too long, a receiver that is not well formed */
     SIENGULOT_ENTRY = 2,   /* an entry that is not of the kind taken; `place` is where the first such entry stands */
     SIENGULOT_LIMIT = 3,   /* too long a list, lent or to be given */
     SIENGULOT_ROOM = 4,    /* too little room in a lent output */
@@ -68,6 +68,7 @@ enum siengulot_refusal {
     SIENGULOT_FORM = 7,    /* a capture's number has more bytes than it needs, or more than three */
     SIENGULOT_RANGE = 8,   /* a capture's number is one that its place does not allow */
     SIENGULOT_NO_COUNT = 9, /* no sampling count has three margins of zero or more */
+    SIENGULOT_BAD_WORD = 10, /* a word of time code with units above 9, or with a time out of range */
     SIENGULOT_NO_EDGE = 11  /* a cell of words of half cells has no edge at its start; `place` is the first such cell */
 };
 
@@ -292,9 +293,47 @@ size_t siengulot_settle(const uint8_t *reads, size_t reads_length, const uint8_t
  *   5  a mark or a sample that is not there, since the reads have run out.
  * Leaves with refusals 1 to 4 `out` as it was, and 0 in `count`; with 5 the bits found at the front of `out`, the rest as it was, and in `count`
  * how many were found.
+ * Without a refusal, and with 5, `place` is the current read: the last sample, or 0 where no bit was found. To go on, lend the reads from `place` on,
+ * with `level` that sample, or the same `level` as before where `count` is 0: n bits and then m are the n + m bits that one call would find, also
+ * where n + m is above 1,024. Reads that come later may stand after those that are left.
  */
 size_t siengulot_counted(size_t k, size_t n, size_t level, const uint8_t *reads, size_t reads_length, uint8_t *out, size_t out_length,
                          size_t *place, size_t *count);
+
+/*
+ * Time code
+ *
+ * Words of 80 bits as a station's master clock puts them out (SMPTE 12M, linear, 25 frames a second), a byte for each bit. A word's last 16 bits are
+ * 0 0 1 1 1 1 1 1 1 1 1 1 1 1 0 1, the sync word. A time is four bytes: hours, minutes, seconds, frames.
+ */
+
+enum {
+    SIENGULOT_TIME_WORD_BITS = 80, /* the bits of a word */
+    SIENGULOT_TIME_BYTES = 4       /* the bytes of a time */
+};
+
+/*
+ * Reads time code, as siengulot_counted gives it. Gives the times of the words found at the front of `out`, and in `count` how many there are. Words
+ * are looked for at each place from the first on, and after a word from its end on. User bits and flags are not looked at.
+ * Refuses with
+ *   3  more than 1,048,576 bits;
+ *   2  an entry of `bits` above 1, at `place`;
+ *   4  `out` shorter than four bytes for each word found, bad ones too;
+ *   10 a bad word: units above 9, frames above 24, seconds or minutes above 59, or hours above 23; `place` is its first bit.
+ * Leaves with refusals 2 to 4 `out` as it was, and 0 in `count`; with 10 the times before the bad word at the front of `out`, the rest as it was,
+ * and in `count` how many these are.
+ */
+size_t siengulot_time_read(const uint8_t *bits, size_t bits_length, uint8_t *out, size_t out_length, size_t *place, size_t *count);
+
+/*
+ * Writes time code. Gives the 80 bits of the word of a time at the front of `out`, with user bits and flags 0, and 80 in `count`.
+ * Refuses with
+ *   1  hours above 23, minutes or seconds above 59, or frames above 24;
+ *   4  `out` shorter than 80.
+ * Leaves with a refusal `out` as it was, and 0 in `count`.
+ */
+size_t siengulot_time_write(size_t hours, size_t minutes, size_t seconds, size_t frames, uint8_t *out, size_t out_length, size_t *place,
+                            size_t *count);
 
 /*
  * The row receiver

@@ -8,7 +8,7 @@ use crate::numbers::{at, numbers_of, NUMBERS};
 use siengulot_plain::board::{Event, Mode, Receiver, ROW_BYTES};
 use siengulot_plain::capture::{self, Reader, Summary};
 use siengulot_plain::settings::{self, Verdict};
-use siengulot_plain::{counted, halfcells, line, sender, stored, Refusal};
+use siengulot_plain::{counted, halfcells, line, sender, stored, timecode, Refusal};
 use std::collections::BTreeMap;
 
 /// The longest result there is, and some more: a capture's bytes.
@@ -722,7 +722,11 @@ impl Bench {
         // A level that no byte can say is as much out of range as the greatest byte.
         let short = u8::try_from(level).unwrap_or(u8::MAX);
         let (number, found) = match counted::receive(n, short, k, reads, expected.part(out)) {
-            Ok(()) => (told(&mut expected, place, count, Ok(n)), n),
+            Ok(current) => {
+                expected.set(place, &[current]);
+                expected.set(count, &[n]);
+                (0, n)
+            }
             Err(stopped) => {
                 expected.set(place, &[stopped.refusal.place]);
                 expected.set(count, &[stopped.found]);
@@ -811,6 +815,72 @@ impl Bench {
             };
             self.meets("decode", kind);
         }
+    }
+
+    pub fn time_read(&mut self, bits: &[u8], room: Room) {
+        if !self.tries("time_read") {
+            return;
+        }
+        // Refusal 4 counts every word, so the result's length is that of all words.
+        let words = timecode::places(bits).len();
+        let room = room.of(timecode::TIME * words);
+        let (mut lent, out, [place, count]) = self.lend(room);
+        let mut expected = lent.clone();
+        let (number, found) = match timecode::read(bits, expected.part(out)) {
+            Ok(found) => (told(&mut expected, place, count, Ok(found)), found),
+            Err(stopped) => {
+                expected.set(place, &[stopped.refusal.place]);
+                expected.set(count, &[stopped.found]);
+                (usize::from(stopped.refusal.number), stopped.found)
+            }
+        };
+        let list = self.edges[0].lend(bits, &mut self.rng);
+        let got = unsafe {
+            siengulot_time_read(
+                list,
+                bits.len(),
+                lent.bytes_pointer(out),
+                room,
+                lent.pointer(place),
+                lent.pointer(count),
+            )
+        };
+        self.compare("time_read", (got, &lent), (number, &expected), || {
+            format!("{:?} room {}", shown(bits), room)
+        });
+        if got == 0 && found > 1 {
+            self.meets("time_read", "several words");
+        }
+        if got == 10 && found > 0 {
+            self.meets("time_read", "10 after words");
+        }
+    }
+
+    pub fn time_write(&mut self, time: [usize; timecode::TIME], room: Room) {
+        if !self.tries("time_write") {
+            return;
+        }
+        let room = room.of(timecode::WORD);
+        let (mut lent, out, [place, count]) = self.lend(room);
+        let mut expected = lent.clone();
+        let answer = timecode::write(time, expected.part(out)).map(|()| timecode::WORD);
+        let number = told(&mut expected, place, count, answer);
+        let [hours, minutes, seconds, frames] = time;
+        let got = unsafe {
+            siengulot_time_write(
+                hours,
+                minutes,
+                seconds,
+                frames,
+                lent.bytes_pointer(out),
+                room,
+                lent.pointer(place),
+                lent.pointer(count),
+            )
+        };
+        self.compare("time_write", (got, &lent), (number, &expected), || {
+            format!("{:?} room {}", time, room)
+        });
     }
 
     pub fn fresh(&mut self, [k, n, q]: [usize; 3]) -> State {

@@ -534,6 +534,46 @@ impl Rng {
         reads
     }
 
+    /// Bits of time code: words with any user bits and flags, mostly good, with noise before and between, which may have
+    /// a mark of its own; now and then a word that is cut, a digit too great, or an entry that is no bit.
+    pub fn time_code(&mut self) -> Vec<u8> {
+        const MARK: [u8; 16] = [0, 0, 1, 1, 1, 1, 1, 1, 1, 1, 1, 1, 1, 1, 0, 1];
+        let mut bits = Vec::new();
+        for _ in 0..self.below(5) {
+            if self.one_in(3) {
+                let length = self.below(100);
+                bits.extend(self.entries(length, 1));
+                if self.one_in(4) {
+                    bits.extend(MARK);
+                }
+            }
+            let start = bits.len();
+            bits.extend(self.entries(64, 1));
+            for (units, tens, count, most) in [(48, 56, 2, 23), (32, 40, 3, 59), (16, 24, 3, 59), (0, 8, 2, 24)] {
+                let part = self.below(most + 1);
+                for i in 0..4 {
+                    bits[start + units + i] = (part % 10 >> i & 1) as u8;
+                }
+                for i in 0..count {
+                    bits[start + tens + i] = (part / 10 >> i & 1) as u8;
+                }
+            }
+            bits.extend(MARK);
+            if self.one_in(8) {
+                let place = start + self.below(80);
+                bits[place] ^= 1;
+            }
+            if self.one_in(20) {
+                let length = start + self.below(80);
+                bits.truncate(length);
+            }
+        }
+        if !bits.is_empty() && self.one_in(10) {
+            self.damage(&mut bits, 1);
+        }
+        bits
+    }
+
     /// The bytes of a capture, number by number, often with a fault somewhere.
     pub fn capture(&mut self) -> Vec<u8> {
         if self.one_in(12) {

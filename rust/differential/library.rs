@@ -245,4 +245,24 @@ extern "C" {
         place: *mut usize,
         count: *mut usize,
     ) -> usize;
+
+    pub fn siengulot_time_read(
+        bits: *const u8,
+        bits_length: usize,
+        out: *mut u8,
+        out_length: usize,
+        place: *mut usize,
+        count: *mut usize,
+    ) -> usize;
+
+    pub fn siengulot_time_write(
+        hours: usize,
+        minutes: usize,
+        seconds: usize,
+        frames: usize,
+        out: *mut u8,
+        out_length: usize,
+        place: *mut usize,
+        count: *mut usize,
+    ) -> usize;
 }

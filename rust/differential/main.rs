@@ -32,7 +32,7 @@ const COUNTS: [&str; 4] = [
 ];
 
 /// What each operation has to meet: the numbers it returns (of `well_formed`, 0 for no and 1 for yes), and cases that are easy to miss.
-const MUST: [(&str, &[&str], &[&str]); 23] = [
+const MUST: [(&str, &[&str], &[&str]); 25] = [
     ("judge", &["0", "1"], &["yes", "no", "a margin of 0"]),
     ("judge_quiet", &["0", "1"], &["yes", "no", "a margin of 0"]),
     ("judge_ends", &["0", "1"], &["yes", "no", "a margin of 0"]),
@@ -119,6 +119,12 @@ const MUST: [(&str, &[&str], &[&str]); 23] = [
     ("capture_check", &["0", "3", "6", "7", "8"], &[]),
     ("capture_read", &["0", "3", "4", "6", "7", "8"], &[]),
     ("capture_write", &["0", "1", "2", "3", "4"], &[]),
+    (
+        "time_read",
+        &["0", "2", "3", "4", "10"],
+        &["several words", "10 after words"],
+    ),
+    ("time_write", &["0", "1", "4"], &[]),
 ];
 
 fn main() {
@@ -324,6 +330,18 @@ fn round(bench: &mut Bench) {
     let room = Room::random(&mut bench.rng);
     bench.counted(settings, &reads, room);
 
+    let bits = bench.rng.time_code();
+    let room = Room::random(&mut bench.rng);
+    bench.time_read(&bits, room);
+    let time = [
+        bench.rng.setting(0, 23, 23),
+        bench.rng.setting(0, 59, 59),
+        bench.rng.setting(0, 59, 59),
+        bench.rng.setting(0, 24, 24),
+    ];
+    let room = Room::random(&mut bench.rng);
+    bench.time_write(time, room);
+
     let settings = [bench.rng.k(), bench.rng.row_bits(), bench.rng.quiet()];
     bench.fresh(settings);
     for _ in 0..2 {
@@ -481,6 +499,8 @@ fn longest_lists(bench: &mut Bench) {
             bench.warp([3, 4, 1], &bad, room);
             bench.counted([10, 1_024, 1], &levels, room);
             bench.counted([10, 1_024, 1], &bad, room);
+            bench.time_read(&levels, room);
+            bench.time_read(&bad, room);
             bench.capture_write([10, 16, 21], &levels, room);
             bench.capture_write([10, 16, 21], &bad, room);
         }
@@ -572,6 +592,7 @@ fn vast(bench: &mut Bench) {
         bench.settle(list, &[1], room);
         bench.settle(&[2], list, room);
         bench.counted([3, 2, 1], list, room);
+        bench.time_read(list, room);
         bench.capture_check(list);
         bench.capture_read(list, room);
         bench.capture_write([2, 2, 6], list, room);

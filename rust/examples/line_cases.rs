@@ -4,7 +4,7 @@
 mod common;
 
 use common::{made, refused, Case};
-use siengulot_plain::{counted, halfcells, line, sender, settings, stored, Refusal};
+use siengulot_plain::{counted, halfcells, line, sender, settings, stored, timecode, Refusal};
 
 /// Whether settings are accepted, and their margins.
 fn judged<const M: usize>(answer: Result<settings::Verdict<M>, Refusal>) -> (String, usize) {
@@ -19,13 +19,28 @@ fn judged<const M: usize>(answer: Result<settings::Verdict<M>, Refusal>) -> (Str
     (told, 0)
 }
 
-fn counted(answer: Result<(), counted::Stopped>, n: usize) -> (String, usize) {
+fn counted(answer: Result<usize, counted::Stopped>, n: usize) -> (String, usize) {
     match answer {
-        Ok(()) => (format!(" {}", n), n),
-        Err(counted::Stopped { refusal, found }) if refusal.number == 5 => {
-            (format!(" refused 5 after {}", found), found)
-        }
-        Err(stopped) => (refused(stopped.refusal), 0),
+        Ok(current) => (format!(" {} at {}", n, current), n),
+        Err(stopped) => stopped_after(stopped, 5, 1),
+    }
+}
+
+fn times(answer: Result<usize, counted::Stopped>) -> (String, usize) {
+    match answer {
+        Ok(found) => (format!(" {}", found), timecode::TIME * found),
+        Err(stopped) => stopped_after(stopped, 10, timecode::TIME),
+    }
+}
+
+/// A refusal, of which one number tells as well how much was found, so many entries each.
+fn stopped_after(stopped: counted::Stopped, number: u8, entries: usize) -> (String, usize) {
+    let told = refused(stopped.refusal);
+    if stopped.refusal.number == number {
+        let told = format!("{} after {}", told, stopped.found);
+        (told, entries * stopped.found)
+    } else {
+        (told, 0)
     }
 }
 
@@ -126,6 +141,14 @@ fn operate(case: &Case, one: &[u8], two: &[u8], out: &mut [u8]) -> (String, usiz
         "decode" => {
             let [] = case.numbers([]);
             made(halfcells::decode(&words_of(one), out))
+        }
+        "read_times" => {
+            let [] = case.numbers([]);
+            times(timecode::read(one, out))
+        }
+        "write_time" => {
+            let [h, m, s, f] = case.numbers(["h", "m", "s", "f"]);
+            made(timecode::write([h, m, s, f], out).map(|()| timecode::WORD))
         }
         other => panic!("no operation {}", other),
     }

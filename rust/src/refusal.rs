@@ -5,7 +5,7 @@ use std::fmt;
 /// Why an operation refused: the number from the rules' table and the place of the fault.
 #[derive(Clone, Copy, Debug, PartialEq, Eq, Hash)]
 pub struct Refusal {
-    /// 1 to 9 or 11, as in the table of refusal numbers.
+    /// 1 to 11, as in the table of refusal numbers.
     pub number: u8,
     /// Place of the bad entry or row, or of the bad number's first byte; 0 where none is kept.
     pub place: usize,
@@ -18,8 +18,6 @@ impl Refusal {
     pub(crate) const SIZE: Refusal = Refusal::new(3, 0);
     /// The lent output cannot hold the result.
     pub(crate) const OUTPUT: Refusal = Refusal::new(4, 0);
-    /// The counted receiver found no further mark or sample.
-    pub(crate) const RAN_OUT: Refusal = Refusal::new(5, 0);
     /// No sampling count has three margins of zero or more.
     pub(crate) const NO_COUNT: Refusal = Refusal::new(9, 0);
 
@@ -35,6 +33,16 @@ impl Refusal {
     /// An entry is not of the kind taken.
     pub(crate) const fn entry(place: usize) -> Refusal {
         Refusal::new(2, place)
+    }
+
+    /// The counted receiver found no further mark or sample; the place is its current read.
+    pub(crate) const fn ran_out(place: usize) -> Refusal {
+        Refusal::new(5, place)
+    }
+
+    /// A word of time code holds no time.
+    pub(crate) const fn bad_word(place: usize) -> Refusal {
+        Refusal::new(10, place)
     }
 
     /// The bytes end before or inside a number.

@@ -164,7 +164,7 @@ fn accepted_ends_return_every_message() {
         let mut settled = lent(count);
         line::settle(&out[..count], &choices, &mut settled).unwrap();
         let mut found = lent(n + 2);
-        assert_eq!(counted::receive(n, 1, k, &settled, &mut found), Ok(()));
+        assert!(counted::receive(n, 1, k, &settled, &mut found).is_ok());
         assert!(holds(&found, &bits));
     }
     assert!(apart > 500, "{}", apart);

@@ -153,21 +153,50 @@ fn counted_receiver_follows_its_rule() {
         let (n, k) = (rng.below(12), rng.within(1, 8));
         let (level, length) = (rng.below(2) as u8, rng.below(100));
         let reads = rng.reads(length);
-        let (bits, _) = counted_model(n, level, k, &reads);
+        let (bits, samples) = counted_model(n, level, k, &reads);
+        let current = samples.last().copied().unwrap_or(0);
         let mut out = lent(n + 2);
         let answer = counted::receive(n, level, k, &reads, &mut out);
         assert!(holds(&out, &bits));
         if bits.len() == n {
-            assert_eq!(answer, Ok(()));
+            assert_eq!(answer, Ok(current));
             whole += 1;
         } else {
             let found = bits.len();
-            let refusal = refusal(5, 0);
+            let refusal = refusal(5, current);
             assert_eq!(answer, Err(Stopped { refusal, found }));
             stopped += 1;
         }
     }
     assert!(whole > 300 && stopped > 300);
+}
+
+#[test]
+fn counted_receiver_goes_on_where_it_stopped() {
+    let mut rng = Rng::new(29);
+    for _ in 0..3_000 {
+        let (n, m, k) = (rng.below(8), rng.below(8), rng.within(1, 8));
+        let (level, length) = (rng.below(2) as u8, rng.below(100));
+        let reads = rng.reads(length);
+        let (mut all, mut parts) = (lent(n + m), lent(n + m));
+        let whole = found(n + m, counted::receive(n + m, level, k, &reads, &mut all));
+        let (first, at) = found(n, counted::receive(n, level, k, &reads, &mut parts));
+        let held = if first == 0 { level } else { reads[at] };
+        let (second, more) = found(
+            m,
+            counted::receive(m, held, k, &reads[at..], &mut parts[first..first + m]),
+        );
+        assert_eq!(whole, (first + second, at + more));
+        assert_eq!(all[..whole.0], parts[..whole.0]);
+    }
+}
+
+/// How many bits were found, and the current read.
+fn found(n: usize, answer: Result<usize, Stopped>) -> (usize, usize) {
+    match answer {
+        Ok(at) => (n, at),
+        Err(stopped) => (stopped.found, stopped.refusal.place),
+    }
 }
 
 #[test]
@@ -190,7 +219,7 @@ fn accepted_settings_return_every_message() {
         let p = rng.below(w as usize) as u64;
         let reads = through_the_line(&wave, g, w, r, p, &choices);
         let mut out = lent(n + 2);
-        assert_eq!(counted::receive(n, 1, k, &reads, &mut out), Ok(()));
+        assert!(counted::receive(n, 1, k, &reads, &mut out).is_ok());
         assert!(holds(&out, &bits));
     }
 }

@@ -81,17 +81,17 @@ fn p6_warps_one_cycle() {
 #[test]
 fn p7_counts_p1() {
     let mut out = lent(4);
-    assert_eq!(counted::receive(2, 1, 3, &P1, &mut out), Ok(()));
+    assert_eq!(counted::receive(2, 1, 3, &P1, &mut out), Ok(10));
     assert!(holds(&out, &[1, 0]));
     let mut out = lent(4);
     let stopped = Stopped {
-        refusal: refusal(5, 0),
+        refusal: refusal(5, 10),
         found: 2,
     };
     assert_eq!(counted::receive(3, 1, 3, &P1, &mut out), Err(stopped));
     assert!(holds(&out, &[1, 0]));
     let mut out = lent(4);
-    assert_eq!(counted::receive(0, 1, 3, &P1, &mut out), Ok(()));
+    assert_eq!(counted::receive(0, 1, 3, &P1, &mut out), Ok(0));
     assert!(holds(&out, &[]));
 }
 
@@ -198,6 +198,9 @@ fn p11_writes_and_reads_numbers() {
     assert_eq!(capture::check(&just_fits).unwrap().reads, 1_048_576);
 }
 
+/// Where the failing run's third sample stands.
+const LAST_SAMPLE: usize = 55;
+
 /// Source 002's failing run up to its settled reads.
 fn failing_reads() -> Vec<u8> {
     let mut leads = [0];
@@ -217,7 +220,7 @@ fn failing_run_with_three_bits() {
     assert!(!judge(5, 13, 1, 10, 100, 143).unwrap().accepted);
     let mut out = lent(5);
     let reads = failing_reads();
-    assert_eq!(counted::receive(3, 1, 10, &reads, &mut out), Ok(()));
+    assert_eq!(counted::receive(3, 1, 10, &reads, &mut out), Ok(LAST_SAMPLE));
     assert!(holds(&out, &[0, 1, 1]));
 }
 
@@ -225,7 +228,7 @@ fn failing_run_with_three_bits() {
 fn failing_run_with_four_bits() {
     let mut out = lent(5);
     let stopped = Stopped {
-        refusal: refusal(5, 0),
+        refusal: refusal(5, LAST_SAMPLE),
         found: 3,
     };
     let reads = failing_reads();

@@ -242,7 +242,7 @@ fn counted_refuses(
     length: usize,
     number: u8,
     place: usize,
-    operation: impl FnOnce(&mut [u8]) -> Result<(), Stopped>,
+    operation: impl FnOnce(&mut [u8]) -> Result<usize, Stopped>,
 ) {
     refuses(length, number, place, |out| {
         operation(out).map_err(|stopped| {
@@ -280,7 +280,7 @@ fn counted_receiver_refuses_in_order() {
     counted_refuses(3, 5, 0, |out| counted::receive(1, 1, 2, &[1, 1, 1], out));
     counted_refuses(3, 5, 0, |out| counted::receive(1, 1, 2, &[1, 0, 1], out));
     let mut out = lent(3);
-    assert_eq!(counted::receive(1, 1, 2, &[1, 0, 1, 1], &mut out), Ok(()));
+    assert_eq!(counted::receive(1, 1, 2, &[1, 0, 1, 1], &mut out), Ok(3));
     assert!(holds(&out, &[1]));
 }
 

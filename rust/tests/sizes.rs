@@ -2,7 +2,7 @@
 
 mod common;
 
-use common::{feed, holds, lent, packed, refusal, Rng};
+use common::{counted_model, feed, holds, lent, packed, refusal, Rng};
 use siengulot_plain::board::{Event, Heard, Mode, Receiver};
 use siengulot_plain::capture::{self, Summary};
 use siengulot_plain::settings::{judge, judge_quiet, MAX_CAPTURE, MAX_LIST};
@@ -36,8 +36,9 @@ fn longest_message() {
     let wave = &out[..587_775];
     assert!(wave[..65_535].iter().all(|&level| level == 1));
     let mut received = lent(1_025);
+    // The last cell begins after the pad and 1,023 cells.
     let answer = counted::receive(1_024, 1, 300, wave, &mut received);
-    assert_eq!(answer, Ok(()));
+    assert_eq!(answer, Ok(65_535 + 1_023 * 510 + 300));
     assert!(holds(&received, &bits));
 }
 
@@ -164,12 +165,13 @@ fn greatest_receivers() {
 
     let mut out = lent(1_025);
     let answer = counted::receive(1_024, 1, 511, &reads, &mut out);
-    assert_eq!(answer, Ok(()));
+    let (_, samples) = counted_model(1_024, 1, 511, &reads);
+    assert_eq!(answer, Ok(samples[1_023]));
     assert!(holds(&out, &bits));
     let mut out = lent(1_024);
     let short = &reads[..reads.len() - 1];
     let stopped = counted::receive(1_024, 1, 511, short, &mut out).unwrap_err();
-    assert_eq!((stopped.refusal, stopped.found), (refusal(5, 0), 1_023));
+    assert_eq!((stopped.refusal, stopped.found), (refusal(5, samples[1_022]), 1_023));
     assert!(holds(&out, &bits[..1_023]));
 }
 

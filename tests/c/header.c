@@ -15,7 +15,7 @@ HOLDS(bits_stand_after_numbers, offsetof(siengulot_receiver, bits) == SIENGULOT_
 HOLDS(a_row_has_room_for_the_most_bits, SIENGULOT_ROW_BYTES * 8 == SIENGULOT_BITS_MOST);
 HOLDS(heard_row_is_a_row, sizeof(((siengulot_heard *)0)->row) == SIENGULOT_ROW_BYTES);
 
-enum { GUARD = 0xA5, WIDTH = 16, ROOM = 64 };
+enum { GUARD = 0xA5, WIDTH = 16, ROOM = 128 };
 
 static int faults;
 
@@ -227,14 +227,38 @@ static void counting(void)
     static const uint8_t wave[13] = {1, 1, 0, 0, 1, 1, 1, 0, 0, 0, 0, 0, 1};
 
     lend();
-    expect_answer("counted", siengulot_counted(3, 2, 1, wave, 13, out, ROOM, &place, &count), 0, 0, 2);
+    expect_answer("counted", siengulot_counted(3, 2, 1, wave, 13, out, ROOM, &place, &count), 0, 10, 2);
     expect_out("P7", "10");
     lend();
-    expect_answer("counted past the end", siengulot_counted(3, 3, 1, wave, 13, out, ROOM, &place, &count), SIENGULOT_RAN_OUT, 0, 2);
+    expect_answer("counted past the end", siengulot_counted(3, 3, 1, wave, 13, out, ROOM, &place, &count), SIENGULOT_RAN_OUT, 10, 2);
     expect_out("P7 with n 3", "10");
     lend();
     expect_answer("counted from level 257", siengulot_counted(3, 2, 257, wave, 13, out, ROOM, &place, &count), SIENGULOT_SETTING, 0, 0);
     expect_out("counted writes though it refuses", "");
+}
+
+/* The last time of a day, and a word with frames 25, which is bad. */
+static void timing(void)
+{
+    static const char word[] = "00100000" "01000000" "10010000" "10100000" "10010000" "10100000" "11000000" "01000000" "0011111111111101";
+    uint8_t bits[2 * SIENGULOT_TIME_WORD_BITS];
+
+    lend();
+    expect_answer("write a time", siengulot_time_write(23, 59, 59, 24, out, ROOM, &place, &count), 0, 0, SIENGULOT_TIME_WORD_BITS);
+    expect_out("the word of a time", word);
+    lend();
+    expect_answer("write hour 256", siengulot_time_write(256, 59, 59, 24, out, ROOM, &place, &count), SIENGULOT_SETTING, 0, 0);
+    expect_out("a time is written though it is refused", "");
+    for (size_t i = 0; i < sizeof bits; i++) {
+        bits[i] = (uint8_t)(word[i % SIENGULOT_TIME_WORD_BITS] - '0');
+    }
+    lend();
+    expect_answer("read two times", siengulot_time_read(bits, sizeof bits, out, ROOM, &place, &count), 0, 0, 2);
+    expect(memcmp(out, "\27\73\73\30\27\73\73\30", 8) == 0 && out[8] == GUARD, "two times");
+    lend();
+    bits[SIENGULOT_TIME_WORD_BITS] = 1;
+    expect_answer("read a bad word", siengulot_time_read(bits, sizeof bits, out, ROOM, &place, &count), SIENGULOT_BAD_WORD, SIENGULOT_TIME_WORD_BITS, 1);
+    expect(memcmp(out, "\27\73\73\30", 4) == 0 && out[4] == GUARD, "the time before a bad word");
 }
 
 /* The example of the rules: k 2, n 2, Q 6, and these 26 reads. */
@@ -354,6 +378,7 @@ int main(void)
     stored_plans();
     line();
     counting();
+    timing();
     captures();
     receiving();
     return faults > 0;

@@ -15,7 +15,7 @@
 
 enum { STACK = 2 * 1024 * 1024, PAGE = 65536, LIST = SIENGULOT_ENTRIES_MOST, ROWS = SIENGULOT_ROWS_MOST };
 
-static uint8_t high[LIST + 1], turns[LIST], unknown[LIST], mixed[LIST], bad[LIST], out[SIENGULOT_CAPTURE_MOST], bytes[SIENGULOT_CAPTURE_MOST];
+static uint8_t high[LIST + 1], turns[LIST], unknown[LIST], mixed[LIST], bad[LIST], time_words[LIST], bad_word[SIENGULOT_TIME_WORD_BITS], out[SIENGULOT_CAPTURE_MOST], bytes[SIENGULOT_CAPTURE_MOST];
 static uint16_t words[SIENGULOT_WORDS_MOST + 1], flat[SIENGULOT_WORDS_MOST], shorts[SIENGULOT_WORDS_MOST];
 static size_t pads[ROWS + 1], long_pads[ROWS + 1], joined[ROWS], dropped, shortest[LIST + 1], longest[LIST], summary[SIENGULOT_SUMMARY_NUMBERS], k, place, count, accepted, event, found, used;
 static int64_t margins[5];
@@ -135,6 +135,17 @@ CALL(counted_limit, 3, siengulot_counted(3, 1024, 1, high, LIST + 1, out, sizeof
 CALL(counted_room, 4, siengulot_counted(3, 1024, 1, turns, LIST, out, 9, &place, &count))
 CALL(counted_ran_out, 5, siengulot_counted(3, 1024, 1, high, LIST, out, sizeof out, &place, &count))
 
+CALL(time_read_most, 0, siengulot_time_read(high, LIST, out, sizeof out, &place, &count))
+CALL(time_read_mixed, 0, siengulot_time_read(mixed, LIST, out, sizeof out, &place, &count))
+CALL(time_read_entry, 2, siengulot_time_read(unknown, LIST, out, sizeof out, &place, &count))
+CALL(time_read_limit, 3, siengulot_time_read(high, LIST + 1, out, sizeof out, &place, &count))
+CALL(time_read_words, 0, siengulot_time_read(time_words, LIST, out, sizeof out, &place, &count))
+CALL(time_read_room, 4, siengulot_time_read(time_words, LIST, out, 9, &place, &count))
+CALL(time_read_bad, 10, siengulot_time_read(bad_word, sizeof bad_word, out, sizeof out, &place, &count))
+CALL(time_write_most, 0, siengulot_time_write(23, 59, 59, 24, out, sizeof out, &place, &count))
+CALL(time_write_setting, 1, siengulot_time_write(24, 59, 59, 24, out, sizeof out, &place, &count))
+CALL(time_write_room, 4, siengulot_time_write(23, 59, 59, 24, out, 9, &place, &count))
+
 CALL(fresh_most, 0, siengulot_fresh(511, 1024, 8191, receiver.numbers, receiver.bits))
 CALL(fresh_refused, 1, siengulot_fresh(0, 1024, 8191, receiver.numbers, receiver.bits))
 CALL(well_formed_yes, 1, siengulot_well_formed(breaking.numbers, breaking.bits))
@@ -197,6 +208,9 @@ static const struct {
     {"siengulot_settle", {settle_most, settle_mixed, settle_entry, settle_limit, settle_room}},
     {"siengulot_counted",
      {counted_most, counted_mixed, counted_setting, counted_entry, counted_limit, counted_room, counted_ran_out}},
+    {"siengulot_time_read",
+     {time_read_most, time_read_mixed, time_read_entry, time_read_limit, time_read_words, time_read_room, time_read_bad}},
+    {"siengulot_time_write", {time_write_most, time_write_setting, time_write_room}},
     {"siengulot_fresh", {fresh_refused, fresh_most}},
     {"siengulot_well_formed", {well_formed_no, well_formed_yes}},
     {"siengulot_step", {step_high, step_low, step_row, step_broken, step_setting, step_entry}},
@@ -287,6 +301,10 @@ int main(void)
         longest[i] = 65535;
         turns[i] = i % 2;
         mixed[i] = (i * i / 7 + i / 5) % 3 % 2;
+        time_words[i] = i % 80 > 65 && i % 80 != 78; /* words of the first time of a day */
+    }
+    for (size_t i = 0; i < sizeof bad_word; i++) {
+        bad_word[i] = i < 4 || time_words[i]; /* frames 15 */
     }
     for (size_t i = 0; i < 128; i++) {
         words[i] = 0x3333;

@@ -10,7 +10,7 @@ use Rattle.measure.specs.Lists.{onto}
 use Rattle.measure.specs.Levels.{Levels}
 use Rattle.measure.specs.Refusals.{given}
 use Rattle.measure.proofs.LevelLaws.{none-some}
-use Rattle.counted.specs.Counted.{counted}
+use Rattle.counted.specs.Counted.{counted, current}
 use Rattle.counted.specs.Answers.{countedBits}
 
 -- no bit is asked for
@@ -21,7 +21,7 @@ counted-nothing k level reads = refl
 -- all of them are found
 pub all-found : (k n level : ℕ) (reads output bits : List ℕ) → sampling k ≡ true → n ≤ bitsMost → level ≤ 1
     → length reads ≤ entriesMost → Levels reads → n ≤ length output → counted k n level reads ≡ bits → length bits ≡ n
-    → countedBits k n level reads output ≡ (given n, onto bits output)
+    → countedBits k n level reads output ≡ (given (n, current k n level reads), onto bits output)
 unfolding countedBits
 all-found k n level reads output bits ranged few is-level short levels room found all =
     rw (

@@ -1,6 +1,6 @@
 -- The mark seen from a place: reads at the level in force are passed one by one, and the first that differs is the
 -- mark.
-use mathlib.Core.Path.{_≡_, _∙_}
+use mathlib.Core.Path.{_≡_, refl, _∙_}
 use mathlib.Core.Logic.{_≢_}
 use mathlib.Core.Bool.{Bool, true, false}
 use mathlib.Core.List.{List, [], _∷_}
@@ -73,3 +73,23 @@ mark-late level (read ∷ reads) zero d same =
         → length (choose is (fromMark level reads) (read ∷ reads)) ≤ suc (length reads) - 0
     go true h = omega arith
     go false h = omega arith
+
+-- the reads from the mark on are those after the reads that come before it
+pub mark-dropped : (level : ℕ) (reads : List ℕ)
+    → fromMark level reads ≡ drop (length reads - length (fromMark level reads)) reads
+unfolding fromMark
+mark-dropped level [] = refl
+mark-dropped level (read ∷ reads) =
+    go (eqb read level) (mark-dropped level reads) (mark-late level reads 0 0 (λ i p q. absurd (omega arith)))
+  where
+    go : (is : Bool) → fromMark level reads ≡ drop (length reads - length (fromMark level reads)) reads
+        → length (fromMark level reads) ≤ length reads - 0
+        → choose is (fromMark level reads) (read ∷ reads)
+        ≡ drop (suc (length reads) - length (choose is (fromMark level reads) (read ∷ reads))) (read ∷ reads)
+    go true e few =
+        let size = length (fromMark level reads) in
+        let more : suc (length reads) - size ≡ suc (length reads - size) = omega arith in
+        rw more e
+    go false e few =
+        let none : suc (length reads) - suc (length reads) ≡ 0 = omega arith in
+        rw none

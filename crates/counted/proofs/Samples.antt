@@ -1,6 +1,6 @@
 -- The bits found, cell by cell: once the mark's place is known the sample is k places on, and what is found next is
 -- found from there.
-use mathlib.Core.Path.{_≡_, refl, sym, ap, _∙_}
+use mathlib.Core.Path.{_≡_, refl, sym, _∙_}
 use mathlib.Core.Logic.{_≢_}
 use mathlib.Core.Bool.{Bool, true, false}
 use mathlib.Core.List.{List, [], _∷_}
@@ -12,7 +12,7 @@ use lib.Seq.{drop-drop, getD-drop}
 use borrow.Author.Tests.{lt-ltb, le-ltb}
 use Rattle.measure.specs.Choose.{choose}
 use Rattle.measure.specs.Cells.{bitOf}
-use Rattle.counted.specs.Counted.{fromMark, counted}
+use Rattle.counted.specs.Counted.{fromMark, counted, current}
 use Rattle.counted.proofs.Marks.{mark-at, mark-none, mark-late}
 
 -- a read that is there, whatever stands for those that are not
@@ -83,3 +83,26 @@ counted-most k (suc n) level reads =
     go : (is : Bool) (bit : ℕ) (bits : List ℕ) → length bits ≤ n → length (choose is (bit ∷ bits) []) ≤ suc n
     go true bit bits most = omega arith
     go false bit bits most = omega arith
+
+-- the current read, one bit on: it is the sample, or where the search from there on leads
+pub current-marked : (k n level : ℕ) (reads : List ℕ) (j m : ℕ) → fromMark level (drop j reads) ≡ drop m reads
+    → j ≤ length reads → m + k < length reads
+    → j + current k (suc n) level (drop j reads) ≡ m + k + current k n (getD reads (m + k) 0) (drop (m + k) reads)
+unfolding current
+current-marked k n level reads j m e l h =
+    let enough : k < length (drop m reads) = rw length-drop (omega arith) in
+    let later = mark-late level (drop j reads) 0 0 (λ i p q. absurd (omega arith)) in
+    let marks = rw e at later in
+    let size-j = length-drop j reads in
+    let size-m = length-drop m reads in
+    let rest = current k n (getD reads (m + k) 0) (drop (m + k) reads) in
+    rw (e, lt-ltb k (length (drop m reads)) enough, getD-drop m reads k 0, drop-drop k m reads)
+    (omega (arith, marks, size-j, size-m))
+
+pub current-unsampled : (k n level : ℕ) (reads : List ℕ) (j m : ℕ) → fromMark level (drop j reads) ≡ drop m reads
+    → length reads ≤ m + k → current k n level (drop j reads) ≡ 0
+unfolding current
+current-unsampled k zero level reads j m e h = refl
+current-unsampled k (suc n) level reads j m e h =
+    let few : length (drop m reads) ≤ k = rw length-drop (omega arith) in
+    rw (e, le-ltb k (length (drop m reads)) few)

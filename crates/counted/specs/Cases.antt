@@ -13,20 +13,28 @@ sent = 1 ∷ 1 ∷ 0 ∷ 0 ∷ 1 ∷ 1 ∷ 1 ∷ 0 ∷ 0 ∷ 0 ∷ 0 ∷ 0 ∷ 1
 abbrev output : List ℕ
 output = 7 ∷ 8 ∷ 9 ∷ []
 
--- P7: level 1, k 3: two bits; refusal 5 after two of three; nothing
+-- P7: level 1, k 3: two bits, with read 10 the current one; refusal 5 there after two of three; nothing
 abbrev P7-2 : Case
-P7-2 = record { kind = Answer ℕ × List ℕ; gives = countedBits 3 2 1 sent output; printed = (given 2, 1 ∷ 0 ∷ 9 ∷ []) }
+P7-2 = record {
+  kind = Answer (ℕ × ℕ) × List ℕ;
+  gives = countedBits 3 2 1 sent output;
+  printed = (given (2, 10), 1 ∷ 0 ∷ 9 ∷ []);
+}
 
 abbrev P7-3 : Case
 P7-3 = record {
-  kind = Answer ℕ × List ℕ;
+  kind = Answer (ℕ × ℕ) × List ℕ;
   gives = countedBits 3 3 1 sent output;
   printed =
-      (refusedAfter 5 0 2, 1 ∷ 0 ∷ 9 ∷ []);
+      (refusedAfter 5 10 2, 1 ∷ 0 ∷ 9 ∷ []);
 }
 
 abbrev P7-0 : Case
-P7-0 = record { kind = Answer ℕ × List ℕ; gives = countedBits 3 0 1 sent output; printed = (given 0, 7 ∷ 8 ∷ 9 ∷ []) }
+P7-0 = record {
+  kind = Answer (ℕ × ℕ) × List ℕ;
+  gives = countedBits 3 0 1 sent output;
+  printed = (given (0, 0), 7 ∷ 8 ∷ 9 ∷ []);
+}
 
 -- P7
 abbrev pub cases : List Case

@@ -1,5 +1,5 @@
 -- Rules C: a mark, its sample, a bit, and on from there.
-use Prim.Native.Nat.{ℕ, zero, suc}
+use Prim.Native.Nat.{ℕ, zero, suc, _+_, _-_}
 use mathlib.Core.List.{List, [], _∷_}
 use lib.ListN.{length, drop, getD}
 use lib.Dec.{eqb, ltb}
@@ -21,3 +21,19 @@ counted k (suc n) level reads =
     let mark = getD marked 0 0 in
     let sample = getD marked k 0 in
     choose (ltb k (length marked)) (bitOf mark sample ∷ counted k n sample (drop k marked)) []
+
+-- C4, C7: The place of the current read after n bits, or after as many as there are: the last sample, and the first
+-- read where no bit is found. A mark stands as many places on as reads come before it.
+unfoldable pub current : (k n level : ℕ) (reads : List ℕ) → ℕ
+current k zero level reads = 0
+current k (suc n) level reads =
+    let marked = fromMark level reads in
+    choose (ltb k (length marked))
+    (length reads - length marked + k + current k n (getD marked k 0) (drop k marked)) 0
+
+-- C4: the level in force after n bits, or after as many as there are: the last sample's
+unfoldable pub inForce : (k n level : ℕ) (reads : List ℕ) → ℕ
+inForce k zero level reads = level
+inForce k (suc n) level reads =
+    let marked = fromMark level reads in
+    choose (ltb k (length marked)) (inForce k n (getD marked k 0) (drop k marked)) level

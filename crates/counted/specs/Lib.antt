@@ -1,3 +1,4 @@
 pub mod Counted
 pub mod Answers
+pub mod Continued
 pub mod Cases

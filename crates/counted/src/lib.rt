@@ -3,7 +3,7 @@ ghost use mathlib.Core.Path.{_≡_};
 ghost use Prim.Native.Nat.{_+_, _^_, _≤_, _<_};
 ghost use lib.ListN.{length, drop};
 ghost use Rattle.measure.specs.Cells.{bitOf};
-ghost use Rattle.counted.specs.Counted.{fromMark, counted};
+ghost use Rattle.counted.specs.Counted.{fromMark, counted, current as currentRead};
 ghost use Rattle.counted.specs.Answers.{countedInRange, countedInto, countedBits, countedSays};
 use measure::BITS_MOST;
 use measure::ENTRIES_MOST;
@@ -15,10 +15,11 @@ use measure::SAMPLING_MOST;
 
 // What the counted receiver answers.
 pub enum Received {
-    // All n bits were found and stand at the front of the lent output.
-    Bits(usize),
-    // Refusal 5: the reads ran out after so many bits, which stand at the front of the lent output.
-    RanOut(usize),
+    // All n bits were found and stand at the front of the lent output; and the place of the current read.
+    Bits(usize, usize),
+    // Refusal 5: the reads ran out after so many bits, which stand at the front of the lent output; and the place of
+    // the current read.
+    RanOut(usize, usize),
     Refused(Refusal),
 }
 
@@ -64,8 +65,8 @@ fn bit(mark: u8, sample: u8) -> u8
 // Finds n bits, or as many as there are, and writes them.
 fn count_into(k: ReadCycles, n: usize, level: u8, reads: &[u8], out: &mut [u8]) -> Received
     requires { ⌜ n ≤ length (now out) ⌝ }
-    ensures { λ x. ⌜ countedInto n (counted (k .0) n level (now (reads .entry))) (now (out .entry))
-        ≡ (countedSays x, now (out .exit)) ⌝ }
+    ensures { λ x. ⌜ countedInto n (counted (k .0) n level (now (reads .entry)))
+        (currentRead (k .0) n level (now (reads .entry))) (now (out .entry)) ≡ (countedSays x, now (out .exit)) ⌝ }
 {
     let mut held = level;
     let mut current = 0;
@@ -74,14 +75,14 @@ fn count_into(k: ReadCycles, n: usize, level: u8, reads: &[u8], out: &mut [u8]) 
         let mark = find_mark(reads, current, held);
         let left = reads.len() - mark;
         if left <= k.0 {
-            return Received::RanOut(i);
+            return Received::RanOut(i, current);
         }
         current = sample_after(mark, k);
         held = reads[current];
         out[i] = bit(reads[mark], held);
         i += 1;
     }
-    Received::Bits(n)
+    Received::Bits(n, current)
 }
 
 // The counted receiver. Gives the n bits of a message that starts with the level in force, each from its mark and the
@@ -90,6 +91,9 @@ fn count_into(k: ReadCycles, n: usize, level: u8, reads: &[u8], out: &mut [u8]) 
 // (an output shorter than n), then 5.
 // The output holds the bits found at its front, fewer than n with refusal 5, and is otherwise untouched; refusals 1 to
 // 4 leave all of it.
+// The place of the current read, which is the last sample, or 0 where no bit was found, comes with both. To go on, lend
+// the reads from there on, with that sample as the level, or the same level as before where no bit was found: n bits
+// and then m are the n + m bits that one call would find, also where n + m is above 1,024.
 pub fn count_bits(k: ReadCycles, n: usize, level: u8, reads: &[u8], out: &mut [u8]) -> Received
     ensures { λ x. ⌜ countedBits (k .0) n level (now (reads .entry)) (now (out .entry))
         ≡ (countedSays x, now (out .exit)) ⌝ }

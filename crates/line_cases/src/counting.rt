@@ -7,12 +7,14 @@ use measure::ReadCycles;
 
 fn counted(answer: Received) -> usize {
     match answer {
-        Received::Bits(found) => {
+        Received::Bits(found, at) => {
             show::count(found);
+            show::named(b" at ", at);
             found
         }
-        Received::RanOut(found) => {
-            show::named(b" refused 5 after ", found);
+        Received::RanOut(found, at) => {
+            show::named(b" refused 5 at ", at);
+            show::named(b" after ", found);
             found
         }
         Received::Refused(refusal) => {

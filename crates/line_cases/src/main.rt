@@ -1,12 +1,13 @@
-// Runs the cases of the file `stdin` through settings, sender, stored, line, counted and halfcells, and prints each
-// with what it gives; the file `stdout` has what that is to be. The crate `cases` says how a case is written. The list
-// `kept` is the second list of the case before.
+// Runs the cases of the file `stdin` through settings, sender, stored, line, counted, halfcells and timecode, and
+// prints each with what it gives; the file `stdout` has what that is to be. The crate `cases` says how a case is
+// written. The list `kept` is the second list of the case before.
 mod counting;
 mod joining;
 mod judging;
 mod numbers;
 mod passing;
 mod sending;
+mod timing;
 mod words;
 
 use cases::reading;
@@ -41,7 +42,7 @@ fn operate(case: &[u8], one: &[u8], two: &[u8], out: &mut [u8]) -> usize {
         11 => counting::count_bits(n, one, out),
         12 => words::encode(one, out),
         13 => words::decode(one, out),
-        _ => 0,
+        _ => timing::operate(case, n, one, out),
     }
 }
 

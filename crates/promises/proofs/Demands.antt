@@ -4,6 +4,10 @@ use Rattle.line.proofs.Settling.{smooth-laws-hold}
 use Rattle.line.proofs.WarpLaws.{warp-laws-hold}
 use Rattle.line.proofs.WanderReads.{equal-lengths-warp}
 use Rattle.line.proofs.WanderLine.{equal-lengths-line}
+use Rattle.counted.proofs.Continuing.{counting-continues}
+use Rattle.counted.proofs.Later.{later-reads-keep}
+use Rattle.timecode.proofs.WrittenBack.{written-reads-back}
+use Rattle.timecode.proofs.ReadBack.{read-writes-back}
 use Rattle.board.proofs.WellFormedStays.{every-step}
 use Rattle.capture.proofs.RoundTrips.{written-read-back, read-written-back}
 use Rattle.halfcells.proofs.TableHolds.{table-is-the-rule}
@@ -43,6 +47,8 @@ demands = record {
     counts = accepted-return;
     counts-bits = operation-returns;
     steady-counts = steady-return;
+    continues = counting-continues;
+    keeps = later-reads-keep;
     picks = picked-counts;
     well-formed = every-step;
     hears = every-caller;
@@ -52,6 +58,8 @@ demands = record {
     words-wave = words-are-the-wave;
     words-decode = encoded-decodes;
     words-encode = decoded-encodes;
+    times-read-back = written-reads-back;
+    times-write-back = read-writes-back;
     writes-rows = whole;
   };
   demand-3 = record {

@@ -37,6 +37,11 @@ use Rattle.line.specs.Answers.{smoothedSays, readSays}
 use Rattle.counted.specs.declared.Received.{Received}
 use Rattle.counted.specs.declared.Received.the-variants as C
 use Rattle.counted.specs.Answers.{countedSays}
+use Rattle.timecode.specs.declared.Read.{Read as Times}
+use Rattle.timecode.specs.declared.Read.the-variants as T
+use Rattle.timecode.specs.declared.Written.{Written as Word}
+use Rattle.timecode.specs.declared.Written.the-variants as Y
+use Rattle.timecode.specs.Answers.{readSays as timesSays, writtenSays as wordSays}
 use Rattle.board.specs.Rows.{Event, nothing, row, broken}
 use Rattle.board.specs.declared.Event.{Event as CodeEvent}
 use Rattle.board.specs.declared.Event.the-variants as E
@@ -116,15 +121,15 @@ refusal-back NoCount = refl
 refusal-back (NoEdge at) = refl
 
 -- an answer, back from what it says: from a result, from a refusal, and from one that says how much was found
-answer : {A X : Type 0} → (A → X) → (Refusal → X) → (ℕ → X) → Answer A → X
+answer : {A X : Type 0} → (A → X) → (Refusal → X) → (ℕ → ℕ → X) → Answer A → X
 answer result denied after (given a) = result a
 answer result denied after (refused number place) = denied (refusal number place)
-answer result denied after (refusedAfter number place count) = after count
+answer result denied after (refusedAfter number place count) = after place count
 
 -- where none says how much was found, the case of refusal 1 stands in
 plain : {A X : Type 0} → (A → X) → (Refusal → X) → Answer A → X
 unfolding answer
-plain result denied = answer result denied (λ count. denied (Setting 0))
+plain result denied = answer result denied (λ place count. denied (Setting 0))
 
 judged : Judgement → Judged
 judged j = choose (j .accepts) (J.Yes (j .margins)) (J.No (j .margins))
@@ -222,6 +227,14 @@ one-meaning = record {
   count-bits = record {
     always = λ κs a. tt;
     once = λ κs a x y left right h h′. leaves counted-said (λ l. (tt, (tt, (tt, (tt, (l, tt)))))) h h′;
+  };
+  read-times = record {
+    always = λ κs a. tt;
+    once = λ κs a x y left right h h′. leaves times-said (λ l. (tt, (l, tt))) h h′;
+  };
+  write-time = record {
+    always = λ κs a. tt;
+    once = λ κs a x y left right h h′. leaves word-said (λ l. (tt, (l, tt))) h h′;
   };
   fresh = record { always = λ κs a. tt; once = λ κs a x y left right h h′. (started h h′, refl) };
   well-formed = record { always = λ κs a. tt; once = λ κs a x y left right h h′. (h ∙ sym h′, refl) };
@@ -354,6 +367,18 @@ one-meaning = record {
         crosses (λ (p : (ℕ × ℕ × ℕ) × List ℕ). p .0 .0)
         (λ p. (tt, (tt, (tt, (tt, (p .1, (p .0 .1, (p .0 .2, tt)))))))) h h′;
   };
+  siengulot-time-read = record {
+    always = λ κs a. tt;
+    once = λ κs a x y left right h h′.
+        crosses (λ (p : (ℕ × ℕ × ℕ) × List ℕ). p .0 .0)
+        (λ p. (tt, (p .1, (p .0 .1, (p .0 .2, tt))))) h h′;
+  };
+  siengulot-time-write = record {
+    always = λ κs a. tt;
+    once = λ κs a x y left right h h′.
+        crosses (λ (p : (ℕ × ℕ × ℕ) × List ℕ). p .0 .0)
+        (λ p. (tt, (tt, (tt, (tt, (p .1, (p .0 .1, (p .0 .2, tt)))))))) h h′;
+  };
   siengulot-fresh = record {
     always = λ κs a. tt;
     once = λ κs a x y left right h h′.
@@ -459,10 +484,20 @@ one-meaning = record {
     read-back (R.Reads reads) = refl
     read-back (R.Refused f) = ap R.Refused (refusal-back f)
 
-    count-back : (x : Received) → answer C.Bits C.Refused C.RanOut (countedSays x) ≡ x
-    count-back (C.Bits n) = refl
-    count-back (C.RanOut n) = refl
+    count-back : (x : Received)
+        → answer (λ p. C.Bits (p .0) (p .1)) C.Refused (λ at n. C.RanOut n at) (countedSays x) ≡ x
+    count-back (C.Bits n at) = refl
+    count-back (C.RanOut n at) = refl
     count-back (C.Refused f) = ap C.Refused (refusal-back f)
+
+    times-back : (x : Times) → answer T.Times T.Refused T.BadWord (timesSays x) ≡ x
+    times-back (T.Times n) = refl
+    times-back (T.BadWord at n) = refl
+    times-back (T.Refused f) = ap T.Refused (refusal-back f)
+
+    word-back : (x : Word) → plain Y.Bits Y.Refused (wordSays x) ≡ x
+    word-back (Y.Bits n) = refl
+    word-back (Y.Refused f) = ap Y.Refused (refusal-back f)
 
     start-back : (x : Start) → plain (λ e. F.Fresh) F.Refused (startSays x) ≡ x
     start-back F.Fresh = refl
@@ -542,8 +577,18 @@ one-meaning = record {
     read : Said Read (Answer ℕ)
     read = record { says = readSays; back = plain (λ n. R.Reads (record { 0 = n })) R.Refused; turns = read-back }
 
-    counted-said : Said Received (Answer ℕ)
-    counted-said = record { says = countedSays; back = answer C.Bits C.Refused C.RanOut; turns = count-back }
+    counted-said : Said Received (Answer (ℕ × ℕ))
+    counted-said = record {
+      says = countedSays;
+      back = answer (λ p. C.Bits (p .0) (p .1)) C.Refused (λ at n. C.RanOut n at);
+      turns = count-back;
+    }
+
+    times-said : Said Times (Answer ℕ)
+    times-said = record { says = timesSays; back = answer T.Times T.Refused T.BadWord; turns = times-back }
+
+    word-said : Said Word (Answer ℕ)
+    word-said = record { says = wordSays; back = plain Y.Bits Y.Refused; turns = word-back }
 
     start-said : Said Start (Answer Event)
     start-said = record { says = startSays; back = plain (λ e. F.Fresh) F.Refused; turns = start-back }

@@ -1,5 +1,5 @@
 -- Each operation makes its tests in the order of the table, so each line of demand 1 is read off its definition.
-use Prim.Native.Nat.{ℕ}
+use Prim.Native.Nat.{ℕ, _*_}
 use mathlib.Core.Path.{_≡_, refl, sym}
 use mathlib.Core.Bool.{Bool, true, false, _&&_, false≢true}
 use mathlib.Core.List.{[], _∷_}
@@ -34,8 +34,11 @@ use Rattle.capture.specs.Capture.{then}
 use Rattle.capture.specs.Held.{placeAfter}
 use Rattle.capture.specs.Answers.{summary, checked, readBack, written}
 use Rattle.capture.proofs.Reaching.{reached-stands}
+use Rattle.timecode.specs.Words.{wordPlaces}
+use Rattle.timecode.specs.Times.{timeFits, wordOf}
+use Rattle.timecode.specs.Answers.{readTimes, writeTime}
 use Rattle.page.specs.Lines.{headingLine, eventLine, endLine, refusedLine, printed, output}
-use Rattle.siengulot.specs.Crossing.{crossed, crossing, flag, judgedThree, judgedFive, summed}
+use Rattle.siengulot.specs.Crossing.{crossed, crossedBits, crossing, flag, judgedThree, judgedFive, summed}
 use Rattle.siengulot.specs.Receivers.{named, numbersFit, receiverLent, brought, broughtBy, begunLent, steppedLent}
 use Rattle.siengulot.specs.Receivers.{listenedLent, wellFormedLent}
 use Rattle.siengulot.specs.Picking.{pickedOver}
@@ -61,7 +64,7 @@ picked a b g k e answer p h =
 
 pub answered : Demand1
 unfolding judgement quietJudgement sentMessage sentPlan readPlan encoded decoded smoothed warped warpedByLengths settled
-    countedBits begun wellFormed stepped listened checked readBack written output number packed
+    countedBits readTimes writeTime begun wellFormed stepped listened checked readBack written output number packed
 answered = record {
   judge = λ a b g k e. within (inRange a b g k e) 1 0 (done refl);
   judge-quiet = λ a b g k e Q p1. within (inRange a b g k e && quiet Q && leb p1 padMost) 1 0 (done refl);
@@ -110,6 +113,11 @@ answered = record {
       (past (limit entriesMost reads)
       (past (entries 1 reads)
       (past (room n output) (done refl))));
+  read-times = λ bits output.
+      past (limit entriesMost bits)
+      (past (entries 1 bits)
+      (past (room (4 * length (wordPlaces bits)) output) (done refl)));
+  write-time = λ h m s f output. within (timeFits h m s f) 1 0 (laid (wordOf h m s f) output);
   fresh = λ k n Q. within (rowSettingsFit k n Q) 1 0 (done refl);
   well-formed = λ x.
       also (unusedZero (x .found) (x .bits))
@@ -163,7 +171,9 @@ answered-from-c = record {
   warp-by-lengths = λ w1 w2 r1 r2 p cycles reads wave output.
       across (crossing crossed) (answered .warp-by-lengths w1 w2 r1 r2 p cycles reads wave output);
   settle = λ reads choices output. across (crossing crossed) (answered .settle reads choices output);
-  counted = λ k n level reads output. across (crossing crossed) (answered .count-bits k n level reads output);
+  counted = λ k n level reads output. across (crossing crossedBits) (answered .count-bits k n level reads output);
+  time-read = λ bits output. across (crossing crossed) (answered .read-times bits output);
+  time-write = λ h m s f output. across (crossing crossed) (answered .write-time h m s f output);
   fresh = λ k n Q. across begunLent (answered .fresh k n Q);
   well-formed = λ numbers bytes. both (numbersFit (named numbers)) (wellFormed (receiverLent (named numbers) bytes));
   step = λ lent read.

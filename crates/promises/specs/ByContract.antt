@@ -25,11 +25,12 @@ use Rattle.board.specs.WellFormed.{wellFormed}
 use Rattle.board.specs.Answers.{begun, startSays, stepped, steppedSays, listened, listenedSays}
 use Rattle.capture.specs.Capture.{header}
 use Rattle.capture.specs.Answers.{headSays, checked, readBack, checkedSays, written, writtenSays}
+use Rattle.timecode.specs.Answers.{readTimes, writeTime, readSays as timesSays, writtenSays as wordSays}
 use Rattle.text.specs.Decimal.{decimal, signedDecimal}
 use Rattle.text.specs.Putting.{putAt}
 use Rattle.page.specs.Lines.{headingLine, eventLine, endLine, refusedLine}
 use Rattle.page.specs.Answers.{putSays}
-use Rattle.siengulot.specs.Crossing.{crossed, crossing, judgedThree, judgedFive, summed}
+use Rattle.siengulot.specs.Crossing.{crossed, crossedBits, crossing, judgedThree, judgedFive, summed}
 use Rattle.siengulot.specs.Receivers.{begunLent, steppedLent, listenedLent, wellFormedLent}
 use Rattle.siengulot.specs.Picking.{PickCrosses}
 use Rattle.siengulot.specs.StoredPlans.{joinedOver}
@@ -42,6 +43,7 @@ use Rattle.line.proofs as Line
 use Rattle.counted.proofs as Counted
 use Rattle.board.proofs as Board
 use Rattle.capture.proofs as Capture
+use Rattle.timecode.proofs as Timecode
 use Rattle.text.proofs as Text
 use Rattle.page.proofs as Page
 use Rattle.siengulot.proofs as C
@@ -134,6 +136,13 @@ pub record ByContract : Type 0 where
   pub count-bits : Says Counted.count_bits.ended Counted.count_bits.Reads.Post
       λ κs (k, (n, (level, (reads, (out, _))))) x (_, (_, (_, (_, (out′, _))))).
       countedBits (k .0) n level (now reads) (now out) ≡ (countedSays x, out′)
+  -- timecode
+  pub read-times : Says Timecode.read_times.ended Timecode.read_times.Reads.Post
+      λ κs (bits, (out, _)) x (_, (out′, _)).
+      readTimes (now bits) (now out) ≡ (timesSays x, out′)
+  pub write-time : Says Timecode.write_time.ended Timecode.write_time.Reads.Post
+      λ κs (time, (out, _)) x (_, (out′, _)).
+      writeTime (time .hours) (time .minutes) (time .seconds) (time .frames) (now out) ≡ (wordSays x, out′)
   -- board
   pub fresh : Says Board.Receiver.fresh.ended Board.Receiver.fresh.Reads.Post
       λ κs (k, (n, (Q, _))) x _.
@@ -247,7 +256,15 @@ pub record ByContract : Type 0 where
       ≡ ((x, place′, count′), out′)
   pub siengulot-counted : Says C.siengulot_counted.ended C.siengulot_counted.Reads.Post
       λ κs (k, (n, (level, (reads, (out, (place, (count, _))))))) x (_, (_, (_, (_, (out′, (place′, (count′, _))))))).
-      crossing crossed (countedBits k n level (now reads) (now out))
+      crossing crossedBits (countedBits k n level (now reads) (now out))
+      ≡ ((x, place′, count′), out′)
+  pub siengulot-time-read : Says C.siengulot_time_read.ended C.siengulot_time_read.Reads.Post
+      λ κs (bits, (out, (place, (count, _)))) x (_, (out′, (place′, (count′, _)))).
+      crossing crossed (readTimes (now bits) (now out))
+      ≡ ((x, place′, count′), out′)
+  pub siengulot-time-write : Says C.siengulot_time_write.ended C.siengulot_time_write.Reads.Post
+      λ κs (h, (m, (s, (f, (out, (place, (count, _))))))) x (_, (_, (_, (_, (out′, (place′, (count′, _))))))).
+      crossing crossed (writeTime h m s f (now out))
       ≡ ((x, place′, count′), out′)
   pub siengulot-fresh : Says C.siengulot_fresh.ended C.siengulot_fresh.Reads.Post
       λ κs (k, (n, (Q, (numbers, (bytes, _))))) x (_, (_, (_, (numbers′, (bytes′, _))))).

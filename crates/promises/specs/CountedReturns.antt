@@ -13,7 +13,7 @@ use Rattle.measure.specs.Refusals.{given}
 use Rattle.settings.specs.Margins.{Ends, steady, accepted}
 use Rattle.sender.specs.Sending.{pad, wave}
 use Rattle.line.specs.Passes.{overTheLine}
-use Rattle.counted.specs.Counted.{counted}
+use Rattle.counted.specs.Counted.{counted, current}
 use Rattle.counted.specs.Answers.{countedBits}
 use Rattle.promises.specs.Places.{Clocks, readsBy}
 use Rattle.promises.specs.Reaching.{ClocksFit, KeepsTo}
@@ -48,12 +48,13 @@ SteadyReturn = (a b g k w r p p1 after : ℕ) (bits choices : List ℕ) → 1 �
     → found k bits (overTheLine g w r p (followed a b p1 after bits) choices) ≡ bits
 
 -- M20: What that means for the operation: where its own ranges, limits and room are kept, it answers with the number of
--- bits, and these stand at the output's front.
+-- bits and the place of the last sample, and the bits stand at the output's front.
 abbrev pub Operates : (k : ℕ) (bits reads : List ℕ) → Type 0
 Operates k bits reads =
     (output : List ℕ) → sampling k ≡ true → length bits ≤ bitsMost → length reads ≤ entriesMost
     → length bits ≤ length output
-    → countedBits k (length bits) 1 reads output ≡ (given (length bits), onto bits output)
+    → countedBits k (length bits) 1 reads output
+    ≡ (given (length bits, current k (length bits) 1 reads), onto bits output)
 
 -- M20: so it does with accepted settings
 abbrev pub OperationReturns : Type 0

@@ -32,8 +32,9 @@ use Rattle.line.specs.Settle.{settle as settling}
 use Rattle.line.specs.Settling.{SmoothLawsHold}
 use Rattle.line.specs.Sharing.{WarpLawsHold}
 use Rattle.line.specs.Answers.{smoothed, warped, warpedByLengths, settled}
-use Rattle.counted.specs.Counted.{counted}
+use Rattle.counted.specs.Counted.{counted, current}
 use Rattle.counted.specs.Answers.{countedInto, countedBits}
+use Rattle.counted.specs.Continued.{CountingContinues, LaterReadsKeep}
 use Rattle.board.specs.Rows.{Settings, nothing, row, broken, fresh as freshState, next as nextState}
 use Rattle.board.specs.Feeding.{reports as reportsOf}
 use Rattle.board.specs.Packed.{unpacked, settingsOf, stateOf, receiverOf}
@@ -48,6 +49,9 @@ use Rattle.capture.specs.Held.{begunReader, advanced, Reached, Stands}
 use Rattle.capture.specs.Answers.{summary, checked, readBack, written}
 use Rattle.capture.specs.RoundTrips.{WrittenReadsBack, ReadWritesBack}
 use Rattle.capture.specs.declared.held.CaptureReader.{CaptureReader}
+use Rattle.timecode.specs.Times.{wordOf}
+use Rattle.timecode.specs.Answers.{listedInto, readTimes, writeTime}
+use Rattle.timecode.specs.RoundTrips.{WrittenReadsBack as TimesReadBack, ReadWritesBack as TimesWriteBack}
 use Rattle.page.specs.Lines.{headingLine, eventLine, endLine, refusedLine, page, captureSettings, captureReads, output}
 use Rattle.page.specs.Walk.{Whole}
 use Rattle.promises.specs.GoodInput as Good
@@ -69,7 +73,7 @@ use Rattle.promises.specs.WholeWay.{AcceptedFits, WholeWayHolds}
 -- D1: whatever comes in is answered. Good input gets its very result, and every lent entry past it is as it was. Bad
 -- input is refused by the first test of the rules' table that it fails, with its number and its place, and all that was
 -- lent is as it was; only a start that is refused hands back a receiver of zeros, which from C is written over what was
--- lent. GoodInput lists the tests. Refusal 5 is none of them: it is a result, and leaves the bits that were found.
+-- lent. GoodInput lists the tests. Refusals 5 and 10 are none of them: they are results, and leave what was found.
 pub record Demand1 : Type 0 where
   -- the judges and the picker over the ends of two clocks; those of steady clocks are the case of equal ends
   pub judge : (a b g k : ℕ) (e : Ends) → Tells (Good.judge a b g k e) (judgedSettings a b g k e) (judgement a b g k e)
@@ -99,7 +103,14 @@ pub record Demand1 : Type 0 where
   -- refusal 5 is the counted receiver's alone: `countedInto` gives it, with the bits that there are at the front
   pub count-bits : (k n level : ℕ) (reads output : List ℕ)
       → Answered (Good.countBits k n level reads output) (countedBits k n level reads output)
-      (countedInto n (counted k n level reads) output) (λ number place. (refused number place, output))
+      (countedInto n (counted k n level reads) (current k n level reads) output)
+      (λ number place. (refused number place, output))
+  -- and refusal 10 the reader's of time code: `listedInto` gives it, with the times before the bad word at the front
+  pub read-times : (bits output : List ℕ)
+      → Answered (Good.readTimes bits output) (readTimes bits output) (listedInto bits output)
+      (λ number place. (refused number place, output))
+  pub write-time : (h m s f : ℕ) (output : List ℕ)
+      → Fills (Good.writeTime h m s f output) (wordOf h m s f) output (writeTime h m s f output)
   pub fresh : (k n Q : ℕ)
       → Answered (Good.fresh k n Q) (begun k n Q)
       (given nothing, receiverOf (record { k = k; n = n; Q = Q }) freshState)
@@ -166,6 +177,9 @@ pub record Demand2 : Type 0 where
   pub counts : AcceptedReturn
   pub counts-bits : OperationReturns
   pub steady-counts : SteadyReturn
+  -- the counted receiver goes on where it stopped, and reads that come later change nothing of what it found
+  pub continues : CountingContinues
+  pub keeps : LaterReadsKeep
   -- a picked sampling count is the best
   pub picks : PickedCounts
   -- every step gives a well formed state; and the row receiver hears what the rules hear, whatever comes in, one read a
@@ -181,6 +195,9 @@ pub record Demand2 : Type 0 where
   pub words-wave : WordsAreTheWave
   pub words-decode : EncodedDecodes
   pub words-encode : DecodedEncodes
+  -- time code both ways
+  pub times-read-back : TimesReadBack
+  pub times-write-back : TimesWriteBack
   -- the rows program, line after line, writes the whole of its output
   pub writes-rows : Whole
 
@@ -203,7 +220,7 @@ pub record Demand3Met : Type 0 where
   pub every-stored-plan : EveryStoredPlan
   pub stored-plans : StoredPlansHold
 
--- D1, D2, D3: what the contracts say, and the three demands, the first also of the twenty-three entry points for C
+-- D1, D2, D3: what the contracts say, and the three demands, the first also of the twenty-five entry points for C
 pub record Demands : Type 0 where
   pub contracts : ByContract
   pub one-meaning : OneMeaning

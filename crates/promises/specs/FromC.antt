@@ -1,4 +1,4 @@
--- Demand 1 of the twenty-three entry points for C. The tests are those of the operations. What crosses is a number, 0
+-- Demand 1 of the twenty-five entry points for C. The tests are those of the operations. What crosses is a number, 0
 -- for no refusal, and what is left behind each pointer.
 use Prim.Native.Nat.{ℕ}
 use mathlib.Core.List.{List, [], _∷_}
@@ -19,7 +19,7 @@ use Rattle.line.specs.Warp.{warp as warping}
 use Rattle.line.specs.Wander.{warpByLengths as warpingByLengths}
 use Rattle.line.specs.Settle.{settle as settling}
 use Rattle.line.specs.Answers.{smoothed, warped, warpedByLengths, settled}
-use Rattle.counted.specs.Counted.{counted as countedOf}
+use Rattle.counted.specs.Counted.{counted as countedOf, current}
 use Rattle.counted.specs.Answers.{countedInto, countedBits}
 use Rattle.board.specs.Rows.{next}
 use Rattle.board.specs.Feeding.{reports}
@@ -28,7 +28,9 @@ use Rattle.board.specs.WellFormed.{wellFormed}
 use Rattle.board.specs.Answers.{reached, begun, levelsOf, toEvent}
 use Rattle.capture.specs.Writing.{captureOf}
 use Rattle.capture.specs.Answers.{checked, readBack, written}
-use Rattle.siengulot.specs.Crossing.{crossed, crossing, flag, judgedThree, judgedFive, summed}
+use Rattle.timecode.specs.Times.{wordOf}
+use Rattle.timecode.specs.Answers.{listedInto, readTimes, writeTime}
+use Rattle.siengulot.specs.Crossing.{crossed, crossedBits, crossing, flag, judgedThree, judgedFive, summed}
 use Rattle.siengulot.specs.Receivers.{Lent, Reply, named, numbersFit, receiverLent, brought, broughtBy, begunLent}
 use Rattle.siengulot.specs.Receivers.{steppedLent, listenedLent, wellFormedLent}
 use Rattle.siengulot.specs.Picking.{PickCrosses}
@@ -84,11 +86,17 @@ pub record Demand1FromC : Type 0 where
   pub settle : (reads choices output : List ℕ)
       → FillsFromC (Good.settle reads choices output) (settling reads choices) output
       (crossing crossed (settled reads choices output))
-  -- with refusal 5 the count is of the bits found, which stand at the output's front
+  -- with refusal 5 the count is of the bits found, which stand at the output's front; the place is the current read
   pub counted : (k n level : ℕ) (reads output : List ℕ)
-      → Answered (Good.countBits k n level reads output) (crossing crossed (countedBits k n level reads output))
-      (crossing crossed (countedInto n (countedOf k n level reads) output))
+      → Answered (Good.countBits k n level reads output) (crossing crossedBits (countedBits k n level reads output))
+      (crossing crossedBits (countedInto n (countedOf k n level reads) (current k n level reads) output))
       (λ number place. ((number, place, 0), output))
+  -- with refusal 10 the count is of the times before the bad word, which stand at the output's front
+  pub time-read : (bits output : List ℕ)
+      → Answered (Good.readTimes bits output) (crossing crossed (readTimes bits output))
+      (crossing crossed (listedInto bits output)) (λ number place. ((number, place, 0), output))
+  pub time-write : (h m s f : ℕ) (output : List ℕ)
+      → FillsFromC (Good.writeTime h m s f output) (wordOf h m s f) output (crossing crossed (writeTime h m s f output))
   -- the receiver's eight numbers (k, n, Q, mode, run, left, level, found) and its bytes; a refused start is all zeros
   pub fresh : (k n Q : ℕ)
       → Answered (Good.fresh k n Q) (begunLent (begun k n Q))

@@ -1,6 +1,6 @@
 -- What good input is, operation by operation: the tests of the rules' table of refusals that it has to pass, in the
 -- order in which they are made.
-use Prim.Native.Nat.{ℕ, zero, suc, _+_}
+use Prim.Native.Nat.{ℕ, zero, suc, _+_, _*_}
 use mathlib.Core.Bool.{Bool, true, false, _&&_, not}
 use mathlib.Core.List.{List, [], _∷_, _++_}
 use lib.Dec.{eqb, leb}
@@ -30,6 +30,8 @@ use Rattle.board.specs.declared.Receiver.{Receiver}
 use Rattle.capture.specs.Numbers.{Group, value, cut, long, group, further}
 use Rattle.capture.specs.Capture.{Heading, Capture, totalMost, readsOfRuns}
 use Rattle.capture.specs.Writing.{captureOf}
+use Rattle.timecode.specs.Words.{wordPlaces}
+use Rattle.timecode.specs.Times.{timeFits, wordOf}
 use Rattle.siengulot.specs.Receivers.{Lent, named, numbersFit, receiverLent}
 use Rattle.promises.specs.Promised.{Test, setting, limit, entries, entry, room}
 
@@ -137,6 +139,15 @@ countBits k n level reads output =
     ∷ entries 1 reads
     ∷ room n output
     ∷ []
+
+-- R77: reading time code asks room for every word that is found, bad ones too
+abbrev pub readTimes : (bits output : List ℕ) → List Test
+readTimes bits output =
+    limit entriesMost bits ∷ entries 1 bits ∷ room (4 * length (wordPlaces bits)) output ∷ []
+
+-- R78: and writing it a time in range
+abbrev pub writeTime : (h m s f : ℕ) (output : List ℕ) → List Test
+writeTime h m s f output = setting (timeFits h m s f) ∷ room (length (wordOf h m s f)) output ∷ []
 
 -- R48: the row receiver; a list is refused for a read that is no level only where no event comes before it
 abbrev pub fresh : (k n Q : ℕ) → List Test

@@ -22,6 +22,7 @@ use Rattle.line.proofs as Line
 use Rattle.counted.proofs as Counted
 use Rattle.board.proofs as Board
 use Rattle.capture.proofs as Capture
+use Rattle.timecode.proofs as Timecode
 use Rattle.text.proofs as Text
 use Rattle.page.proofs as Page
 use Rattle.siengulot.proofs as C
@@ -79,6 +80,9 @@ pub record OneMeaning : Type 0 where
   pub settle : One Line.settle.ended Line.settle.Reads.Asked Line.settle.Reads.Post
   -- counted
   pub count-bits : One Counted.count_bits.ended Counted.count_bits.Reads.Asked Counted.count_bits.Reads.Post
+  -- timecode
+  pub read-times : One Timecode.read_times.ended Timecode.read_times.Reads.Asked Timecode.read_times.Reads.Post
+  pub write-time : One Timecode.write_time.ended Timecode.write_time.Reads.Asked Timecode.write_time.Reads.Post
   -- board
   pub fresh : One Board.Receiver.fresh.ended Board.Receiver.fresh.Reads.Asked Board.Receiver.fresh.Reads.Post
   pub well-formed :
@@ -125,6 +129,10 @@ pub record OneMeaning : Type 0 where
       C.siengulot_warp_by_lengths.Reads.Post
   pub siengulot-settle : One C.siengulot_settle.ended C.siengulot_settle.Reads.Asked C.siengulot_settle.Reads.Post
   pub siengulot-counted : One C.siengulot_counted.ended C.siengulot_counted.Reads.Asked C.siengulot_counted.Reads.Post
+  pub siengulot-time-read :
+      One C.siengulot_time_read.ended C.siengulot_time_read.Reads.Asked C.siengulot_time_read.Reads.Post
+  pub siengulot-time-write :
+      One C.siengulot_time_write.ended C.siengulot_time_write.Reads.Asked C.siengulot_time_write.Reads.Post
   pub siengulot-fresh : One C.siengulot_fresh.ended C.siengulot_fresh.Reads.Asked C.siengulot_fresh.Reads.Post
   pub siengulot-well-formed :
       One C.siengulot_well_formed.ended C.siengulot_well_formed.Reads.Asked C.siengulot_well_formed.Reads.Post

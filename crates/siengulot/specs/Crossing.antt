@@ -9,11 +9,18 @@ use Rattle.settings.specs.Answers.{Judgement, QuietJudgement}
 use Rattle.capture.specs.declared.Summary.{Summary}
 
 -- H3: What crosses of an answer: the refusal's number (0: none), its place, and a count: of a result its length, with
--- refusal 5 the bits found, and with any other refusal 0.
+-- refusal 10 the times listed, and with any other refusal 0.
 abbrev pub crossed : Answer ℕ → ℕ × ℕ × ℕ
 crossed (given count) = (0, 0, count)
 crossed (refused number place) = (number, place, 0)
 crossed (refusedAfter number place count) = (number, place, count)
+
+-- H3, H14: Of the counted receiver's: the place is that of the current read with a result and with refusal 5, with
+-- which the count is of the bits found.
+abbrev pub crossedBits : Answer (ℕ × ℕ) → ℕ × ℕ × ℕ
+crossedBits (given (count, place)) = (0, place, count)
+crossedBits (refused number place) = (number, place, 0)
+crossedBits (refusedAfter number place count) = (number, place, count)
 
 -- H3: what crosses of an answer, and beside it what the operation leaves in the lent output
 abbrev pub crossing : {A X : Type 0} → (Answer A → X) → Answer A × List ℕ → X × List ℕ

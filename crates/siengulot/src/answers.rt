@@ -5,7 +5,7 @@ ghost use Rattle.sender.specs.Answers.{sentSays};
 ghost use Rattle.line.specs.Answers.{smoothedSays, readSays};
 ghost use Rattle.counted.specs.Answers.{countedSays};
 ghost use Rattle.capture.specs.Answers.{writtenSays};
-ghost use Rattle.siengulot.specs.Crossing.{crossed, flag as flagOf};
+ghost use Rattle.siengulot.specs.Crossing.{crossed, crossedBits, flag as flagOf};
 use capture::Written;
 use counted::Received;
 use line::Read;
@@ -71,15 +71,20 @@ pub fn of_read(answer: Read, place: &mut usize, count: &mut usize) -> usize
     }
 }
 
-// What the counted receiver answers: also after refusal 5 the count is of the bits found.
+// What the counted receiver answers: also after refusal 5 the count is of the bits found, and with both the place is
+// that of the current read.
 pub fn of_counted(answer: Received, place: &mut usize, count: &mut usize) -> usize
-    ensures { λ x. ⌜ crossed (countedSays answer) ≡ (x, now (place .exit), now (count .exit)) ⌝ }
+    ensures { λ x. ⌜ crossedBits (countedSays answer) ≡ (x, now (place .exit), now (count .exit)) ⌝ }
 {
     match answer {
-        Received::Bits(found) => gives(found, place, count),
-        Received::RanOut(found) => {
-            *place = 0;
+        Received::Bits(found, at) => {
+            *place = at;
             *count = found;
+            0
+        }
+        Received::RanOut(bits, at) => {
+            *place = at;
+            *count = bits;
             RAN_OUT
         }
         Received::Refused(refusal) => refuses(refusal, place, count),

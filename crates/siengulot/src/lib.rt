@@ -2,6 +2,7 @@
 // 0 for none; each says what it leaves in what it was lent. `include/siengulot.h` declares them.
 mod answers;
 mod captures;
+mod clock;
 mod judging;
 mod link;
 mod picking;
@@ -13,6 +14,8 @@ mod words;
 pub use captures::siengulot_capture_check;
 pub use captures::siengulot_capture_read;
 pub use captures::siengulot_capture_write;
+pub use clock::siengulot_time_read;
+pub use clock::siengulot_time_write;
 pub use judging::siengulot_judge;
 pub use judging::siengulot_judge_ends;
 pub use judging::siengulot_judge_quiet;

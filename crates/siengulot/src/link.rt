@@ -4,7 +4,7 @@ ghost use mathlib.Core.Path.{_≡_};
 ghost use Rattle.sender.specs.Answers.{sentMessage, sentPlan};
 ghost use Rattle.line.specs.Answers.{smoothed, warped, warpedByLengths, settled};
 ghost use Rattle.counted.specs.Answers.{countedBits};
-ghost use Rattle.siengulot.specs.Crossing.{crossed, crossing};
+ghost use Rattle.siengulot.specs.Crossing.{crossed, crossing, crossedBits};
 use crate::answers::of_counted;
 use crate::answers::of_read;
 use crate::answers::of_sent;
@@ -163,7 +163,8 @@ pub extern "C" fn siengulot_settle(
 // The counted receiver. Gives the n bits of a message that starts with the level in force.
 // Refuses with 1 (k, n or level), 3 (more than 1,048,576 reads), 2 (the place of the first read that is no level), 4
 // (an output shorter than n): the output is left, and `count` is 0. Then with 5, where the reads ran out: `count` is
-// the number of bits found, which stand at the output's front.
+// the number of bits found, which stand at the output's front. With these, and with n bits, `place` is the current
+// read.
 #[no_mangle]
 pub extern "C" fn siengulot_counted(
     k: usize,
@@ -174,7 +175,7 @@ pub extern "C" fn siengulot_counted(
     place: &mut usize,
     count: &mut usize,
 ) -> usize
-    ensures { λ x. ⌜ crossing crossed (countedBits k n level (now (reads .entry)) (now (out .entry)))
+    ensures { λ x. ⌜ crossing crossedBits (countedBits k n level (now (reads .entry)) (now (out .entry)))
         ≡ ((x, now (place .exit), now (count .exit)), now (out .exit)) ⌝ }
 {
     if LEVEL_MOST < level {

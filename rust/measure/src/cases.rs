@@ -7,7 +7,7 @@ use crate::numbers::{at, numbers_of, NUMBERS};
 use crate::picking;
 use crate::words;
 use siengulot_plain::board::{Event, Listener, Receiver, Report};
-use siengulot_plain::{capture, counted, line, sender, settings, stored};
+use siengulot_plain::{capture, counted, line, sender, settings, stored, timecode};
 
 /// What an operation leaves: lent bytes, lent pads, and the numbers it tells. Both sides have to leave the same.
 #[derive(PartialEq)]
@@ -214,6 +214,13 @@ pub fn all() -> Vec<Case> {
             [100, 1_000],
             |size| count(383, size, inputs::message(255, 255, size)),
         ),
+        case("time code read, words", "bit", "1.0", SIZES, |size| {
+            time_read(inputs::words(size))
+        }),
+        case("time code read, noise", "bit", "1.0", SIZES, |size| {
+            time_read(inputs::noise(size))
+        }),
+        case("time code written", "call", "1.2", [1_000, 10_000], time_write),
         case("fresh", "call", "1.5", SIZES, fresh),
         case("well formed", "call", "1.5", SIZES, well_formed),
         case("step, rows", "read", "1.5", SIZES, step),
@@ -624,7 +631,73 @@ fn count(k: usize, n: usize, reads: Vec<u8>) -> Work {
             lent.told = [refused as i64, 0, place as i64, 0];
         },
         move |lent| {
-            counted::receive(n, 1, k, &plain, &mut lent.out).expect("the bits are there");
+            let current = counted::receive(n, 1, k, &plain, &mut lent.out);
+            lent.told = [0, 0, current.expect("the bits are there") as i64, 0];
+        },
+    )
+}
+
+fn time_read(bits: Vec<u8>) -> Work {
+    let plain = bits.clone();
+    let room = timecode::TIME * (bits.len() / timecode::WORD);
+    two(
+        bits.len(),
+        room,
+        move |lent| {
+            let (mut place, mut count) = (0, 0);
+            let refused = unsafe {
+                siengulot_time_read(
+                    bits.as_ptr(),
+                    bits.len(),
+                    lent.out.as_mut_ptr(),
+                    lent.out.len(),
+                    &mut place,
+                    &mut count,
+                )
+            };
+            lent.told = [refused as i64, count as i64, place as i64, 0];
+        },
+        move |lent| {
+            let count = timecode::read(&plain, &mut lent.out);
+            lent.told = [0, count.expect("no word is bad") as i64, 0, 0];
+        },
+    )
+}
+
+/// The time of a call, over all times of a day.
+fn time_of(i: usize) -> [usize; timecode::TIME] {
+    [i / 90_000 % 24, i / 1_500 % 60, i / 25 % 60, i % 25]
+}
+
+fn time_write(calls: usize) -> Work {
+    two(
+        calls,
+        timecode::WORD,
+        move |lent| {
+            for i in 0..calls {
+                let [hours, minutes, seconds, frames] = time_of(7 * i);
+                let (mut place, mut count) = (0, 0);
+                let refused = unsafe {
+                    siengulot_time_write(
+                        hours,
+                        minutes,
+                        seconds,
+                        frames,
+                        lent.out.as_mut_ptr(),
+                        lent.out.len(),
+                        &mut place,
+                        &mut count,
+                    )
+                };
+                assert_eq!(refused, 0);
+                lent.told[0] += i64::from(lent.out[i % timecode::WORD]);
+            }
+        },
+        move |lent| {
+            for i in 0..calls {
+                timecode::write(time_of(7 * i), &mut lent.out).expect("a time in range");
+                lent.told[0] += i64::from(lent.out[i % timecode::WORD]);
+            }
         },
     )
 }

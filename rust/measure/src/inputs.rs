@@ -1,6 +1,6 @@
 //! What the operations are given. Everything is made from fixed seeds, so that a run can be repeated.
 
-use siengulot_plain::{line, sender};
+use siengulot_plain::{line, sender, timecode};
 
 /// Cells and rows as in the worked cases: a 5, b 13, k 10, n 80, Q 21, and a lead of 23 cycles.
 pub const A: usize = 5;
@@ -20,6 +20,27 @@ pub fn random(length: usize, seed: u64) -> Vec<u8> {
         (state >> 40) as u8 & 1
     };
     (0..length).map(|_| next()).collect()
+}
+
+/// Random bits with no mark of time code, which has twelve 1s one after another.
+pub fn noise(length: usize) -> Vec<u8> {
+    let mut bits = random(length, 7);
+    bits.iter_mut().step_by(12).for_each(|bit| *bit = 0);
+    bits
+}
+
+/// Words of time code one after another, a frame each, with user bits set, cut off at `length`.
+pub fn words(length: usize) -> Vec<u8> {
+    let mut bits = vec![0; (length + timecode::WORD - 1) / timecode::WORD * timecode::WORD];
+    for (i, word) in bits.chunks_exact_mut(timecode::WORD).enumerate() {
+        let time = [i / 90_000 % 24, i / 1_500 % 60, i / 25 % 60, i % 25];
+        timecode::write(time, word).expect("a time in range");
+        for group in 0..8 {
+            word[8 * group + 4] = (i >> group & 1) as u8;
+        }
+    }
+    bits.truncate(length);
+    bits
 }
 
 /// The wave of as many rows as it takes, cut off at `cycles`.

@@ -6,9 +6,6 @@ use Rattle.siengulot.proofs.answers.of_counted.Tie as tie
 enum-known-answer : tie.Need-enum-known-answer
 enum-known-answer c = search needs
 
-gives-requires : tie.Need-gives-requires
-gives-requires c κs = search needs
-
 enum-known-answer-2 : tie.Need-enum-known-answer-2
 enum-known-answer-2 c = search needs
 
@@ -19,7 +16,7 @@ refuses-requires : tie.Need-refuses-requires
 refuses-requires c κs = search needs
 
 returns : tie.Need-returns
-returns c = rw (c .before .before .before .before .answer .given .1) (c .gives .ensures)
+returns c = search needs
 
 returns-2 : tie.Need-returns-2
 returns-2 c = search needs
@@ -32,7 +29,6 @@ of-counted-spec =
     tie.close
     (tie.spec
     enum-known-answer
-    gives-requires
     enum-known-answer-2
     enum-known-answer-3
     refuses-requires

@@ -1,7 +1,7 @@
 -- `siengulot_counted` meets its contract: a level that is no byte is refused before the operation is asked, and
 -- otherwise the operation's answer crosses.
 use borrow.Author.Needs.{needs}
-use Rattle.siengulot.specs.Crossing.{crossed}
+use Rattle.siengulot.specs.Crossing.{crossedBits}
 use Rattle.siengulot.proofs.Across.{across}
 use Rattle.siengulot.proofs.Levels.{no-level}
 use Rattle.siengulot.proofs.link.siengulot_counted.Statement.{statement}
@@ -11,7 +11,7 @@ refuses-requires : tie.Need-refuses-requires
 refuses-requires c κs = search needs
 
 returns : tie.Need-returns
-returns c = across crossed (no-level _ _ _ _ _ (c .before .before .before .if1 .taken)) (c .refuses .ensures)
+returns c = across crossedBits (no-level _ _ _ _ _ (c .before .before .before .if1 .taken)) (c .refuses .ensures)
 
 cast-count-bits : tie.Need-cast-count-bits
 cast-count-bits c = search needs
@@ -26,7 +26,8 @@ same-length : tie.Need-same-length
 same-length c = search needs
 
 returns-2 : tie.Need-returns-2
-returns-2 c = across crossed (c .before .before .before .before .before .count-bits .ensures) (c .of-counted .ensures)
+returns-2 c =
+    across crossedBits (c .before .before .before .before .before .count-bits .ensures) (c .of-counted .ensures)
 
 pub siengulot-counted-spec : {M : Type 1} → statement M
 siengulot-counted-spec =
