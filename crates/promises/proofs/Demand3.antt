@@ -55,7 +55,7 @@ module _ (x : Scene) (high : ℕ) (fits : Clocked x high) where
   abbrev asked : Asked x
   asked = fits .asked
 
-  ok : Margins (x .a) (x .b) (x .g) (x .k) (x .ends .w1) (x .ends .w2) (x .ends .r1) (x .ends .r2)
+  pub ok : Margins (x .a) (x .b) (x .g) (x .k) (x .ends .w1) (x .ends .w2) (x .ends .r1) (x .ends .r2)
   ok = record {
     m1 = omega (arith, leb-true, rw m1-met at (asked .m1));
     m2 = omega (arith, leb-true, rw m2-met at (asked .m2));

@@ -1,4 +1,5 @@
 -- The demands are put together from what the other files prove.
+use mathlib.Core.Path.{sym, _∙_}
 use Rattle.stored.proofs.ShownHolds.{same-wave}
 use Rattle.line.proofs.Settling.{smooth-laws-hold}
 use Rattle.line.proofs.WarpLaws.{warp-laws-hold}
@@ -13,6 +14,7 @@ use Rattle.capture.proofs.RoundTrips.{written-read-back, read-written-back}
 use Rattle.halfcells.proofs.TableHolds.{table-is-the-rule}
 use Rattle.halfcells.proofs.Shown.{words-are-the-wave}
 use Rattle.halfcells.proofs.RoundTrips.{encoded-decodes, decoded-encodes}
+use Rattle.board.specs.Rows.{fresh}
 use Rattle.page.proofs.WholeOutput.{whole}
 use Rattle.promises.specs.Places.{scene}
 use Rattle.promises.specs.Demand3.{receiverSettings}
@@ -24,8 +26,10 @@ use Rattle.promises.proofs.Picked.{picked-counts}
 use Rattle.promises.proofs.Demand3.{user-wording}
 use Rattle.promises.proofs.Scenes.{running, clocked, link-demand, demand-3, grounds, steady-clocks}
 use Rattle.promises.proofs.StoredPlans.{every-stored-plan, stored-plans-hold}
+use Rattle.promises.proofs.Hearing.{heeded-reports}
 use Rattle.promises.proofs.HearingFromC.{every-caller}
-use Rattle.promises.proofs.AnyHearing.{any-hearing}
+use Rattle.promises.proofs.AnyHearing.{read-binary, any-hearing}
+use Rattle.promises.proofs.Ready.{ready-by, ready-holds}
 use Rattle.promises.proofs.ByContract.{by-contract}
 use Rattle.promises.proofs.OneMeaning.{one-meaning}
 use Rattle.promises.proofs.SingleCalls.{answered, answered-from-c}
@@ -72,6 +76,12 @@ demands = record {
         (any-hearing (running x) (x .highAfter) (clocked x fits) (hearing caller settings)
         (every-caller settings range caller));
     steady-clocks = steady-clocks;
+    ready = ready-holds;
+    ready-for-every-caller = λ x fits range caller.
+        let settings = receiverSettings (scene x) in
+        ready-by x fits (hearing caller settings)
+        (sym (every-caller settings range caller (scene x .reads)
+        ∙ heeded-reports settings fresh 0 (scene x .reads) (read-binary (running x) (x .highAfter) (clocked x fits))));
     judged = accepted-fits;
     whole-way = whole-way;
     every-stored-plan = every-stored-plan;

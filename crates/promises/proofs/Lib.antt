@@ -8,6 +8,7 @@ pub mod Deliveries
 pub mod Demand3
 pub mod Reaches
 pub mod Scenes
+pub mod Ready
 pub mod StoredPlans
 pub mod Hearing
 pub mod HearingFromC

@@ -310,10 +310,10 @@ module _ (x : Link) (fits : Fitting x) where
   long-reads : 0 < endsOf (x .clocks) .r2
   long-reads = omega (arith, reads-take x fits, clocked .reader .low 0, clocked .reader .high 0)
 
-  on : (i : ℕ) → i ≤ cyclesOf (running x) (x .rows) → runStarts (x .clocks) i ≡ startsBy (x .clocks) i
+  pub on : (i : ℕ) → i ≤ cyclesOf (running x) (x .rows) → runStarts (x .clocks) i ≡ startsBy (x .clocks) i
   on i within = on-time (x .clocks) (lineWave x) (fits .clocks) i (omega (arith, in-wave x))
 
-  along : (j : ℕ) → j ≤ length (scene x .reads) → runBegins (x .clocks) j ≡ beginsBy (x .clocks) j
+  pub along : (j : ℕ) → j ≤ length (scene x .reads) → runBegins (x .clocks) j ≡ beginsBy (x .clocks) j
   along = in-time x (x .clocks)
 
   pub link-demand : (hear : List ℕ → List Report) → Demand3 (running x) hear → Demand3 (scene x) hear

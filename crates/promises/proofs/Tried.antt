@@ -32,12 +32,13 @@ use Rattle.promises.specs.StoredPlans.{itself, storedFrom, storedLead, S
 use Rattle.promises.specs.Promised.{good}
 use Rattle.promises.specs.WholeWay.{YesForEach, waveOf, warpedOf, Within}
 use Rattle.promises.specs.Tried.{first, second, p10, p10Read, p10Lent, false-quiet, Tried, stored}
-use Rattle.promises.specs.Tried.{TriedStored, slowFirst, slowLink, slow, slowReports, TriedSlow}
+use Rattle.promises.specs.Tried.{TriedStored, slowFirst, slowLink, slow, slowReports, TriedSlow, TriedReady}
 use Rattle.promises.specs.Tried.{wanderFirst, wanderSecond, wanderCycleLengths, wanderReadLengths, wanderLink}
 use Rattle.promises.specs.Tried.{wander, wanderReports, wanderDamaged}
 use Rattle.promises.specs.Tried.{at, TriedWandering}
 use Rattle.promises.proofs.Demand3.{user-wording}
 use Rattle.promises.proofs.Scenes.{demand-3, grounds}
+use Rattle.promises.proofs.Ready.{ready-holds}
 use Rattle.promises.proofs.Reaches.{wandering, starts-rise, begins-rise}
 use Rattle.promises.proofs.WholeWay.{accepted-fits, whole-way}
 use Rattle.promises.proofs.StoredPlans.{stored-plans-hold}
@@ -182,6 +183,16 @@ tried-slow = record {
   judged-quick = quick-judged;
   quick = refl;
   lost = refl;
+}
+
+pub tried-ready : TriedReady
+unfolding overTheLine settle warp warpFrom look dropped smoothFrom planWave wave cells next reportsBy
+tried-ready = record {
+  ready = ready-holds (slowLink 2 18) slow-fits;
+  delivered = refl;
+  ends = (refl, refl);
+  earliest = refl;
+  latest = refl;
 }
 
 wander-judged : YesForEach wander (20 ∷ 20 ∷ [])

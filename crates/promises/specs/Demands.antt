@@ -66,6 +66,7 @@ use Rattle.promises.specs.Picked.{PickedCounts}
 use Rattle.promises.specs.Places.{Link, scene}
 use Rattle.promises.specs.Demand3.{Fitting, receiverSettings, Demand3, UserWording, Demand3Holds, GroundsHold}
 use Rattle.promises.specs.Demand3.{SteadyClocksAreACase}
+use Rattle.promises.specs.Ready.{Ready, ReadyHolds}
 use Rattle.promises.specs.StoredPlans.{EveryStoredPlan, StoredPlansHold}
 use Rattle.promises.specs.Hearing.{Caller, hearing, Hears}
 use Rattle.promises.specs.WholeWay.{AcceptedFits, WholeWayHolds}
@@ -212,6 +213,10 @@ pub record Demand3Met : Type 0 where
   pub of-every-caller : (x : Link) → Fitting x → rowSettingsFit (x .k) (x .n) (x .Q) ≡ true → (caller : Caller)
       → Demand3 (scene x) (hearing caller (receiverSettings (scene x)))
   pub steady-clocks : SteadyClocksAreACase
+  -- with nothing replaced, the read that delivers a row lies within the code subcell of the row's last cell
+  pub ready : ReadyHolds
+  pub ready-for-every-caller : (x : Link) → Fitting x → rowSettingsFit (x .k) (x .n) (x .Q) ≡ true → (caller : Caller)
+      → Ready (scene x) (hearing caller (receiverSettings (scene x)))
   -- a yes of the quiet judge for each row's lead is what is asked of the settings; and from the lent lists of a plan
   -- to the delivered rows, call after call
   pub judged : AcceptedFits

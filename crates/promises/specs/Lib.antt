@@ -2,6 +2,7 @@ pub mod Places
 pub mod Reaching
 pub mod Replaced
 pub mod Demand3
+pub mod Ready
 pub mod StoredPlans
 pub mod Hearing
 pub mod Promised

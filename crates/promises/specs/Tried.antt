@@ -1,7 +1,7 @@
 -- Demand 3 tried at P10's settings: two rows, and reads between their last samples replaced by a false quiet with a
--- false mark after it; tried of the same rows stored with a trail pad; tried on a line with a settling count of 2; and
--- tried with clocks that wander.
-use Prim.Native.Nat.{ℕ, zero, suc}
+-- false mark after it; tried of the same rows stored with a trail pad; tried on a line with a settling count of 2,
+-- where rows also come as soon and as late as they can; and tried with clocks that wander.
+use Prim.Native.Nat.{ℕ, zero, suc, _+_, _-_}
 use mathlib.Core.Path.{_≡_}
 use mathlib.Core.List.{List, [], _∷_, _++_}
 use lib.ListN.{getD, replicate}
@@ -12,6 +12,7 @@ use Rattle.board.specs.Feeding.{Report, reports as reportsOf}
 use Rattle.promises.specs.Places.{Scene, steadily, byLengths, Link, scene, cyclesOf, heard, deliveries}
 use Rattle.promises.specs.Replaced.{WhollyAfter, damaged, below, above}
 use Rattle.promises.specs.Demand3.{Fitting, Demand3, receiverSettings}
+use Rattle.promises.specs.Ready.{Ready}
 use Rattle.promises.specs.WholeWay.{YesForEach, Way, linkOf, Within, WholeWay}
 use Rattle.promises.specs.StoredPlans.{StoredLink, itself, storedFrom, storedLead, StoredFits}
 
@@ -176,6 +177,16 @@ pub record TriedSlow : Type 0 where
   pub judged-quick : YesForEach (slow 1 17) (18 ∷ 17 ∷ [])
   pub quick : slowReports (slow 1 17 .reads) ≡ at 35 (row (1 ∷ 0 ∷ [])) ∷ at 76 (row (0 ∷ 1 ∷ [])) ∷ []
   pub lost : slowReports (slow 2 17 .reads) ≡ at 35 (row (1 ∷ 0 ∷ [])) ∷ []
+
+-- D26: Both bounds are reached on this line, whose margins are all 0: the first row ends before cycle 40, and the read
+-- that delivers it starts one time unit after its last code has settled; the second ends before cycle 80, and its read
+-- ends one time unit before its last cell does.
+pub record TriedReady : Type 0 where
+  pub ready : Ready (slow 2 18) slowReports
+  pub delivered : slowReports (slow 2 18 .reads) ≡ at 35 (row (1 ∷ 0 ∷ [])) ∷ at 78 (row (0 ∷ 1 ∷ [])) ∷ []
+  pub ends : (cyclesOf (slow 2 18) (slow 2 18 .rows) ≡ 80) × (cyclesOf (slow 2 18) (slowFirst ∷ []) ≡ 40)
+  pub earliest : slow 2 18 .starts (40 - 7 + 2) + 1 ≡ slow 2 18 .begins 35
+  pub latest : slow 2 18 .begins (suc 78) + 1 ≡ slow 2 18 .starts 80
 
 -- L40: lengths that come again and again
 abbrev pub again : (times : ℕ) (lengths : List ℕ) → List ℕ
