@@ -10,6 +10,29 @@ use siengulot_plain::settings::{
 
 const CYCLE_MOST: usize = MAX_CYCLE as usize;
 
+/// What ends a word of time code.
+const MARK: [u8; 16] = [0, 0, 1, 1, 1, 1, 1, 1, 1, 1, 1, 1, 1, 1, 0, 1];
+
+/// Puts hours, minutes, seconds and frames into the 64 bits before a mark, a digit's lowest bit first.
+fn put_time(bits: &mut [u8], time: [usize; 4]) {
+    for ((units, tens, count), part) in [(48, 56, 2), (32, 40, 3), (16, 24, 3), (0, 8, 2)].into_iter().zip(time) {
+        for i in 0..4 {
+            bits[units + i] = (part % 10 >> i & 1) as u8;
+        }
+        for i in 0..count {
+            bits[tens + i] = (part / 10 >> i & 1) as u8;
+        }
+    }
+}
+
+/// A word of time code with these hours, minutes, seconds and frames, and all else 0.
+pub fn time_word(time: [usize; 4]) -> Vec<u8> {
+    let mut bits = vec![0; 64];
+    put_time(&mut bits, time);
+    bits.extend(MARK);
+    bits
+}
+
 /// A xorshift generator.
 pub struct Rng(u64);
 
@@ -537,7 +560,6 @@ impl Rng {
     /// Bits of time code: words with any user bits and flags, mostly good, with noise before and between, which may have
     /// a mark of its own; now and then a word that is cut, a digit too great, or an entry that is no bit.
     pub fn time_code(&mut self) -> Vec<u8> {
-        const MARK: [u8; 16] = [0, 0, 1, 1, 1, 1, 1, 1, 1, 1, 1, 1, 1, 1, 0, 1];
         let mut bits = Vec::new();
         for _ in 0..self.below(5) {
             if self.one_in(3) {
@@ -549,15 +571,8 @@ impl Rng {
             }
             let start = bits.len();
             bits.extend(self.entries(64, 1));
-            for (units, tens, count, most) in [(48, 56, 2, 23), (32, 40, 3, 59), (16, 24, 3, 59), (0, 8, 2, 24)] {
-                let part = self.below(most + 1);
-                for i in 0..4 {
-                    bits[start + units + i] = (part % 10 >> i & 1) as u8;
-                }
-                for i in 0..count {
-                    bits[start + tens + i] = (part / 10 >> i & 1) as u8;
-                }
-            }
+            let time = [23, 59, 59, 24].map(|most| self.below(most + 1));
+            put_time(&mut bits[start..], time);
             bits.extend(MARK);
             if self.one_in(8) {
                 let place = start + self.below(80);

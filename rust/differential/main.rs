@@ -144,6 +144,7 @@ fn main() {
             pick_corners(&mut bench);
             ends_corners(&mut bench);
             each_word(&mut bench);
+            time_corners(&mut bench);
             smooth_corners(&mut bench);
             length_corners(&mut bench);
         }
@@ -175,6 +176,18 @@ fn pick_corners(bench: &mut Bench) {
                     }
                 }
             }
+        }
+    }
+}
+
+/// Each part of a time at its most, and above it as far as its digits go.
+fn time_corners(bench: &mut Bench) {
+    for (part, values) in [23..40, 59..80, 59..80, 24..40].into_iter().enumerate() {
+        for value in values {
+            let mut time = [23, 59, 59, 24];
+            time[part] = value;
+            bench.time_read(&inputs::time_word(time), FULL);
+            bench.time_write(time, FULL);
         }
     }
 }
