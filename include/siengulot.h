@@ -5,10 +5,11 @@
  *
  * What holds of every function here:
  *
- * - It returns the number of its refusal, and 0 where it refuses nothing (enum siengulot_refusal). siengulot_well_formed alone returns a yes or no.
- * - Faults are looked for in the order 1, 3, 2, 11, 4 and then 5 or 10, or 1 and then 9, and the first that is there is returned. A capture has an order of its own, said with
+ * - It returns the number of its refusal, and 0 where it refuses nothing (enum siengulot_refusal). siengulot_well_formed alone returns a yes or no,
+ *   siengulot_row_bit a bit, and siengulot_bay_log_row where a row's bits stand.
+ * - Faults are looked for in the order 1, 3, 2, 11, 4 and then 5 or 10, or 1 and then 9 or 12, and the first that is there is returned. A capture has an order of its own, said with
  *   siengulot_capture_check.
- * - Each single number that is lent (k, place, count, dropped, accepted, event, found, used) is written with every answer, a refusal included. `place`
+ * - Each single number that is lent (k, place, count, dropped, accepted, event, found, used, taken) is written with every answer, a refusal included. `place`
  *   is 0 but for refusals 2, 5, 6, 7, 8, 10 and 11, for a row that siengulot_read_plan refuses with 1, and for siengulot_counted without a refusal.
  * - A result stands at the front of its lent output, and the rest of the output is untouched. With every refusal but 5 and 10 the whole output is untouched;
  *   siengulot_fresh alone writes zeros where it refuses.
@@ -49,7 +50,8 @@ enum {
     SIENGULOT_ROWS_MOST = 1024,       /* rows of a plan */
     SIENGULOT_ENTRIES_MOST = 1048576, /* entries of a wave, of reads, of choices, of lengths, bits of time code */
     SIENGULOT_CAPTURE_MOST = 1048583, /* bytes of a capture */
-    SIENGULOT_WORDS_MOST = 128        /* bytes of a message that goes out as words of half cells, and such words */
+    SIENGULOT_WORDS_MOST = 128,       /* bytes of a message that goes out as words of half cells, and such words */
+    SIENGULOT_LOG_RECORDS = 64        /* records of a log */
 };
 
 /* Levels. */
@@ -59,7 +61,8 @@ enum { SIENGULOT_LOW = 0, SIENGULOT_HIGH = 1, SIENGULOT_UNKNOWN = 2 };
 enum siengulot_refusal {
     SIENGULOT_NO_REFUSAL = 0,
     SIENGULOT_SETTING = 1, /* a setting, a length, a level in force or a time to be written out of range, a least length above its greatest, a plan
-                              whose lists do not fit, a row of a stored plan whose lead becomes too long, a receiver that is not well formed */
+                              whose lists do not fit, a row of a stored plan whose lead becomes too long, a receiver that is not well formed, a bit
+                              count above 1,024 or a record's place above 63 */
     SIENGULOT_ENTRY = 2,   /* an entry that is not of the kind taken; `place` is where the first such entry stands */
     SIENGULOT_LIMIT = 3,   /* too long a list, lent or to be given */
     SIENGULOT_ROOM = 4,    /* too little room in a lent output */
@@ -69,7 +72,8 @@ enum siengulot_refusal {
     SIENGULOT_RANGE = 8,   /* a capture's number is one that its place does not allow */
     SIENGULOT_NO_COUNT = 9, /* no sampling count has three margins of zero or more */
     SIENGULOT_BAD_WORD = 10, /* a word of time code with units above 9, or with a time out of range */
-    SIENGULOT_NO_EDGE = 11  /* a cell of words of half cells has no edge at its start; `place` is the first such cell */
+    SIENGULOT_NO_EDGE = 11,  /* a cell of words of half cells has no edge at its start; `place` is the first such cell */
+    SIENGULOT_NOT_LATER = 12 /* a read number that is not above those of all records in use */
 };
 
 /*
@@ -469,6 +473,105 @@ static inline size_t siengulot_receiver_listen(siengulot_receiver *receiver, con
 static inline unsigned siengulot_row_bit(const uint8_t row[SIENGULOT_ROW_BYTES], size_t i)
 {
     return (unsigned)(row[i / 8] >> (i % 8)) & 1u;
+}
+
+/*
+ * The log of a bay
+ *
+ * The last 64 rows that were delivered or broken off. A log is the caller's memory: a siengulot_bay_log. Call siengulot_bay_log_empty once before
+ * anything else: in memory that is all zeros, as static memory is, no free mark is set, and the log is 64 records in use. Record i has entry i of
+ * each list, and of the bits the 128 bytes from 128 * i on. It is free if its free mark is not 0, and in use otherwise; of two records in use the
+ * older is the one with the lower read number, or at the lower place where these are equal. What a free record holds besides is not looked at.
+ * A place is good until the next event is logged, which may overwrite its record, or until it is cleared.
+ */
+
+/* The bytes of all records' bits. */
+enum { SIENGULOT_LOG_BYTES = SIENGULOT_LOG_RECORDS * SIENGULOT_ROW_BYTES };
+
+/* A log. */
+typedef struct siengulot_bay_log {
+    uint64_t numbers[SIENGULOT_LOG_RECORDS];     /* the read number of each row: that of the read that brought it */
+    uint8_t bits[SIENGULOT_LOG_BYTES];           /* its bits, all 0 of a broken row */
+    size_t counts[SIENGULOT_LOG_RECORDS];        /* how many bits it has, or had when it broke off */
+    uint8_t broken_marks[SIENGULOT_LOG_RECORDS]; /* 1 for a broken row, else 0 */
+    uint8_t free_marks[SIENGULOT_LOG_RECORDS];   /* 1 for a free record, in which all else is 0, and 0 for one in use */
+} siengulot_bay_log;
+
+/*
+ * The entry points. They take a log as its lists; the inline functions below them take a siengulot_bay_log.
+ */
+
+/*
+ * Logs an event: the read number, the bits in `row`, how many bits there are, and in `broken` 0 for a row, or 1 to 255 for a broken one. What stands in
+ * the `row` of a broken one makes no difference, but it has to point to 128 bytes all the same, and never into `bits`: copy a row of this log first.
+ * Takes the lowest free record, or the oldest where none is free. Gives in `taken` the record's place. No other record is touched.
+ * Refuses with
+ *   1  a count above 1,024, of a broken row too;
+ *   12 a read number that is not above those of all records in use. An empty log takes any: where a count of reads starts again, make the log empty, or
+ *      count on from its greatest number.
+ * Leaves with a refusal the log as it was, and 0 in `taken`.
+ */
+size_t siengulot_log_event(uint64_t number, const uint8_t row[SIENGULOT_ROW_BYTES], size_t count, uint8_t broken,
+                           uint64_t numbers[SIENGULOT_LOG_RECORDS], uint8_t bits[SIENGULOT_LOG_BYTES], size_t counts[SIENGULOT_LOG_RECORDS],
+                           uint8_t broken_marks[SIENGULOT_LOG_RECORDS], uint8_t free_marks[SIENGULOT_LOG_RECORDS], size_t *taken);
+
+/*
+ * Clears the record at a place, which is its place in the log and not where it stands in a listing: it is free then, and all else in it is 0. A free
+ * record stays as it is. No other record is touched.
+ * Refuses with
+ *   1  a place above 63.
+ * Leaves with a refusal the log as it was.
+ */
+size_t siengulot_log_clear(size_t place, uint64_t numbers[SIENGULOT_LOG_RECORDS], uint8_t bits[SIENGULOT_LOG_BYTES],
+                           size_t counts[SIENGULOT_LOG_RECORDS], uint8_t broken_marks[SIENGULOT_LOG_RECORDS],
+                           uint8_t free_marks[SIENGULOT_LOG_RECORDS]);
+
+/*
+ * Lists the records in use, the oldest first. Gives their places at the front of `places`, and in `count` how many they are, which is 64 at most.
+ * Refuses with
+ *   4  `places` shorter than that.
+ * Leaves with a refusal `places` as it was, and 0 in `count`.
+ */
+size_t siengulot_log_list(const uint64_t numbers[SIENGULOT_LOG_RECORDS], const uint8_t free_marks[SIENGULOT_LOG_RECORDS], size_t *places,
+                          size_t places_length, size_t *count);
+
+/* Makes a log empty: every record is free, and all else is 0. To be called before a log is first used. */
+static inline void siengulot_bay_log_empty(siengulot_bay_log *log)
+{
+    for (size_t i = 0; i < SIENGULOT_LOG_RECORDS; i++) {
+        log->numbers[i] = 0;
+        log->counts[i] = 0;
+        log->broken_marks[i] = 0;
+        log->free_marks[i] = 1;
+    }
+    for (size_t i = 0; i < SIENGULOT_LOG_BYTES; i++) {
+        log->bits[i] = 0;
+    }
+}
+
+/* Logs a row or a broken row, as siengulot_log_event does. */
+static inline size_t siengulot_bay_log_event(siengulot_bay_log *log, uint64_t number, const uint8_t row[SIENGULOT_ROW_BYTES], size_t count,
+                                             uint8_t broken, size_t *taken)
+{
+    return siengulot_log_event(number, row, count, broken, log->numbers, log->bits, log->counts, log->broken_marks, log->free_marks, taken);
+}
+
+/* Clears a record, as siengulot_log_clear does. */
+static inline size_t siengulot_bay_log_clear(siengulot_bay_log *log, size_t place)
+{
+    return siengulot_log_clear(place, log->numbers, log->bits, log->counts, log->broken_marks, log->free_marks);
+}
+
+/* Lists the records in use into 64 places, as siengulot_log_list does. With this room it refuses nothing. */
+static inline size_t siengulot_bay_log_list(const siengulot_bay_log *log, size_t places[SIENGULOT_LOG_RECORDS], size_t *count)
+{
+    return siengulot_log_list(log->numbers, log->free_marks, places, SIENGULOT_LOG_RECORDS, count);
+}
+
+/* Gives the 128 bytes of the bits at a place, which must be below 64. */
+static inline const uint8_t *siengulot_bay_log_row(const siengulot_bay_log *log, size_t place)
+{
+    return log->bits + place * SIENGULOT_ROW_BYTES;
 }
 
 /*

@@ -7,6 +7,8 @@ use crate::library::*;
 use crate::numbers::{at, numbers_of, NUMBERS};
 use siengulot_plain::board::{Event, Mode, Receiver, ROW_BYTES};
 use siengulot_plain::capture::{self, Reader, Summary};
+use siengulot_plain::log::{self, Event as Shown, Log};
+use siengulot_plain::settings::RECORDS;
 use siengulot_plain::settings::{self, Verdict};
 use siengulot_plain::{counted, halfcells, line, sender, stored, timecode, Refusal};
 use std::collections::BTreeMap;
@@ -70,6 +72,73 @@ impl State {
             numbers: numbers_of(receiver),
             bits: receiver.bits,
         }
+    }
+}
+
+/// A log as it is lent.
+#[derive(Clone)]
+pub struct Lists {
+    pub numbers: [usize; RECORDS],
+    pub bits: Vec<u8>,
+    pub counts: [usize; RECORDS],
+    pub broken: [u8; RECORDS],
+    pub free: [u8; RECORDS],
+}
+
+impl Lists {
+    pub fn empty() -> Lists {
+        Lists {
+            numbers: [0; RECORDS],
+            bits: vec![0; RECORDS * ROW_BYTES],
+            counts: [0; RECORDS],
+            broken: [0; RECORDS],
+            free: [1; RECORDS],
+        }
+    }
+
+    /// Does something with the log that the lists are.
+    fn with<T>(&mut self, does: impl FnOnce(&mut Log) -> T) -> T {
+        let mut numbers = self.numbers.map(|number| number as u64);
+        let answer = does(&mut Log {
+            numbers: &mut numbers,
+            bits: &mut self.bits,
+            counts: &mut self.counts,
+            broken: &mut self.broken,
+            free: &mut self.free,
+        });
+        self.numbers = numbers.map(|number| number as usize);
+        answer
+    }
+}
+
+/// Where a log is lent.
+struct LogAt {
+    numbers: Numbers,
+    bits: Bytes,
+    counts: Numbers,
+    broken: Bytes,
+    free: Bytes,
+}
+
+impl LogAt {
+    fn lend(lent: &mut Lent, lists: &Lists, rng: &mut Rng) -> LogAt {
+        let at = LogAt {
+            numbers: lent.numbers("numbers", RECORDS, rng),
+            bits: lent.room("bits", RECORDS * ROW_BYTES, rng),
+            counts: lent.numbers("counts", RECORDS, rng),
+            broken: lent.room("broken", RECORDS, rng),
+            free: lent.room("free", RECORDS, rng),
+        };
+        at.write(lent, lists);
+        at
+    }
+
+    fn write(&self, lent: &mut Lent, lists: &Lists) {
+        lent.set(self.numbers, &lists.numbers);
+        lent.write(self.bits, &lists.bits);
+        lent.set(self.counts, &lists.counts);
+        lent.write(self.broken, &lists.broken);
+        lent.write(self.free, &lists.free);
     }
 }
 
@@ -152,7 +221,9 @@ pub struct Bench {
     scratch: Vec<u8>,
 }
 
-const REFUSALS: [&str; 12] = ["0", "1", "2", "3", "4", "5", "6", "7", "8", "9", "10", "11"];
+const REFUSALS: [&str; 13] = [
+    "0", "1", "2", "3", "4", "5", "6", "7", "8", "9", "10", "11", "12",
+];
 
 impl Bench {
     pub fn new(seed: u64, only: Option<String>) -> Bench {
@@ -881,6 +952,130 @@ impl Bench {
         self.compare("time_write", (got, &lent), (number, &expected), || {
             format!("{:?} room {}", time, room)
         });
+    }
+
+    /// Logs an event, and gives the log as it is then.
+    pub fn log_event(&mut self, lists: &Lists, event: Shown) -> Lists {
+        let mut after = lists.clone();
+        let answer = after.with(|log| log::log_event(event, log));
+        if !self.tries("log_event") {
+            return after;
+        }
+        let mut lent = Lent::new();
+        let at = LogAt::lend(&mut lent, lists, &mut self.rng);
+        let taken = lent.number("taken", &mut self.rng);
+        let mut expected = lent.clone();
+        at.write(&mut expected, &after);
+        expected.set(taken, &[answer.unwrap_or(0)]);
+        let number = answer.map_or_else(|refused| usize::from(refused.number), |_| 0);
+        let row = self.edges[0].lend(event.bits, &mut self.rng);
+        let got = unsafe {
+            siengulot_log_event(
+                event.number,
+                row,
+                event.count,
+                event.broken,
+                lent.pointer(at.numbers).cast(),
+                lent.bytes_pointer(at.bits),
+                lent.pointer(at.counts),
+                lent.bytes_pointer(at.broken),
+                lent.bytes_pointer(at.free),
+                lent.pointer(taken),
+            )
+        };
+        self.compare("log_event", (got, &lent), (number, &expected), || {
+            format!("{:?} {:?} {:?}", event, lists.numbers, lists.free)
+        });
+        if let Ok(place) = answer {
+            let later = &lists.numbers[place + 1..];
+            let kind = if lists.free[place] != 0 {
+                "a free record"
+            } else if later.contains(&lists.numbers[place]) {
+                "the oldest of equals"
+            } else {
+                "the oldest"
+            };
+            self.meets("log_event", kind);
+            if event.broken != 0 {
+                self.meets("log_event", "a broken row");
+            }
+        }
+        let in_use = (0..RECORDS).filter(|&place| lists.free[place] == 0);
+        let greatest = in_use.map(|place| lists.numbers[place] as u64).max();
+        if number == 12 && greatest == Some(event.number) {
+            self.meets("log_event", "12 for an equal number");
+        }
+        after
+    }
+
+    /// Clears a record, and gives the log as it is then.
+    pub fn log_clear(&mut self, lists: &Lists, place: usize) -> Lists {
+        let mut after = lists.clone();
+        let answer = after.with(|log| log::clear(place, log));
+        if !self.tries("log_clear") {
+            return after;
+        }
+        let mut lent = Lent::new();
+        let at = LogAt::lend(&mut lent, lists, &mut self.rng);
+        let mut expected = lent.clone();
+        at.write(&mut expected, &after);
+        let number = answer.map_or_else(|refused| usize::from(refused.number), |_| 0);
+        let got = unsafe {
+            siengulot_log_clear(
+                place,
+                lent.pointer(at.numbers).cast(),
+                lent.bytes_pointer(at.bits),
+                lent.pointer(at.counts),
+                lent.bytes_pointer(at.broken),
+                lent.bytes_pointer(at.free),
+            )
+        };
+        self.compare("log_clear", (got, &lent), (number, &expected), || {
+            format!("{} {:?}", place, lists.free)
+        });
+        if answer.is_ok() {
+            let kind = if lists.free[place] == 0 {
+                "in use"
+            } else {
+                "free"
+            };
+            self.meets("log_clear", kind);
+        }
+        after
+    }
+
+    pub fn log_list(&mut self, lists: &Lists, room: Room) {
+        if !self.tries("log_list") {
+            return;
+        }
+        let numbers = lists.numbers.map(|number| number as u64);
+        let room = room.of(lists.free.iter().filter(|&&mark| mark == 0).count());
+        let mut lent = Lent::new();
+        let places = lent.numbers("places", room, &mut self.rng);
+        let count = lent.number("count", &mut self.rng);
+        let mut expected = lent.clone();
+        let answer = log::list(&numbers, &lists.free, expected.list(places));
+        expected.set(count, &[answer.unwrap_or(0)]);
+        let number = answer.map_or_else(|refused| usize::from(refused.number), |_| 0);
+        let numbers_lent = self.edges[0].lend(&numbers, &mut self.rng);
+        let free_lent = self.edges[1].lend(&lists.free, &mut self.rng);
+        let got = unsafe {
+            siengulot_log_list(
+                numbers_lent,
+                free_lent,
+                lent.pointer(places),
+                room,
+                lent.pointer(count),
+            )
+        };
+        self.compare("log_list", (got, &lent), (number, &expected), || {
+            format!("{:?} {:?} room {}", lists.numbers, lists.free, room)
+        });
+        match answer {
+            Ok(0) => self.meets("log_list", "none in use"),
+            Ok(RECORDS) => self.meets("log_list", "all in use"),
+            _ => (),
+        }
     }
 
     pub fn fresh(&mut self, [k, n, q]: [usize; 3]) -> State {

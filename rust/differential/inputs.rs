@@ -1,11 +1,12 @@
 //! Random input, valid and damaged: settings, lists, receivers, captures. A seed gives the same input everywhere.
 
+use crate::bench::Lists;
 use crate::numbers::{at, numbers_of, NUMBERS};
 use siengulot_plain::board::{Mode, Receiver, ROW_BYTES};
 use siengulot_plain::halfcells;
 use siengulot_plain::settings::{
     MAX_BITS, MAX_CYCLE, MAX_G, MAX_K, MAX_LIST, MAX_PAD, MAX_QUIET, MAX_ROWS, MAX_SUBCELL,
-    MAX_WORDS, MIN_QUIET,
+    MAX_WORDS, MIN_QUIET, RECORDS,
 };
 
 const CYCLE_MOST: usize = MAX_CYCLE as usize;
@@ -77,6 +78,48 @@ impl Rng {
             let more = junk.len().min(length - bytes.len());
             bytes.extend_from_slice(&junk[..more]);
         }
+    }
+
+    /// A mark: often 0, else 1 or any byte.
+    pub fn mark(&mut self) -> u8 {
+        match self.below(4) {
+            0 => 1,
+            1 => self.next() as u8,
+            _ => 0,
+        }
+    }
+
+    /// A read number: mostly just above one, often the same, now and then below.
+    pub fn later_than(&mut self, number: usize) -> usize {
+        match self.below(9) {
+            0 => number,
+            1 => self.below(number.max(1)),
+            _ => number + 1 + self.below(3),
+        }
+    }
+
+    /// A log, such as calls make or not: read numbers that are near one another, some of them equal, and marks of all
+    /// kinds.
+    pub fn log(&mut self) -> Lists {
+        let mut lists = Lists::empty();
+        let first = self.pick(&[0, 1, 1 << 40, usize::MAX - 500]);
+        let spread = self.pick(&[2, 40, 400]);
+        let turned = self.below(RECORDS);
+        let in_order = self.one_in(2);
+        let full = self.one_in(2);
+        lists.bits.clear();
+        self.junk(&mut lists.bits, RECORDS * ROW_BYTES);
+        for place in 0..RECORDS {
+            lists.numbers[place] = if in_order {
+                first + (place + turned) % RECORDS
+            } else {
+                first + self.below(spread)
+            };
+            lists.counts[place] = self.next() as usize;
+            lists.broken[place] = self.mark();
+            lists.free[place] = if full { 0 } else { self.mark() };
+        }
+        lists
     }
 
     /// A number that is not from `least` to `most`: next to it, one whose low part is in range, or far off.

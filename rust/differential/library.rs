@@ -123,6 +123,36 @@ extern "C" {
         count: *mut usize,
     ) -> usize;
 
+    pub fn siengulot_log_event(
+        number: u64,
+        row: *const u8,
+        count: usize,
+        broken: u8,
+        numbers: *mut u64,
+        bits: *mut u8,
+        counts: *mut usize,
+        broken_marks: *mut u8,
+        free_marks: *mut u8,
+        taken: *mut usize,
+    ) -> usize;
+
+    pub fn siengulot_log_clear(
+        place: usize,
+        numbers: *mut u64,
+        bits: *mut u8,
+        counts: *mut usize,
+        broken_marks: *mut u8,
+        free_marks: *mut u8,
+    ) -> usize;
+
+    pub fn siengulot_log_list(
+        numbers: *const u64,
+        free_marks: *const u8,
+        places: *mut usize,
+        places_length: usize,
+        count: *mut usize,
+    ) -> usize;
+
     pub fn siengulot_smooth(
         g: usize,
         wave: *const u8,

@@ -11,9 +11,11 @@ mod lent;
 mod library;
 mod numbers;
 
-use bench::{Bench, Room, State};
+use bench::{Bench, Lists, Room, State};
+use siengulot_plain::board::ROW_BYTES;
 use siengulot_plain::halfcells;
-use siengulot_plain::settings::{MAX_BITS, MAX_CAPTURE, MAX_LIST, MAX_ROWS};
+use siengulot_plain::log::Event;
+use siengulot_plain::settings::{MAX_BITS, MAX_CAPTURE, MAX_LIST, MAX_ROWS, RECORDS};
 use std::time::{Duration, Instant};
 
 /// Rounds of every operation, some of them several times, that are done however long they take.
@@ -32,7 +34,7 @@ const COUNTS: [&str; 4] = [
 ];
 
 /// What each operation has to meet: the numbers it returns (of `well_formed`, 0 for no and 1 for yes), and cases that are easy to miss.
-const MUST: [(&str, &[&str], &[&str]); 25] = [
+const MUST: [(&str, &[&str], &[&str]); 28] = [
     ("judge", &["0", "1"], &["yes", "no", "a margin of 0"]),
     ("judge_quiet", &["0", "1"], &["yes", "no", "a margin of 0"]),
     ("judge_ends", &["0", "1"], &["yes", "no", "a margin of 0"]),
@@ -125,6 +127,19 @@ const MUST: [(&str, &[&str], &[&str]); 25] = [
         &["several words", "10 after words"],
     ),
     ("time_write", &["0", "1", "4"], &[]),
+    (
+        "log_event",
+        &["0", "1", "12"],
+        &[
+            "a free record",
+            "the oldest",
+            "the oldest of equals",
+            "a broken row",
+            "12 for an equal number",
+        ],
+    ),
+    ("log_clear", &["0", "1"], &["in use", "free"]),
+    ("log_list", &["0", "4"], &["none in use", "all in use"]),
 ];
 
 fn main() {
@@ -147,6 +162,7 @@ fn main() {
             time_corners(&mut bench);
             smooth_corners(&mut bench);
             length_corners(&mut bench);
+            log_calls(&mut bench, &Lists::empty(), 500);
         }
         if rounds == 200 {
             longest_rows(&mut bench);
@@ -381,6 +397,36 @@ fn round(bench: &mut Bench) {
     let reads = bench.rng.list(length, 1);
     let room = Room::random(&mut bench.rng);
     bench.capture_write(settings, &reads, room);
+
+    let lists = bench.rng.log();
+    log_calls(bench, &lists, 2);
+}
+
+/// Calls of the log, one after another.
+fn log_calls(bench: &mut Bench, lists: &Lists, calls: usize) {
+    let mut lists = lists.clone();
+    bench.log_list(&lists, FULL);
+    for _ in 0..calls {
+        let greatest = lists.numbers.iter().max().copied().unwrap_or(0);
+        let number = bench.rng.later_than(greatest) as u64;
+        let mut bits = Vec::new();
+        bench.rng.junk(&mut bits, ROW_BYTES);
+        let count = bench.rng.setting(0, 80, MAX_BITS);
+        let broken = bench.rng.mark();
+        let event = Event {
+            number,
+            bits: &bits,
+            count,
+            broken,
+        };
+        lists = bench.log_event(&lists, event);
+        let room = Room::random(&mut bench.rng);
+        bench.log_list(&lists, room);
+        if bench.rng.one_in(3) {
+            let place = bench.rng.setting(0, RECORDS - 1, RECORDS - 1);
+            lists = bench.log_clear(&lists, place);
+        }
+    }
 }
 
 /// An output that just holds the result, and one that just does not.

@@ -5,6 +5,8 @@ mod common;
 
 use common::{made, refused, Case};
 use siengulot_plain::board::{Event, Mode, Receiver, ROW_BYTES};
+use siengulot_plain::log::{self, Log};
+use siengulot_plain::settings::RECORDS;
 use siengulot_plain::{capture, Refusal};
 
 /// The eight numbers of a state, and its bytes that are not 0, each with its place.
@@ -129,6 +131,86 @@ fn tried(mode: Mode, case: &Case, reads: &[u8]) -> String {
     told + &listen(state, reads)
 }
 
+/// The lists of a log, before and after a call.
+struct Lists {
+    numbers: Vec<u64>,
+    bits: Vec<u8>,
+    counts: Vec<usize>,
+    broken: Vec<u8>,
+    free: Vec<u8>,
+}
+
+impl Lists {
+    /// So many records, with these read numbers, of which 0 stands for a free record.
+    fn of(mut numbers: Vec<usize>, records: usize) -> Lists {
+        numbers.resize(records, 0);
+        Lists {
+            numbers: numbers.iter().map(|&number| number as u64).collect(),
+            bits: vec![5; RECORDS * ROW_BYTES],
+            counts: vec![7; RECORDS],
+            broken: vec![2; RECORDS],
+            free: numbers.iter().map(|&number| u8::from(number == 0)).collect(),
+        }
+    }
+
+    fn log(&mut self) -> Log<'_> {
+        Log {
+            numbers: &mut self.numbers,
+            bits: &mut self.bits,
+            counts: &mut self.counts,
+            broken: &mut self.broken,
+            free: &mut self.free,
+        }
+    }
+
+    fn record(&self, place: usize) -> String {
+        format!(
+            " number {} count {} broken {} free {} byte {}",
+            self.numbers[place],
+            self.counts[place],
+            self.broken[place],
+            self.free[place],
+            self.bits[place * ROW_BYTES]
+        )
+    }
+}
+
+fn log_event(case: &Case, bits: &[u8]) -> String {
+    let [number, count, broken, records] = case.numbers(["number", "count", "broken", "records"]);
+    let event = log::Event {
+        number: number as u64,
+        bits,
+        count,
+        broken: u8::try_from(broken).unwrap(),
+    };
+    let mut lists = Lists::of(case.number_list(1), records);
+    match log::log_event(event, &mut lists.log()) {
+        Ok(place) => format!(" at {}{}", place, lists.record(place)),
+        Err(refusal) => refused(refusal),
+    }
+}
+
+fn log_clear(case: &Case) -> String {
+    let [place, records] = case.numbers(["place", "records"]);
+    let mut lists = Lists::of(case.number_list(0), records);
+    match log::clear(place, &mut lists.log()) {
+        Ok(()) => lists.record(place),
+        Err(refusal) => refused(refusal),
+    }
+}
+
+fn log_list(case: &Case) -> String {
+    let [room, records] = case.numbers(["room", "records"]);
+    let lists = Lists::of(case.number_list(0), records);
+    let mut places = vec![99; room];
+    let (mut told, _) = made(log::list(&lists.numbers, &lists.free, &mut places));
+    told += " places";
+    for place in places {
+        told += &format!(" {}", place);
+    }
+    told
+}
+
 /// Runs the operation that a case names: what it gave, and how many entries it has written.
 fn operate(case: &Case, list: &[u8], out: &mut [u8]) -> (String, usize) {
     match case.operation() {
@@ -147,6 +229,9 @@ fn operate(case: &Case, list: &[u8], out: &mut [u8]) -> (String, usize) {
         "ready" => (tried(Mode::Ready, case, list), 0),
         "counting" => (tried(Mode::Counting, case, list), 0),
         "waiting" => (tried(Mode::Waiting, case, list), 0),
+        "log_event" => (log_event(case, list), 0),
+        "log_clear" => (log_clear(case), 0),
+        "log_list" => (log_list(case), 0),
         other => panic!("no operation {}", other),
     }
 }

@@ -1,5 +1,5 @@
 //! Software for a biphase mark link: judging settings, sending, a model of the line,
-//! two receivers, the capture file, time code, and what the rows program prints.
+//! two receivers, the capture file, time code, what the rows program prints, and the log of a bay.
 //!
 //! The rules are those of docs/RULES.md. Every module follows one of its sections, named at the top
 //! of the module, and the comments name the rule they carry out. Levels and bits are bytes, 0 or 1, and 2 is an unknown
@@ -19,6 +19,7 @@ pub mod capture;
 pub mod counted;
 pub mod halfcells;
 pub mod line;
+pub mod log;
 mod refusal;
 pub mod rows;
 pub mod sender;

@@ -5,7 +5,7 @@ use std::fmt;
 /// Why an operation refused: the number from the rules' table and the place of the fault.
 #[derive(Clone, Copy, Debug, PartialEq, Eq, Hash)]
 pub struct Refusal {
-    /// 1 to 11, as in the table of refusal numbers.
+    /// 1 to 12, as in the table of refusal numbers.
     pub number: u8,
     /// Place of the bad entry or row, or of the bad number's first byte; 0 where none is kept.
     pub place: usize,
@@ -20,6 +20,8 @@ impl Refusal {
     pub(crate) const OUTPUT: Refusal = Refusal::new(4, 0);
     /// No sampling count has three margins of zero or more.
     pub(crate) const NO_COUNT: Refusal = Refusal::new(9, 0);
+    /// A read number is not above all in use.
+    pub(crate) const NOT_LATER: Refusal = Refusal::new(12, 0);
 
     pub(crate) const fn new(number: u8, place: usize) -> Refusal {
         Refusal { number, place }

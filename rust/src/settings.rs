@@ -27,6 +27,8 @@ pub const MAX_LIST: usize = 1_048_576;
 pub const MAX_CAPTURE: usize = 1_048_583;
 /// Most bytes of a message that goes out as words of half cells, and most such words.
 pub const MAX_WORDS: usize = 128;
+/// The records of a log.
+pub const RECORDS: usize = 64;
 /// Most bytes the rows program takes.
 pub const MAX_INPUT: usize = 65_536;
 

@@ -123,6 +123,46 @@ static void words_of_half_cells(void)
     expect_out("decode writes though it refuses", "");
 }
 
+/* A log by its entry points, and beside it one by the inline functions. */
+static void logging(void)
+{
+    static siengulot_bay_log raw, wrapped;
+    size_t places[SIENGULOT_LOG_RECORDS + 1], listed = 99, taken = 99, taken_too = 99;
+    uint8_t row[SIENGULOT_ROW_BYTES];
+
+    memset(row, 0xA5, sizeof row);
+    memset(&raw, GUARD, sizeof raw);
+    siengulot_bay_log_empty(&raw);
+    siengulot_bay_log_empty(&wrapped);
+    expect(memcmp(&raw, &wrapped, sizeof raw) == 0 && raw.free_marks[63] == 1 && raw.bits[8191] == 0, "two empty logs differ");
+    expect(siengulot_bay_log_list(&wrapped, places, &listed) == 0 && listed == 0, "an empty log lists a record");
+    for (uint64_t number = 5; number < 70; number++) {
+        expect(siengulot_log_event(number, row, 1024, 0, raw.numbers, raw.bits, raw.counts, raw.broken_marks, raw.free_marks, &taken) == 0, "a row is refused");
+        expect(siengulot_bay_log_event(&wrapped, number, row, 1024, 0, &taken_too) == 0, "a row is refused, inline");
+        expect(taken == (number - 5) % 64 && taken_too == taken, "the place taken");
+    }
+    expect(memcmp(&raw, &wrapped, sizeof raw) == 0, "the two logs differ");
+    expect(siengulot_bay_log_list(&wrapped, places, &listed) == 0 && listed == 64, "the listing's length");
+    expect(places[0] == 1 && places[62] == 63 && places[63] == 0, "the listing");
+    expect(siengulot_bay_log_row(&wrapped, 3)[127] == 0xA5 && wrapped.counts[3] == 1024 && wrapped.numbers[0] == 69, "a record");
+
+    expect(siengulot_log_event(69, row, 9, 0, raw.numbers, raw.bits, raw.counts, raw.broken_marks, raw.free_marks, &taken) == SIENGULOT_NOT_LATER, "an equal read number is taken");
+    expect(siengulot_bay_log_event(&wrapped, 70, row, SIENGULOT_BITS_MOST + 1, 0, &taken_too) == SIENGULOT_SETTING, "1,025 bits are taken");
+    expect(taken == 0 && taken_too == 0, "a place though it refuses");
+    expect(siengulot_bay_log_clear(&wrapped, 64) == SIENGULOT_SETTING, "place 64 is cleared");
+    places[0] = 99;
+    expect(siengulot_log_list(raw.numbers, raw.free_marks, places, 63, &taken) == SIENGULOT_ROOM && taken == 0 && places[0] == 99, "64 places in 63");
+    expect(memcmp(&raw, &wrapped, sizeof raw) == 0, "a refusal changes a log");
+
+    expect(siengulot_log_clear(7, raw.numbers, raw.bits, raw.counts, raw.broken_marks, raw.free_marks) == 0, "clearing is refused");
+    expect(siengulot_bay_log_clear(&wrapped, 7) == 0 && memcmp(&raw, &wrapped, sizeof raw) == 0, "the two logs differ once cleared");
+    expect(raw.free_marks[7] == 1 && raw.numbers[7] == 0 && raw.counts[7] == 0 && raw.bits[7 * 128] == 0 && raw.bits[8 * 128] == 0xA5, "a cleared record");
+    expect(siengulot_bay_log_event(&wrapped, 70, row, 3, 200, &taken) == 0 && taken == 7, "a cleared record is not taken");
+    expect(wrapped.broken_marks[7] == 1 && wrapped.free_marks[7] == 0 && siengulot_bay_log_row(&wrapped, 7)[0] == 0, "a broken row");
+    expect(siengulot_bay_log_list(&wrapped, places, &listed) == 0 && listed == 64, "the listing's length after clearing");
+    expect(places[63] == 7 && places[0] == 1, "the listing after clearing");
+}
+
 static void sending(void)
 {
     static const uint8_t bits[2] = {1, 0}, bad[2] = {1, 2};
@@ -374,6 +414,7 @@ int main(void)
     judging();
     picking();
     words_of_half_cells();
+    logging();
     sending();
     stored_plans();
     line();

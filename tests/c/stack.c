@@ -90,6 +90,23 @@ CALL(decode_no_edge, 11, siengulot_decode(flat, 128, out, sizeof out, &place, &c
 CALL(decode_limit, 3, siengulot_decode(words, 129, out, sizeof out, &place, &count))
 CALL(decode_room, 4, siengulot_decode(words, 128, out, 127, &place, &count))
 
+/* A log with two free records, and one with none, each call with a later read number or another place. */
+static siengulot_bay_log two_free = {{0}, {0}, {0}, {0}, {1, 1}}, none_free;
+static uint64_t turned[SIENGULOT_LOG_RECORDS], later = 7;
+static size_t places[SIENGULOT_LOG_RECORDS], taken, next;
+#define LOG(log) log.numbers, log.bits, log.counts, log.broken_marks, log.free_marks
+CALL(log_free, 0, siengulot_log_event(later++, high, 1024, 0, LOG(two_free), &taken))
+CALL(log_oldest, 0, siengulot_log_event(later++, high, 1024, 0, LOG(none_free), &taken))
+CALL(log_broken, 0, siengulot_log_event(later++, high, 1024, 1, LOG(none_free), &taken))
+CALL(log_not_later, 12, siengulot_log_event(0, high, 1024, 0, LOG(none_free), &taken))
+CALL(log_count, 1, siengulot_log_event(7, high, 1025, 0, LOG(none_free), &taken))
+CALL(clear_used, 0, siengulot_log_clear(next++, LOG(none_free)))
+CALL(clear_free, 0, siengulot_log_clear(0, LOG(two_free)))
+CALL(clear_place, 1, siengulot_log_clear(64, LOG(none_free)))
+CALL(list_equal, 0, siengulot_log_list(none_free.numbers, none_free.free_marks, places, 64, &count))
+CALL(list_turned, 0, siengulot_log_list(turned, none_free.free_marks, places, 64, &count))
+CALL(list_room, 4, siengulot_log_list(turned, none_free.free_marks, places, 63, &count))
+
 CALL(smooth_most, 0, siengulot_smooth(1, mixed, LIST, out, sizeof out, &place, &count))
 CALL(smooth_slow, 0, siengulot_smooth(64, mixed, LIST, out, sizeof out, &place, &count))
 CALL(smooth_setting, 1, siengulot_smooth(65, mixed, LIST, out, sizeof out, &place, &count))
@@ -216,6 +233,9 @@ static const struct {
     {"siengulot_step", {step_high, step_low, step_row, step_broken, step_setting, step_entry}},
     {"siengulot_listen",
      {listen_high, listen_turns, listen_row, listen_broken, listen_mixed, listen_setting, listen_entry, listen_limit}},
+    {"siengulot_log_event", {log_free, log_oldest, log_broken, log_not_later, log_count}},
+    {"siengulot_log_clear", {clear_used, clear_free, clear_place}},
+    {"siengulot_log_list", {list_equal, list_turned, list_room}},
     {"siengulot_capture_write", {write_most, write_high, write_setting, write_entry, write_limit, write_room}},
     {"siengulot_capture_check", {check_most, check_cut, check_form, check_range}},
     {"siengulot_capture_read", {read_most, read_room, read_cut}},
@@ -309,6 +329,9 @@ int main(void)
     for (size_t i = 0; i < 128; i++) {
         words[i] = 0x3333;
         flat[i] = i < 127 ? 0x3333 : 0x3331;
+    }
+    for (size_t i = 0; i < SIENGULOT_LOG_RECORDS; i++) {
+        turned[i] = (i + 24) % SIENGULOT_LOG_RECORDS;
     }
     for (size_t i = 0; i < sizeof points / sizeof points[0]; i++) {
         size_t most = 0;

@@ -3,7 +3,7 @@
 use Prim.Native.Nat.{ℕ, zero, suc, _+_, _-_, _≤_, _<_}
 use mathlib.Core.Path.{_≡_, refl, ap, _∙_}
 use mathlib.Core.Logic.{_⊎_, inl, inr}
-use mathlib.Core.Bool.{Bool, true, false}
+use mathlib.Core.Bool.{Bool, true, false, false≢true}
 use mathlib.Core.List.{List, [], _∷_, _++_}
 use native.Mathlib.Omega.{arith}
 use native.Mathlib.Decide.{decLe}
@@ -23,16 +23,16 @@ use Rattle.board.specs.Packed.{receiverOf}
 use Rattle.board.specs.Answers.{Outcome, reached, refusing, stepped, listened}
 use Rattle.board.specs.Listening.{eventOrRest, heardFrom}
 use Rattle.board.proofs.PackedBits.{Binary, binary-snoc}
-use Rattle.board.proofs.RowRules.{Valid, bit-most, valid-next}
+use Rattle.board.proofs.RowRules.{Fitting, Valid, bit-most, valid-next}
 use Rattle.board.proofs.Standing.{state-of-receiver, well-formed-of}
 use Rattle.board.proofs.ListenedLaws.{listened-is}
 use Rattle.board.proofs.HeardLaws.{Some}
 
--- a row that is delivered has n bits, each 0 or 1
+-- a row that is delivered has n bits, each 0 or 1, and one that is broken had fewer
 abbrev pub Whole : Settings → Event → Type 0
 Whole g nothing = Unit {0}
 Whole g (row bits) = (length bits ≡ g .n) × Binary bits
-Whole g (broken found) = Unit {0}
+Whole g (broken found) = found < g .n
 
 module _ (g : Settings) where
   whole-either : (test : Bool) (m d : Moved) → (test ≡ true → Whole g (m .event)) → (test ≡ false → Whole g (d .event))
@@ -40,9 +40,16 @@ module _ (g : Settings) where
   whole-either true m d f h = f refl
   whole-either false m d f h = h refl
 
-  whole-quiet : (test : Bool) (found : ℕ) → Whole g (choose test (broken found) nothing)
-  whole-quiet true found = tt
-  whole-quiet false found = tt
+  whole-quiet : (test : Bool) (found : ℕ) → (test ≡ true → found < g .n) → Whole g (choose test (broken found) nothing)
+  whole-quiet true found fewer = fewer refl
+  whole-quiet false found fewer = tt
+
+  -- a row in progress has fewer than n bits
+  in-row : (m : Mode) (run left found level : ℕ) → Fitting m g run left found level → inProgress m ≡ true → found < g .n
+  in-row Hunting run left found level fits e = absurd (false≢true e)
+  in-row Ready run left found level fits e = absurd (false≢true e)
+  in-row Counting run left found level fits e = fits .3
+  in-row Waiting run left found level fits e = fits .2
 
   whole-collected : (run read : ℕ) (bits : List ℕ) → Binary bits → Whole g (collected g run read bits .event)
   whole-collected run read bits b =
@@ -61,7 +68,8 @@ module _ (g : Settings) where
   unfolding next
   whole-next s read v =
       whole-either (eqb (runAfter (g .Q) (s .run) read) (g .Q)) _ _
-      (λ e. whole-quiet (inProgress (s .mode)) (length (s .bits)))
+      (λ e. whole-quiet (inProgress (s .mode)) (length (s .bits))
+      (in-row (s .mode) (s .run) (s .left) (length (s .bits)) (s .level) (v .fitting)))
       (λ e. whole-listening (s .mode) s (runAfter (g .Q) (s .run) read) read (v .binary))
 
 pub noted-some : (place : ℕ) (event : Event) → Some event → (more : List Report)

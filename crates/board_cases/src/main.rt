@@ -1,7 +1,8 @@
-// Runs the cases of the file `stdin` through the row receiver and the capture file, and prints each with what it gives;
-// the file `stdout` has what that is to be. The crate `cases` says how a case is written.
+// Runs the cases of the file `stdin` through the row receiver, the capture file and the log, and prints each with what
+// it gives; the file `stdout` has what that is to be. The crate `cases` says how a case is written.
 mod capturing;
 mod hearing;
+mod logging;
 mod state;
 
 use board::Mode;
@@ -31,7 +32,7 @@ fn operate(case: &[u8], list: &[u8], out: &mut [u8]) -> usize {
         6 => hearing::tried(Mode::Ready, n, case, list),
         7 => hearing::tried(Mode::Counting, n, case, list),
         8 => hearing::tried(Mode::Waiting, n, case, list),
-        _ => 0,
+        _ => logging::operate(n, case, list),
     }
 }
 

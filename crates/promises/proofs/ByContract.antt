@@ -35,6 +35,9 @@ by-contract = record {
   check = λ κs a x left h. h;
   read-capture = λ κs a x left h. h;
   write-capture = λ κs a x left h. h;
+  log-event = λ κs a x left h. h;
+  log-clear = λ κs a x left h. h;
+  log-list = λ κs a x left h. h;
   put-text = λ κs a x left h. h;
   number-size = λ κs a x left h. h;
   put-number = λ κs a x left h. h;
@@ -70,4 +73,7 @@ by-contract = record {
   siengulot-capture-write = λ κs a x left h. h;
   siengulot-encode = λ κs a x left h. h;
   siengulot-decode = λ κs a x left h. h;
+  siengulot-log-event = λ κs a x left h. h;
+  siengulot-log-clear = λ κs a x left h. h;
+  siengulot-log-list = λ κs a x left h. h;
 }

@@ -12,6 +12,9 @@ use Rattle.timecode.proofs.ReadBack.{read-writes-back}
 use Rattle.board.proofs.WellFormedStays.{every-step}
 use Rattle.capture.proofs.RoundTrips.{written-read-back, read-written-back}
 use Rattle.halfcells.proofs.TableHolds.{table-is-the-rule}
+use Rattle.log.proofs.OnceListed.{lists-in-order}
+use Rattle.log.proofs.Calls.{any-sequence}
+use Rattle.log.proofs.KeepsLast.{keeps-last}
 use Rattle.halfcells.proofs.Shown.{words-are-the-wave}
 use Rattle.halfcells.proofs.RoundTrips.{encoded-decodes, decoded-encodes}
 use Rattle.board.specs.Rows.{fresh}
@@ -23,6 +26,7 @@ use Rattle.promises.specs.Demands.{Demands}
 use Rattle.promises.proofs.Reaches.{steady-by-lengths}
 use Rattle.promises.proofs.CountedReturns.{accepted-return, operation-returns, steady-return}
 use Rattle.promises.proofs.Picked.{picked-counts}
+use Rattle.promises.proofs.LastReports.{last-reports}
 use Rattle.promises.proofs.Demand3.{user-wording}
 use Rattle.promises.proofs.Scenes.{running, clocked, link-demand, demand-3, grounds, steady-clocks}
 use Rattle.promises.proofs.StoredPlans.{every-stored-plan, stored-plans-hold}
@@ -64,6 +68,10 @@ demands = record {
     words-encode = decoded-encodes;
     times-read-back = written-reads-back;
     times-write-back = read-writes-back;
+    log-lists = lists-in-order;
+    log-shows = any-sequence;
+    log-keeps-last = keeps-last;
+    log-last-reports = last-reports;
     writes-rows = whole;
   };
   demand-3 = record {

@@ -16,6 +16,7 @@ pub mod AnyHearing
 pub mod Promised
 pub mod GoodCaptures
 pub mod SingleCalls
+pub mod LastReports
 pub mod WholeWay
 pub mod Tried
 pub mod Useless

@@ -8,7 +8,7 @@ use Rattle.measure.specs.Choose.{choose}
 use Rattle.measure.specs.Refusals.{Answer, given, refused, refusedAfter, numberOf, placeOf}
 use Rattle.measure.specs.declared.Refusal.{Refusal}
 use Rattle.measure.specs.declared.Refusal.the-variants.{Setting, Entry, Limit, Room, Cut, Form, Range, NoCount}
-use Rattle.measure.specs.declared.Refusal.the-variants.{NoEdge}
+use Rattle.measure.specs.declared.Refusal.the-variants.{NoEdge, NotLater}
 use Rattle.settings.specs.declared.Judged.{Judged}
 use Rattle.settings.specs.declared.Judged.the-variants as J
 use Rattle.settings.specs.declared.QuietJudged.{QuietJudged}
@@ -64,6 +64,14 @@ use Rattle.capture.specs.declared.Checked.the-variants as K
 use Rattle.capture.specs.declared.Written.{Written}
 use Rattle.capture.specs.declared.Written.the-variants as W
 use Rattle.capture.specs.Answers.{numberSays, headSays, checkedSays, writtenSays}
+use Rattle.log.specs.declared.Logged.{Logged}
+use Rattle.log.specs.declared.Logged.the-variants as L
+use Rattle.log.specs.declared.Cleared.{Cleared}
+use Rattle.log.specs.declared.Cleared.the-variants as Z
+use Rattle.log.specs.declared.Listed.{Listed}
+use Rattle.log.specs.declared.Listed.the-variants as O
+use Rattle.log.specs.Records.{Log}
+use Rattle.log.specs.Answers.{loggedSays, clearedSays, listedSays}
 use Rattle.page.specs.declared.Put.{Put}
 use Rattle.page.specs.declared.Put.the-variants as P
 use Rattle.page.specs.Answers.{putSays}
@@ -106,7 +114,8 @@ refusal number place =
     (choose (eqb number 7) (Form place)
     (choose (eqb number 9) NoCount
     (choose (eqb number 11) (NoEdge place)
-    (Range place))))))))
+    (choose (eqb number 12) NotLater
+    (Range place)))))))))
 
 refusal-back : (f : Refusal) → refusal (numberOf f) (placeOf f) ≡ f
 unfolding refusal
@@ -119,6 +128,7 @@ refusal-back (Form at) = refl
 refusal-back (Range at) = refl
 refusal-back NoCount = refl
 refusal-back (NoEdge at) = refl
+refusal-back NotLater = refl
 
 -- an answer, back from what it says: from a result, from a refusal, and from one that says how much was found
 answer : {A X : Type 0} → (A → X) → (Refusal → X) → (ℕ → ℕ → X) → Answer A → X
@@ -249,6 +259,25 @@ one-meaning = record {
   write-capture = record {
     always = λ κs a. tt;
     once = λ κs a x y left right h h′. leaves written-said (λ l. (tt, (tt, (tt, (tt, (l, tt)))))) h h′;
+  };
+  log-event = record {
+    always = λ κs a. tt;
+    once = λ κs a x y left right h h′.
+        leaves logged-said
+        (λ (l : Log). (
+          tt,
+          (tt, (tt, (tt, (l .numbers, (l .bits, (l .counts, (l .broken, (l .free, tt)))))))),
+        )) h h′;
+  };
+  log-clear = record {
+    always = λ κs a. tt;
+    once = λ κs a x y left right h h′.
+        leaves cleared-said
+        (λ (l : Log). (tt, (l .numbers, (l .bits, (l .counts, (l .broken, (l .free, tt))))))) h h′;
+  };
+  log-list = record {
+    always = λ κs a. tt;
+    once = λ κs a x y left right h h′. leaves listed-said (λ l. (tt, (tt, (l, tt)))) h h′;
   };
   put-text = record {
     always = λ κs a. tt;
@@ -440,6 +469,35 @@ one-meaning = record {
         crosses (λ (p : (ℕ × ℕ × ℕ) × List ℕ). p .0 .0)
         (λ p. (tt, (p .1, (p .0 .1, (p .0 .2, tt))))) h h′;
   };
+  siengulot-log-event = record {
+    always = λ κs a. tt;
+    once = λ κs a x y left right h h′.
+        crosses (λ (p : (ℕ × ℕ) × Log). p .0 .0)
+        (λ p. (
+          tt,
+          (
+            tt,
+            (
+              tt,
+              (
+                tt,
+                (p .1 .numbers, (p .1 .bits, (p .1 .counts, (p .1 .broken, (p .1 .free, (p .0 .1, tt)))))),
+              ),
+            ),
+          ),
+        )) h h′;
+  };
+  siengulot-log-clear = record {
+    always = λ κs a. tt;
+    once = λ κs a x y left right h h′.
+        crosses (λ (p : ℕ × Log). p .0)
+        (λ p. (tt, (p .1 .numbers, (p .1 .bits, (p .1 .counts, (p .1 .broken, (p .1 .free, tt))))))) h h′;
+  };
+  siengulot-log-list = record {
+    always = λ κs a. tt;
+    once = λ κs a x y left right h h′.
+        crosses (λ (p : (ℕ × ℕ) × List ℕ). p .0 .0) (λ p. (tt, (tt, (p .1, (p .0 .1, tt))))) h h′;
+  };
   held-new = λ bytes x y h h′. h ∙ sym h′;
   held-place = λ reader x y h h′. h ∙ sym h′;
   held-next = λ bytes at x y h h′. same number-said h h′;
@@ -467,6 +525,27 @@ one-meaning = record {
     joined-back : (x : Joined) → plain (λ t. I.Plan (t .rows) (record { 0 = t .dropped })) I.Refused (joinedSays x) ≡ x
     joined-back (I.Plan rows cycles) = refl
     joined-back (I.Refused f) = ap I.Refused (refusal-back f)
+
+    logged-back : (x : Logged) → plain L.At L.Refused (loggedSays x) ≡ x
+    logged-back (L.At n) = refl
+    logged-back (L.Refused f) = ap L.Refused (refusal-back f)
+
+    cleared-back : (x : Cleared) → plain (λ done. Z.Done) Z.Refused (clearedSays x) ≡ x
+    cleared-back Z.Done = refl
+    cleared-back (Z.Refused f) = ap Z.Refused (refusal-back f)
+
+    listed-back : (x : Listed) → plain O.Places O.Refused (listedSays x) ≡ x
+    listed-back (O.Places n) = refl
+    listed-back (O.Refused f) = ap O.Refused (refusal-back f)
+
+    logged-said : Said Logged (Answer ℕ)
+    logged-said = record { says = loggedSays; back = plain L.At L.Refused; turns = logged-back }
+
+    cleared-said : Said Cleared (Answer (Unit {0}))
+    cleared-said = record { says = clearedSays; back = plain (λ done. Z.Done) Z.Refused; turns = cleared-back }
+
+    listed-said : Said Listed (Answer ℕ)
+    listed-said = record { says = listedSays; back = plain O.Places O.Refused; turns = listed-back }
 
     encode-back : (x : Encoded) → plain B.Words B.Refused (encodedSays x) ≡ x
     encode-back (B.Words n) = refl

@@ -4,11 +4,12 @@ use mathlib.Core.Path.{_≡_, refl, sym}
 use mathlib.Core.Bool.{Bool, true, false, _&&_, false≢true}
 use mathlib.Core.List.{[], _∷_}
 use denote.Ref.{now}
-use lib.Dec.{eqb, leb}
+use lib.Dec.{eqb, leb, ltb}
 use lib.ListN.{length, take}
 use Rattle.measure.specs.Choose.{choose}
 use Rattle.measure.specs.Ranges.{subcell, sampling, quiet, padMost, bitsMost, rowBits, rowsMost, entriesMost}
 use Rattle.measure.specs.Ranges.{settling as settlingCount, inputMost, wordsMost, rowSettingsFit}
+use Rattle.measure.specs.Ranges.{logRecords, recordBytes}
 use Rattle.measure.specs.Refusals.{Answer, given, refused, numberOf, placeOf}
 use Rattle.settings.specs.Answers.{inRange, judgement, quietJudgement}
 use Rattle.settings.specs.Margins.{Ends, zeroOrMore}
@@ -30,6 +31,8 @@ use Rattle.board.specs.Packed.{number, packed, unpacked}
 use Rattle.board.specs.WellFormed.{runFits, leftFits, foundFits, levelFits, unusedZero, wellFormed}
 use Rattle.board.specs.Answers.{begun, stepped, listened}
 use Rattle.capture.specs.Writing.{captureOf}
+use Rattle.log.specs.Order.{listing, later}
+use Rattle.log.specs.Answers.{logFits, logged, cleared, listed}
 use Rattle.capture.specs.Capture.{then}
 use Rattle.capture.specs.Held.{placeAfter}
 use Rattle.capture.specs.Answers.{summary, checked, readBack, written}
@@ -43,6 +46,7 @@ use Rattle.siengulot.specs.Receivers.{named, numbersFit, receiverLent, brought,
 use Rattle.siengulot.specs.Receivers.{listenedLent, wellFormedLent}
 use Rattle.siengulot.specs.Picking.{pickedOver}
 use Rattle.siengulot.specs.StoredPlans.{joinedOver}
+use Rattle.siengulot.specs.Logs.{loggedOver, clearedOver, leaving}
 use Rattle.promises.specs.Promised.{good, first, Answered, Tells, setting, limit, entries, room}
 use Rattle.promises.specs.GoodInput as Good
 use Rattle.promises.specs.FromC.{Demand1FromC}
@@ -65,6 +69,7 @@ picked a b g k e answer p h =
 pub answered : Demand1
 unfolding judgement quietJudgement sentMessage sentPlan readPlan encoded decoded smoothed warped warpedByLengths settled
     countedBits readTimes writeTime begun wellFormed stepped listened checked readBack written output number packed
+    logged cleared listed
 answered = record {
   judge = λ a b g k e. within (inRange a b g k e) 1 0 (done refl);
   judge-quiet = λ a b g k e Q p1. within (inRange a b g k e && quiet Q && leb p1 padMost) 1 0 (done refl);
@@ -146,6 +151,13 @@ answered = record {
       (laid (captureOf k n Q reads) output)));
   encode = λ bytes output. past (limit wordsMost bytes) (laid (wordsOf bytes) output);
   decode = λ words output. past (limit wordsMost words) (past (Good.edges words) (laid (bytesOf words) output));
+  log-event = λ number bits count broken log.
+      within (logFits log && eqb (length bits) recordBytes && leb count bitsMost) 1 0
+      (within (later (log .numbers) (log .free) number logRecords) 12 0 (done refl));
+  log-clear = λ place log. within (logFits log && ltb place logRecords) 1 0 (done refl);
+  log-list = λ numbers free output.
+      within (eqb (length numbers) logRecords && eqb (length free) logRecords) 1 0
+      (laid (listing numbers free) output);
   put-heading = laid headingLine;
   put-row = λ place n bits. laid (eventLine place (row (take n (unpacked 8 bits))));
   put-broken = λ place found. laid (eventLine place (broken found));
@@ -187,6 +199,10 @@ answered-from-c = record {
   capture-write = λ k n Q reads output. across (crossing crossed) (answered .write-capture k n Q reads output);
   encode = λ bytes output. across (crossing crossed) (answered .encode bytes output);
   decode = λ words output. across (crossing crossed) (answered .decode words output);
+  log-event = λ number bits count broken log.
+      across (leaving loggedOver) (answered .log-event number bits count broken log);
+  log-clear = λ place log. across (leaving clearedOver) (answered .log-clear place log);
+  log-list = λ numbers free output. across (crossing loggedOver) (answered .log-list numbers free output);
 }
   where
     both : (stands well : Bool)

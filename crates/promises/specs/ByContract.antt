@@ -24,6 +24,7 @@ use Rattle.board.specs.Packed.{unpacked}
 use Rattle.board.specs.WellFormed.{wellFormed}
 use Rattle.board.specs.Answers.{begun, startSays, stepped, steppedSays, listened, listenedSays}
 use Rattle.capture.specs.Capture.{header}
+use Rattle.log.specs.Answers.{logged, loggedSays, cleared, clearedSays, listed, listedSays}
 use Rattle.capture.specs.Answers.{headSays, checked, readBack, checkedSays, written, writtenSays}
 use Rattle.timecode.specs.Answers.{readTimes, writeTime, readSays as timesSays, writtenSays as wordSays}
 use Rattle.text.specs.Decimal.{decimal, signedDecimal}
@@ -34,6 +35,7 @@ use Rattle.siengulot.specs.Crossing.{crossed, crossedBits, crossing, judgedThre
 use Rattle.siengulot.specs.Receivers.{begunLent, steppedLent, listenedLent, wellFormedLent}
 use Rattle.siengulot.specs.Picking.{PickCrosses}
 use Rattle.siengulot.specs.StoredPlans.{joinedOver}
+use Rattle.siengulot.specs.Logs.{loggedOver, clearedOver, leaving}
 use Rattle.measure.proofs as Measure
 use Rattle.settings.proofs as Settings
 use Rattle.sender.proofs as Sender
@@ -44,6 +46,7 @@ use Rattle.counted.proofs as Counted
 use Rattle.board.proofs as Board
 use Rattle.capture.proofs as Capture
 use Rattle.timecode.proofs as Timecode
+use Rattle.log.proofs as Log
 use Rattle.text.proofs as Text
 use Rattle.page.proofs as Page
 use Rattle.siengulot.proofs as C
@@ -169,6 +172,40 @@ pub record ByContract : Type 0 where
   pub write-capture : Says Capture.write_capture.ended Capture.write_capture.Reads.Post
       λ κs (k, (n, (Q, (reads, (out, _))))) x (_, (_, (_, (_, (out′, _))))).
       written (k .0) n (Q .0) (now reads) (now out) ≡ (writtenSays x, out′)
+  -- log
+  pub log-event : Says Log.log_event.ended Log.log_event.Reads.Post
+      λ κs (number, (bytes, (count, (mark, (numbers, (bits, (counts, (marks, (free, _))))))))) x
+      (_, (_, (_, (_, (numbers′, (bits′, (counts′, (broken′, (free′, _))))))))).
+      logged number (now bytes) count mark
+      (record {
+        numbers = now numbers;
+        bits = now bits;
+        counts = now counts;
+        broken = now marks;
+        free = now free;
+      })
+      ≡ (
+        loggedSays x,
+        record { numbers = numbers′; bits = bits′; counts = counts′; broken = broken′; free = free′ },
+      )
+  pub log-clear : Says Log.clear.ended Log.clear.Reads.Post
+      λ κs (place, (numbers, (bits, (counts, (marks, (free, _)))))) x
+      (_, (numbers′, (bits′, (counts′, (broken′, (free′, _)))))).
+      cleared place
+      (record {
+        numbers = now numbers;
+        bits = now bits;
+        counts = now counts;
+        broken = now marks;
+        free = now free;
+      })
+      ≡ (
+        clearedSays x,
+        record { numbers = numbers′; bits = bits′; counts = counts′; broken = broken′; free = free′ },
+      )
+  pub log-list : Says Log.list.ended Log.list.Reads.Post
+      λ κs (numbers, (free, (places, _))) x (_, (_, (places′, _))).
+      listed (now numbers) (now free) (now places) ≡ (listedSays x, places′)
   -- text
   pub put-text : Says Text.put_text.ended Text.put_text.Reads.Post
       λ κs (out, (at, (text, _))) x (out′, _).
@@ -309,3 +346,35 @@ pub record ByContract : Type 0 where
   pub siengulot-decode : Says C.siengulot_decode.ended C.siengulot_decode.Reads.Post
       λ κs (words, (out, (place, (count, _)))) x (_, (out′, (place′, (count′, _)))).
       crossing crossed (decoded (now words) (now out)) ≡ ((x, place′, count′), out′)
+  pub siengulot-log-event : Says C.siengulot_log_event.ended C.siengulot_log_event.Reads.Post
+      λ κs (number, (bytes, (count, (mark, (numbers, (bits, (counts, (marks, (free, (taken, _)))))))))) x
+      (_, (_, (_, (_, (numbers′, (bits′, (counts′, (broken′, (free′, (taken′, _)))))))))).
+      leaving loggedOver
+      (logged number (now bytes) count mark
+      (record {
+        numbers = now numbers;
+        bits = now bits;
+        counts = now counts;
+        broken = now marks;
+        free = now free;
+      }))
+      ≡ (
+        (x, taken′),
+        record { numbers = numbers′; bits = bits′; counts = counts′; broken = broken′; free = free′ },
+      )
+  pub siengulot-log-clear : Says C.siengulot_log_clear.ended C.siengulot_log_clear.Reads.Post
+      λ κs (place, (numbers, (bits, (counts, (marks, (free, _)))))) x
+      (_, (numbers′, (bits′, (counts′, (broken′, (free′, _)))))).
+      leaving clearedOver
+      (cleared place
+      (record {
+        numbers = now numbers;
+        bits = now bits;
+        counts = now counts;
+        broken = now marks;
+        free = now free;
+      }))
+      ≡ (x, record { numbers = numbers′; bits = bits′; counts = counts′; broken = broken′; free = free′ })
+  pub siengulot-log-list : Says C.siengulot_log_list.ended C.siengulot_log_list.Reads.Post
+      λ κs (numbers, (free, (places, (count, _)))) x (_, (_, (places′, (count′, _)))).
+      crossing loggedOver (listed (now numbers) (now free) (now places)) ≡ ((x, count′), places′)

@@ -8,6 +8,7 @@ use mathlib.Core.Bool.{true, false}
 use mathlib.Core.List.{List}
 use denote.Ref.{RefT, now}
 use lib.ListN.{length, take}
+use Rattle.measure.specs.Choose.{choose}
 use Rattle.measure.specs.Ranges.{rowSettingsFit}
 use Rattle.measure.specs.Lists.{onto}
 use Rattle.measure.specs.Refusals.{Answer, given, refused, numberOf, placeOf}
@@ -52,6 +53,12 @@ use Rattle.capture.specs.declared.held.CaptureReader.{CaptureReader}
 use Rattle.timecode.specs.Times.{wordOf}
 use Rattle.timecode.specs.Answers.{listedInto, readTimes, writeTime}
 use Rattle.timecode.specs.RoundTrips.{WrittenReadsBack as TimesReadBack, ReadWritesBack as TimesWriteBack}
+use Rattle.log.specs.Records.{Log, isFree, put, eventRecord, freeRecord}
+use Rattle.log.specs.Order.{listing, takes}
+use Rattle.log.specs.ReadOrder.{ListsInOrder}
+use Rattle.log.specs.Answers.{logged, cleared, listed}
+use Rattle.log.specs.Sequence.{AnySequence}
+use Rattle.log.specs.LastEvents.{KeepsLast}
 use Rattle.page.specs.Lines.{headingLine, eventLine, endLine, refusedLine, page, captureSettings, captureReads, output}
 use Rattle.page.specs.Walk.{Whole}
 use Rattle.promises.specs.GoodInput as Good
@@ -69,6 +76,7 @@ use Rattle.promises.specs.Demand3.{SteadyClocksAreACase}
 use Rattle.promises.specs.Ready.{Ready, ReadyHolds}
 use Rattle.promises.specs.StoredPlans.{EveryStoredPlan, StoredPlansHold}
 use Rattle.promises.specs.Hearing.{Caller, hearing, Hears}
+use Rattle.promises.specs.Logged.{LastReports}
 use Rattle.promises.specs.WholeWay.{AcceptedFits, WholeWayHolds}
 
 -- D1: whatever comes in is answered. Good input gets its very result, and every lent entry past it is as it was. Bad
@@ -150,6 +158,18 @@ pub record Demand1 : Type 0 where
       → Fills (Good.encode bytes output) (wordsOf bytes) output (encoded bytes output)
   pub decode : (words output : List ℕ)
       → Fills (Good.decode words output) (bytesOf words) output (decoded words output)
+  -- the log: the new record stands at the place that is taken; a record in use is freed; a refusal leaves the log
+  pub log-event : (read : ℕ) (bits : List ℕ) (count broken : ℕ) (log : Log)
+      → let taken = takes (log .numbers) (log .free) in
+      Answered (Good.logEvent read bits count log) (logged read bits count broken log)
+      (given taken, put log taken (eventRecord read bits count broken))
+      (λ number place. (refused number place, log))
+  pub log-clear : (at : ℕ) (log : Log)
+      → Answered (Good.logClear at log) (cleared at log)
+      (given tt, choose (isFree log at) log (put log at freeRecord))
+      (λ number place. (refused number place, log))
+  pub log-list : (numbers free output : List ℕ)
+      → Fills (Good.logList numbers free output) (listing numbers free) output (listed numbers free output)
   -- the lines of a page, each at the front of a lent output
   pub put-heading : (output : List ℕ) → Puts headingLine output
   pub put-row : (place n : ℕ) (bits output : List ℕ) → Puts (eventLine place (row (take n (unpacked 8 bits)))) output
@@ -199,6 +219,12 @@ pub record Demand2 : Type 0 where
   -- time code both ways
   pub times-read-back : TimesReadBack
   pub times-write-back : TimesWriteBack
+  -- the log lists every record in use once, the oldest first; it shows what it was given, whatever calls come; with no
+  -- clearing the last 64 events, of a receiver's too
+  pub log-lists : ListsInOrder
+  pub log-shows : AnySequence
+  pub log-keeps-last : KeepsLast
+  pub log-last-reports : LastReports
   -- the rows program, line after line, writes the whole of its output
   pub writes-rows : Whole
 
@@ -225,7 +251,7 @@ pub record Demand3Met : Type 0 where
   pub every-stored-plan : EveryStoredPlan
   pub stored-plans : StoredPlansHold
 
--- D1, D2, D3: what the contracts say, and the three demands, the first also of the twenty-five entry points for C
+-- D1, D2, D3: what the contracts say, and the three demands, the first also of the twenty-eight entry points for C
 pub record Demands : Type 0 where
   pub contracts : ByContract
   pub one-meaning : OneMeaning

@@ -1,9 +1,10 @@
--- Demand 1 of the twenty-five entry points for C. The tests are those of the operations. What crosses is a number, 0
+-- Demand 1 of the twenty-eight entry points for C. The tests are those of the operations. What crosses is a number, 0
 -- for no refusal, and what is left behind each pointer.
 use Prim.Native.Nat.{ℕ}
 use mathlib.Core.List.{List, [], _∷_}
 use lib.IntN.{ℤ}
 use lib.ListN.{length, replicate}
+use Rattle.measure.specs.Choose.{choose}
 use Rattle.measure.specs.Lists.{onto}
 use Rattle.settings.specs.Margins.{Ends, m1, m2, m3, m4, m5, accepted, quietAccepted}
 use Rattle.settings.specs.Answers.{judgement, quietJudgement}
@@ -27,6 +28,9 @@ use Rattle.board.specs.Packed.{settingsOf, stateOf}
 use Rattle.board.specs.WellFormed.{wellFormed}
 use Rattle.board.specs.Answers.{reached, begun, levelsOf, toEvent}
 use Rattle.capture.specs.Writing.{captureOf}
+use Rattle.log.specs.Records.{Log, isFree, put, eventRecord, freeRecord}
+use Rattle.log.specs.Order.{listing, takes}
+use Rattle.log.specs.Answers.{logged, cleared, listed}
 use Rattle.capture.specs.Answers.{checked, readBack, written}
 use Rattle.timecode.specs.Times.{wordOf}
 use Rattle.timecode.specs.Answers.{listedInto, readTimes, writeTime}
@@ -35,6 +39,7 @@ use Rattle.siengulot.specs.Receivers.{Lent, Reply, named, numbersFit, receiverL
 use Rattle.siengulot.specs.Receivers.{steppedLent, listenedLent, wellFormedLent}
 use Rattle.siengulot.specs.Picking.{PickCrosses}
 use Rattle.siengulot.specs.StoredPlans.{joinedOver}
+use Rattle.siengulot.specs.Logs.{loggedOver, clearedOver, leaving}
 use Rattle.promises.specs.GoodInput as Good
 use Rattle.promises.specs.Promised.{Answered, FillsFromC, setting}
 
@@ -132,3 +137,17 @@ pub record Demand1FromC : Type 0 where
       → FillsFromC (Good.encode bytes output) (wordsOf bytes) output (crossing crossed (encoded bytes output))
   pub decode : (words output : List ℕ)
       → FillsFromC (Good.decode words output) (bytesOf words) output (crossing crossed (decoded words output))
+  -- H16: the log: the number, and the place taken or the count, which is 0 with a refusal; a refusal leaves the lists
+  pub log-event : (read : ℕ) (bits : List ℕ) (count broken : ℕ) (log : Log)
+      → let taken = takes (log .numbers) (log .free) in
+      Answered (Good.logEvent read bits count log) (leaving loggedOver (logged read bits count broken log))
+      ((0, taken), put log taken (eventRecord read bits count broken))
+      (λ number place. ((number, 0), log))
+  pub log-clear : (at : ℕ) (log : Log)
+      → Answered (Good.logClear at log) (leaving clearedOver (cleared at log))
+      (0, choose (isFree log at) log (put log at freeRecord))
+      (λ number place. (number, log))
+  pub log-list : (numbers free output : List ℕ)
+      → Answered (Good.logList numbers free output) (crossing loggedOver (listed numbers free output))
+      ((0, length (listing numbers free)), onto (listing numbers free) output)
+      (λ number place. ((number, 0), output))

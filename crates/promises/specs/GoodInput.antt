@@ -3,11 +3,12 @@
 use Prim.Native.Nat.{ℕ, zero, suc, _+_, _*_}
 use mathlib.Core.Bool.{Bool, true, false, _&&_, not}
 use mathlib.Core.List.{List, [], _∷_, _++_}
-use lib.Dec.{eqb, leb}
+use lib.Dec.{eqb, leb, ltb}
 use lib.ListN.{length, drop}
 use Rattle.measure.specs.Choose.{choose, between}
 use Rattle.measure.specs.Ranges.{subcell, settling as settlingCount, sampling, quiet, padMost, bitsMost}
 use Rattle.measure.specs.Ranges.{rowBits, rowsMost, entriesMost, captureMost, inputMost, wordsMost, rowSettingsFit}
+use Rattle.measure.specs.Ranges.{logRecords, recordBytes}
 use Rattle.measure.specs.Lists.{firstAbove, someAbove}
 use Rattle.settings.specs.Margins.{Ends, zeroOrMore}
 use Rattle.settings.specs.Answers.{endsFit}
@@ -32,6 +33,9 @@ use Rattle.capture.specs.Capture.{Heading, Capture, totalMost, readsOfRuns}
 use Rattle.capture.specs.Writing.{captureOf}
 use Rattle.timecode.specs.Words.{wordPlaces}
 use Rattle.timecode.specs.Times.{timeFits, wordOf}
+use Rattle.log.specs.Records.{Log}
+use Rattle.log.specs.Order.{listing, later}
+use Rattle.log.specs.Answers.{logFits}
 use Rattle.siengulot.specs.Receivers.{Lent, named, numbersFit, receiverLent}
 use Rattle.promises.specs.Promised.{Test, setting, limit, entries, entry, room}
 
@@ -329,6 +333,26 @@ writeCapture k n Q reads output =
     ∷ entries 1 reads
     ∷ room (length (captureOf k n Q reads)) output
     ∷ []
+
+-- R12: a read number is above those of all records in use
+abbrev pub laterThanAll : (number : ℕ) → Log → Test
+laterThanAll number log =
+    record { number = 12; place = 0; failed = not (later (log .numbers) (log .free) number logRecords) }
+
+-- R80: logging an event
+abbrev pub logEvent : (number : ℕ) (bits : List ℕ) (count : ℕ) → Log → List Test
+logEvent number bits count log =
+    setting (logFits log && eqb (length bits) recordBytes && leb count bitsMost) ∷ laterThanAll number log ∷ []
+
+-- R81: clearing a record
+abbrev pub logClear : (place : ℕ) → Log → List Test
+logClear place log = setting (logFits log && ltb place logRecords) ∷ []
+
+-- R82: listing the records in use
+abbrev pub logList : (numbers free output : List ℕ) → List Test
+logList numbers free output =
+    setting (eqb (length numbers) logRecords && eqb (length free) logRecords)
+    ∷ room (length (listing numbers free)) output ∷ []
 
 -- R70: encoding to words of half cells
 abbrev pub encode : (bytes output : List ℕ) → List Test

@@ -5,6 +5,7 @@ pub mod Demand3
 pub mod Ready
 pub mod StoredPlans
 pub mod Hearing
+pub mod Logged
 pub mod Promised
 pub mod GoodInput
 pub mod FromC

@@ -23,6 +23,7 @@ use Rattle.counted.proofs as Counted
 use Rattle.board.proofs as Board
 use Rattle.capture.proofs as Capture
 use Rattle.timecode.proofs as Timecode
+use Rattle.log.proofs as Log
 use Rattle.text.proofs as Text
 use Rattle.page.proofs as Page
 use Rattle.siengulot.proofs as C
@@ -94,6 +95,10 @@ pub record OneMeaning : Type 0 where
   pub check : One Capture.check.ended Capture.check.Reads.Asked Capture.check.Reads.Post
   pub read-capture : One Capture.read_capture.ended Capture.read_capture.Reads.Asked Capture.read_capture.Reads.Post
   pub write-capture : One Capture.write_capture.ended Capture.write_capture.Reads.Asked Capture.write_capture.Reads.Post
+  -- log
+  pub log-event : One Log.log_event.ended Log.log_event.Reads.Asked Log.log_event.Reads.Post
+  pub log-clear : One Log.clear.ended Log.clear.Reads.Asked Log.clear.Reads.Post
+  pub log-list : One Log.list.ended Log.list.Reads.Asked Log.list.Reads.Post
   -- text
   pub put-text : One Text.put_text.ended Text.put_text.Reads.Asked Text.put_text.Reads.Post
   pub number-size : One Text.number_size.ended Text.number_size.Reads.Asked Text.number_size.Reads.Post
@@ -146,6 +151,12 @@ pub record OneMeaning : Type 0 where
       One C.siengulot_capture_write.ended C.siengulot_capture_write.Reads.Asked C.siengulot_capture_write.Reads.Post
   pub siengulot-encode : One C.siengulot_encode.ended C.siengulot_encode.Reads.Asked C.siengulot_encode.Reads.Post
   pub siengulot-decode : One C.siengulot_decode.ended C.siengulot_decode.Reads.Asked C.siengulot_decode.Reads.Post
+  pub siengulot-log-event :
+      One C.siengulot_log_event.ended C.siengulot_log_event.Reads.Asked C.siengulot_log_event.Reads.Post
+  pub siengulot-log-clear :
+      One C.siengulot_log_clear.ended C.siengulot_log_clear.Reads.Asked C.siengulot_log_clear.Reads.Post
+  pub siengulot-log-list :
+      One C.siengulot_log_list.ended C.siengulot_log_list.Reads.Asked C.siengulot_log_list.Reads.Post
   -- The exceptions: the held reader's `capture::held::new`, `capture::held::place`, `capture::held::next` and
   -- `capture::held::advance` take or hand on a struct that holds a reference. They are proved by hand, and for such a
   -- function the check makes no clause that others can name. These lines repeat their equations.

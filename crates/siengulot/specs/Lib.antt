@@ -1,4 +1,5 @@
 pub mod Crossing
 pub mod Picking
 pub mod StoredPlans
+pub mod Logs
 pub mod Receivers

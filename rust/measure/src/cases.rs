@@ -3,6 +3,7 @@
 use crate::ends;
 use crate::inputs::{self, A, B, K, LEAD, N, Q};
 use crate::library::*;
+use crate::logs;
 use crate::numbers::{at, numbers_of, NUMBERS};
 use crate::picking;
 use crate::words;
@@ -136,6 +137,34 @@ pub fn all() -> Vec<Case> {
             "1.0",
             [100, 1_000],
             words::decode_beside_whole_words,
+        ),
+        case(
+            "log an event, no record free",
+            "call",
+            "1.2",
+            [1_000, 10_000],
+            logs::logging,
+        ),
+        case(
+            "log an event, all records free, and clear it",
+            "two calls",
+            "1.2",
+            [1_000, 10_000],
+            logs::logging_and_clearing,
+        ),
+        case(
+            "list 64 records, in turn",
+            "record",
+            "1.2",
+            [100, 1_000],
+            logs::listing_in_turn,
+        ),
+        case(
+            "list 64 records, in any order",
+            "record",
+            "1.2",
+            [100, 1_000],
+            logs::listing_in_any_order,
         ),
         case("smooth, g 1", "cycle", "1.1", SIZES, |size| smooth(1, size)),
         case("smooth, g 8", "cycle", "1.1", SIZES, |size| smooth(8, size)),

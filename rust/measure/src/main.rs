@@ -10,6 +10,7 @@ mod ends;
 mod inputs;
 #[path = "../../differential/library.rs"]
 mod library;
+mod logs;
 #[path = "../../differential/numbers.rs"]
 mod numbers;
 mod picking;

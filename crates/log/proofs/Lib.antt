@@ -1,0 +1,11 @@
+pub mod Older
+pub mod InOrder
+pub mod Shifted
+pub mod Sized
+pub mod Listing
+pub mod Changed
+pub mod PutLaws
+pub mod InUse
+pub mod OnceListed
+pub mod Calls
+pub mod KeepsLast
