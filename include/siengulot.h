@@ -346,9 +346,10 @@ size_t siengulot_time_write(size_t hours, size_t minutes, size_t seconds, size_t
  *
  * A receiver is well formed if all of this holds of its numbers and bits, which are named below:
  * - k is 1 to 511, n 1 to 1,024 and Q 2 to 8,191, and the mode is one of the four;
- * - the run is Q in ready, and below Q in every other mode;
+ * - the run is Q in ready, and below Q in every other mode; in counting and waiting it is at least 1;
+ * - the run's level is 0 or 1; where the run is 0 it is 1;
  * - left is 1 to k in counting, and 0 in every other mode;
- * - the level is 0 or 1; in hunting and ready it is 1;
+ * - the level is 0 or 1; in hunting it is 1, and in ready it is the run's level;
  * - found is below n; in hunting and ready it is 0;
  * - every place of the bits from `found` on holds 0.
  * One that was started without a refusal, and is changed by these functions alone, always is.
@@ -356,21 +357,22 @@ size_t siengulot_time_write(size_t hours, size_t minutes, size_t seconds, size_t
 
 /* Where each number of a receiver stands in `numbers`. */
 enum siengulot_number {
-    SIENGULOT_K = 0,     /* the sampling count, in reads */
-    SIENGULOT_N = 1,     /* the bits of a row */
-    SIENGULOT_Q = 2,     /* the quiet count, in reads */
-    SIENGULOT_MODE = 3,  /* a siengulot_mode; a greater number is no mode, and the receiver is then not well formed */
-    SIENGULOT_RUN = 4,   /* the latest high reads in a row, counted up to Q */
-    SIENGULOT_LEFT = 5,  /* in counting the reads up to the sample, otherwise 0 */
-    SIENGULOT_LEVEL = 6, /* in counting the level of the mark, in waiting that of the sample, otherwise 1 */
-    SIENGULOT_FOUND = 7, /* how many bits of a row in progress have been found */
-    SIENGULOT_NUMBERS = 8
+    SIENGULOT_K = 0,         /* the sampling count, in reads */
+    SIENGULOT_N = 1,         /* the bits of a row */
+    SIENGULOT_Q = 2,         /* the quiet count, in reads */
+    SIENGULOT_MODE = 3,      /* a siengulot_mode; a greater number is no mode, and the receiver is then not well formed */
+    SIENGULOT_RUN = 4,       /* how many of the latest reads were equal, counted up to Q */
+    SIENGULOT_RUN_LEVEL = 5, /* the level of those reads */
+    SIENGULOT_LEFT = 6,      /* in counting the reads up to the sample, otherwise 0 */
+    SIENGULOT_LEVEL = 7,     /* in counting the level of the mark, in waiting that of the sample, in ready that of the quiet, in hunting 1 */
+    SIENGULOT_FOUND = 8,     /* how many bits of a row in progress have been found */
+    SIENGULOT_NUMBERS = 9
 };
 
 /* What a receiver is doing. */
 enum siengulot_mode {
-    SIENGULOT_HUNTING = 0,  /* until Q high reads have come one after another */
-    SIENGULOT_READY = 1,    /* they have, and the next low read is the mark of a row's first bit */
+    SIENGULOT_HUNTING = 0,  /* until Q equal reads have come one after another, high or low */
+    SIENGULOT_READY = 1,    /* they have, and the next read of the other level is the mark of a row's first bit */
     SIENGULOT_COUNTING = 2, /* in a row, from a mark to its sample */
     SIENGULOT_WAITING = 3   /* in a row, from a sample to the next mark */
 };
@@ -379,7 +381,7 @@ enum siengulot_mode {
 enum siengulot_event {
     SIENGULOT_NOTHING = 0,
     SIENGULOT_ROW = 1,   /* a row is delivered */
-    SIENGULOT_BROKEN = 2 /* a row in progress was broken off by Q high reads, and is forgotten */
+    SIENGULOT_BROKEN = 2 /* a row in progress was broken off by Q equal reads, and is forgotten */
 };
 
 /* Bytes that hold the bits of a row. Bit i stands in byte i / 8, at weight 2 to the power i % 8; places beyond the row's last bit hold 0. */

@@ -60,6 +60,7 @@ impl State {
             q: self.numbers[at::Q],
             mode: *modes.get(self.numbers[at::MODE])?,
             run: self.numbers[at::RUN],
+            run_level: u8::try_from(self.numbers[at::RUN_LEVEL]).ok()?,
             left: self.numbers[at::LEFT],
             level: u8::try_from(self.numbers[at::LEVEL]).ok()?,
             found: self.numbers[at::FOUND],
@@ -1128,6 +1129,9 @@ impl Bench {
         }
         if state.numbers[at::LEVEL] > 255 {
             self.meets(operation, "a level that is no byte");
+        }
+        if state.numbers[at::RUN_LEVEL] > 255 {
+            self.meets(operation, "a run's level that is no byte");
         }
     }
 

@@ -512,17 +512,22 @@ impl Rng {
         let progress = matches!(mode, Mode::Counting | Mode::Waiting);
         let run = match (mode, self.below(3)) {
             (Mode::Ready, _) => q,
-            (_, 0) => 0,
+            (_, 0) => usize::from(progress),
             (_, 1) => q - 1,
-            _ => self.below(q),
+            _ => self.within(1, q - 1),
         };
+        let run_level = if run == 0 { 1 } else { self.below(2) as u8 };
         let left = match (mode, self.below(3)) {
             (Mode::Counting, 0) => 1,
             (Mode::Counting, 1) => k,
             (Mode::Counting, _) => self.within(1, k),
             _ => 0,
         };
-        let level = if progress { self.below(2) as u8 } else { 1 };
+        let level = match mode {
+            Mode::Hunting => 1,
+            Mode::Ready => run_level,
+            Mode::Counting | Mode::Waiting => self.below(2) as u8,
+        };
         let found = match (progress, self.below(3)) {
             (false, _) => 0,
             (_, 0) => n - 1,
@@ -538,6 +543,7 @@ impl Rng {
             q,
             mode,
             run,
+            run_level,
             left,
             level,
             found,
@@ -563,6 +569,7 @@ impl Rng {
             (at::Q, &[MIN_QUIET - 1, MIN_QUIET, MAX_QUIET, MAX_QUIET + 1]),
             (at::MODE, &[0, 1, 2, 3, 4, 5, 256, 1 << 32, usize::MAX]),
             (at::RUN, &[0, q - 1, q, q + 1]),
+            (at::RUN_LEVEL, &[0, 1, 2, 255, 256, 257, 1 << 32, usize::MAX]),
             (at::LEFT, &[0, 1, k, k + 1]),
             (at::LEVEL, &[0, 1, 2, 255, 256, 257, 1 << 32, usize::MAX]),
             (at::FOUND, &[0, 1, n - 1, n, n + 1]),

@@ -89,7 +89,11 @@ const MUST: [(&str, &[&str], &[&str]); 28] = [
     (
         "well_formed",
         &["0", "1"],
-        &["no mode", "a level that is no byte"],
+        &[
+            "no mode",
+            "a run's level that is no byte",
+            "a level that is no byte",
+        ],
     ),
     (
         "step",
@@ -101,6 +105,7 @@ const MUST: [(&str, &[&str], &[&str]); 28] = [
             "a row of 1,024 bits",
             "a row broken after 1,023 bits",
             "no mode",
+            "a run's level that is no byte",
             "a level that is no byte",
         ],
     ),
@@ -114,6 +119,7 @@ const MUST: [(&str, &[&str], &[&str]); 28] = [
             "a row of 1,024 bits",
             "a row broken after 1,023 bits",
             "no mode",
+            "a run's level that is no byte",
             "a level that is no byte",
             "a bad read after an event",
         ],
@@ -592,7 +598,7 @@ fn longest_lists(bench: &mut Bench) {
 }
 
 /// Rows of as many bits as there may be, and rows broken off one bit before that, through step and listen. With k 1 a cell is two reads: a mark, and a
-/// sample, which is not the mark's level for a 1. So no more than two high reads come one after another, and Q is 3.
+/// sample, which is not the mark's level for a 1. So no more than two equal reads come one after another, and Q is 3.
 fn longest_rows(bench: &mut Bench) {
     let mut rows = vec![vec![1; MAX_BITS], bench.rng.entries(MAX_BITS, 1)];
     for alone in [0, 1, 511, 512, MAX_BITS - 2, MAX_BITS - 1] {

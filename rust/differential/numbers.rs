@@ -9,13 +9,14 @@ pub mod at {
     pub const Q: usize = 2;
     pub const MODE: usize = 3;
     pub const RUN: usize = 4;
-    pub const LEFT: usize = 5;
-    pub const LEVEL: usize = 6;
-    pub const FOUND: usize = 7;
+    pub const RUN_LEVEL: usize = 5;
+    pub const LEFT: usize = 6;
+    pub const LEVEL: usize = 7;
+    pub const FOUND: usize = 8;
 }
 
 /// How many there are.
-pub const NUMBERS: usize = 8;
+pub const NUMBERS: usize = 9;
 
 pub fn numbers_of(receiver: &Receiver) -> [usize; NUMBERS] {
     let mut numbers = [0; NUMBERS];
@@ -29,6 +30,7 @@ pub fn numbers_of(receiver: &Receiver) -> [usize; NUMBERS] {
         Mode::Waiting => 3,
     };
     numbers[at::RUN] = receiver.run;
+    numbers[at::RUN_LEVEL] = receiver.run_level.into();
     numbers[at::LEFT] = receiver.left;
     numbers[at::LEVEL] = receiver.level.into();
     numbers[at::FOUND] = receiver.found;

@@ -9,7 +9,7 @@ use siengulot_plain::log::{self, Log};
 use siengulot_plain::settings::RECORDS;
 use siengulot_plain::{capture, Refusal};
 
-/// The eight numbers of a state, and its bytes that are not 0, each with its place.
+/// The nine numbers of a state, and its bytes that are not 0, each with its place.
 fn shown(state: &Receiver) -> String {
     let mode = match state.mode {
         Mode::Hunting => 0,
@@ -17,13 +17,18 @@ fn shown(state: &Receiver) -> String {
         Mode::Counting => 2,
         Mode::Waiting => 3,
     };
-    let level = usize::from(state.level);
-    let last = [mode, state.run, state.left, level, state.found];
+    let (run_level, level) = (state.run_level.into(), state.level.into());
+    let last = [mode, state.run, run_level, state.left, level, state.found];
     let mut told = format!(" state {} {} {}", state.k, state.n, state.q);
     for number in last {
         told += &format!(" {}", number);
     }
-    for (place, byte) in state.bits.iter().enumerate().filter(|&(_, &byte)| byte != 0) {
+    for (place, byte) in state
+        .bits
+        .iter()
+        .enumerate()
+        .filter(|&(_, &byte)| byte != 0)
+    {
         told += &format!(" byte {} {}", place, byte);
     }
     told
@@ -104,8 +109,8 @@ fn listen(mut state: Receiver, reads: &[u8]) -> String {
 
 /// A state in this mode takes the first read, if there is one, and listens to all.
 fn tried(mode: Mode, case: &Case, reads: &[u8]) -> String {
-    let names = ["k", "n", "Q", "run", "left", "level", "found"];
-    let [k, n, q, run, left, level, found] = case.numbers(names);
+    let names = ["k", "n", "Q", "run", "runlevel", "left", "level", "found"];
+    let [k, n, q, run, run_level, left, level, found] = case.numbers(names);
     let mut bits = [0; ROW_BYTES];
     for (byte, said) in bits.iter_mut().zip(case.number_list(1)) {
         *byte = u8::try_from(said).unwrap();
@@ -116,6 +121,7 @@ fn tried(mode: Mode, case: &Case, reads: &[u8]) -> String {
         q,
         mode,
         run,
+        run_level: u8::try_from(run_level).unwrap(),
         left,
         level: u8::try_from(level).unwrap(),
         found,

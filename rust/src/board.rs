@@ -10,9 +10,9 @@ pub const ROW_BYTES: usize = 128;
 /// What the receiver is doing.
 #[derive(Clone, Copy, Debug, PartialEq, Eq)]
 pub enum Mode {
-    /// Not enough high reads yet to tell where a row starts.
+    /// Not enough equal reads yet to tell where a row starts.
     Hunting,
-    /// The quiet has been heard; the next low read opens a row.
+    /// The quiet has been heard; the next read that breaks it opens a row.
     Ready,
     /// In a row, between a mark and its sample.
     Counting,
@@ -50,11 +50,13 @@ pub struct Receiver {
     pub q: usize,
     /// What the receiver is doing.
     pub mode: Mode,
-    /// Latest high reads in a row, counted no further than `q`.
+    /// Latest equal reads, counted no further than `q`.
     pub run: usize,
+    /// Level of those reads.
+    pub run_level: u8,
     /// Reads left until the sample; 0 unless counting.
     pub left: usize,
-    /// Level of the mark when counting, of the last sample when waiting, otherwise 1.
+    /// Level of the mark when counting, of the last sample when waiting, of the quiet when ready, and 1 when hunting.
     pub level: u8,
     /// Bits found of the row in progress.
     pub found: usize,
@@ -71,6 +73,7 @@ impl Receiver {
         q: 0,
         mode: Mode::Hunting,
         run: 0,
+        run_level: 0,
         left: 0,
         level: 0,
         found: 0,
@@ -84,6 +87,7 @@ impl Receiver {
             k,
             n,
             q,
+            run_level: 1,
             level: 1,
             ..Receiver::REFUSED
         })
@@ -92,15 +96,16 @@ impl Receiver {
     /// Whether the state is well formed, clause by clause; every state may be asked.
     pub fn well_formed(&self) -> bool {
         let mode_fits = match self.mode {
-            Mode::Hunting => self.idle() && self.run < self.q,
-            Mode::Ready => self.idle() && self.run == self.q,
-            Mode::Counting => (1..=self.k).contains(&self.left) && self.run < self.q,
-            Mode::Waiting => self.left == 0 && self.run < self.q,
+            Mode::Hunting => self.idle() && self.level == 1 && self.run < self.q,
+            Mode::Ready => self.idle() && self.level == self.run_level && self.run == self.q,
+            Mode::Counting => (1..=self.k).contains(&self.left) && (1..self.q).contains(&self.run),
+            Mode::Waiting => self.left == 0 && (1..self.q).contains(&self.run),
         };
         k_fits(self.k)
             && row_bits_fit(self.n)
             && quiet_fits(self.q)
             && mode_fits
+            && (self.run_level == 1 || self.run_level == 0 && self.run > 0)
             && self.level <= 1
             && self.found < self.n
             && self.unused_places_clear()
@@ -157,6 +162,7 @@ impl Receiver {
             q: self.q,
             mode: self.mode,
             run: self.run,
+            run_level: self.run_level,
             left: self.left,
             level: self.level,
             found: self.found,
@@ -167,6 +173,7 @@ impl Receiver {
     fn take(&mut self, machine: Machine) {
         self.mode = machine.mode;
         self.run = machine.run;
+        self.run_level = machine.run_level;
         self.left = machine.left;
         self.level = machine.level;
         self.found = machine.found;
@@ -174,7 +181,7 @@ impl Receiver {
 
     /// What "well formed" asks of hunting and ready alike.
     fn idle(&self) -> bool {
-        self.left == 0 && self.level == 1 && self.found == 0
+        self.left == 0 && self.found == 0
     }
 
     /// Whether all bit places from `found` on are 0; `found` is below the greatest n.
@@ -252,6 +259,7 @@ pub(crate) struct Machine {
     q: usize,
     mode: Mode,
     run: usize,
+    run_level: u8,
     left: usize,
     level: u8,
     found: usize,
@@ -262,8 +270,9 @@ impl Machine {
     /// stay so without a report; after one the bits are the row's, and the caller clears them.
     #[inline]
     pub(crate) fn advance(&mut self, read: u8, bits: &mut [u8; ROW_BYTES]) -> Option<Report> {
-        if read == 0 {
-            self.run = 0;
+        if read != self.run_level {
+            self.run_level = read;
+            self.run = 1;
         } else if self.run < self.q {
             self.run += 1;
         }
@@ -272,7 +281,7 @@ impl Machine {
         }
         match self.mode {
             Mode::Hunting => {}
-            // A high read would have kept the run at Q, so this one is low.
+            // A read of the run's level would have kept the run at Q, so this one differs.
             Mode::Ready => self.mark(read),
             Mode::Counting => {
                 self.left -= 1;
@@ -292,12 +301,11 @@ impl Machine {
     /// The run has its full length: a row in progress is broken off.
     #[inline]
     fn quiet(&mut self) -> Option<Report> {
-        let mode = mem::replace(&mut self.mode, Mode::Ready);
+        let (mode, found) = (self.mode, self.found);
+        self.forget(Mode::Ready, self.run_level);
         if mode == Mode::Hunting || mode == Mode::Ready {
             return None;
         }
-        let found = self.found;
-        self.forget(Mode::Ready);
         Some(Report::Broken(found))
     }
 
@@ -314,7 +322,7 @@ impl Machine {
         bits[self.found / 8] |= (read ^ self.level) << (self.found % 8);
         self.found += 1;
         if self.found == self.n {
-            self.forget(Mode::Hunting);
+            self.forget(Mode::Hunting, 1);
             return Some(Report::Row);
         }
         self.mode = Mode::Waiting;
@@ -322,12 +330,12 @@ impl Machine {
         None
     }
 
-    /// Leaves the row in progress for `mode`; the run goes on.
+    /// Leaves the row in progress for `mode`, keeping `level`; the run goes on.
     #[inline]
-    fn forget(&mut self, mode: Mode) {
+    fn forget(&mut self, mode: Mode, level: u8) {
         self.mode = mode;
         self.left = 0;
-        self.level = 1;
+        self.level = level;
         self.found = 0;
     }
 }

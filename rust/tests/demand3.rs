@@ -1,5 +1,5 @@
-//! Demand 3: a plan with margins of zero or more, sent over the line, read with any phase
-//! and any choices, and with one stretch of its reads replaced by any others.
+//! Demand 3: a plan with margins of zero or more, sent over a pair that is crossed or not, read
+//! with any phase and any choices, and with one stretch of its reads replaced by any others.
 //!
 //! What must come of it, as tested here:
 //!
@@ -32,6 +32,8 @@ struct Row {
 struct Sent {
     settings: Accepted,
     n: usize,
+    /// The level of quiet: low over a crossed pair.
+    quiet: u8,
     reads: Vec<u8>,
     rows: Vec<Row>,
 }
@@ -61,6 +63,10 @@ fn send(rng: &mut Rng) -> Sent {
     let mut wave = lent(length);
     let planned = sender::plan(a, b, n, &leads, &bits, &mut wave);
     assert_eq!(planned, Ok(length));
+    let quiet = rng.below(2) as u8;
+    if quiet == 0 {
+        wave.iter_mut().for_each(|level| *level = 1 - *level);
+    }
     let p = rng.below(w as usize) as u64;
     let many = [0, rng.below(50), 2_000][rng.below(3)];
     let choices = rng.reads(many);
@@ -79,7 +85,7 @@ fn send(rng: &mut Rng) -> Sent {
             .filter(|&j| span(j).0 >= start + g as u64 * w && span(j).1 <= end)
             .nth(q - 1)
             .expect("M5 leaves room for Q reads");
-        let (found, samples) = counted_model(n, 1, k, &reads[heard + 1..]);
+        let (found, samples) = counted_model(n, quiet, k, &reads[heard + 1..]);
         assert_eq!(found, row);
         rows.push(Row {
             bits: row.to_vec(),
@@ -92,6 +98,7 @@ fn send(rng: &mut Rng) -> Sent {
     Sent {
         settings,
         n,
+        quiet,
         reads,
         rows,
     }
@@ -131,6 +138,7 @@ fn one_stretch_replaced() {
         let Sent {
             settings: Accepted { k, q, .. },
             n,
+            quiet,
             reads,
             rows,
         } = send(&mut rng);
@@ -179,7 +187,7 @@ fn one_stretch_replaced() {
             let heard = rows[first].heard - end + new_end;
             let mut receiver = Receiver::fresh(k, n, q).unwrap();
             let until = feed(&mut receiver, &damaged[..=heard]);
-            assert_eq!(receiver.mode, Mode::Ready);
+            assert_eq!((receiver.mode, receiver.level), (Mode::Ready, quiet));
             let expected = deliveries(rows[first..].iter(), end, new_end);
             assert_eq!(events[until.len()..], expected[..]);
 

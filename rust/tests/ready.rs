@@ -75,8 +75,8 @@ fn starts(from: u64, lengths: &[u64]) -> Vec<u64> {
     times
 }
 
-/// Sends rows of `n` bits over these lengths and says how far the read that delivers a row keeps from the two bounds, for
-/// each row.
+/// Sends rows of `n` bits over these lengths, on a straight pair or a crossed one, and says how far the read that
+/// delivers a row keeps from the two bounds, for each row.
 fn spare(
     s: &Fitted,
     n: usize,
@@ -86,10 +86,14 @@ fn spare(
     cycles: &[u64],
     reads: &[u64],
     choices: &[u8],
+    crossed: bool,
 ) -> Vec<(i64, i64)> {
     let cells = n * (s.a + s.b);
     let mut wave = lent(cycles.len());
     sender::plan(s.a, s.b, n, leads, bits, &mut wave).unwrap();
+    if crossed {
+        wave.iter_mut().for_each(|level| *level = 1 - *level);
+    }
     let mut smoothed = lent(wave.len());
     line::smooth(s.g, &wave, &mut smoothed).unwrap();
     let mut warped = lent(reads.len());
@@ -134,7 +138,8 @@ fn a_row_comes_within_its_last_settled_code() {
         let reads = lengths(&mut rng, s.r, (end / s.r[0]) as usize + 1);
         let many = [0, 2_000][rng.below(2)];
         let choices = rng.reads(many);
-        for (start, end) in spare(&s, n, &leads, &bits, p, &cycles, &reads, &choices) {
+        let crossed = rng.below(2) == 1;
+        for (start, end) in spare(&s, n, &leads, &bits, p, &cycles, &reads, &choices, crossed) {
             assert!(start >= 1 && end >= 1);
             after = after.min(start);
             before = before.min(end);
@@ -163,7 +168,7 @@ fn both_bounds_are_reached_in_one_run() {
         [0; 5]
     );
     let (cycles, reads) = ([2; 80], [2; 80]);
-    let kept = spare(&s, 2, &[18, 18], &[1, 0, 0, 1], 1, &cycles, &reads, &[]);
+    let kept = spare(&s, 2, &[18, 18], &[1, 0, 0, 1], 1, &cycles, &reads, &[], false);
     // From 71 to 73, where the code has settled at 70 and the cell ends at 80; and from 157 to 159, where it ends at 160.
     assert_eq!(kept, [(1, 7), (7, 1)]);
 }

@@ -20,6 +20,7 @@ fn good_states() -> [Receiver; 4] {
     let counting = Receiver {
         mode: Mode::Counting,
         run: 2,
+        run_level: 0,
         left: 2,
         level: 0,
         found: 11,
@@ -80,7 +81,7 @@ fn settings_out_of_range_are_ill_formed() {
     }
     for state in [hunting, counting, waiting] {
         // Runs that suit the quiet count, so that nothing but its range is at fault.
-        for (q, run) in [(1, 0), (8_192, 0), (usize::MAX, 0)] {
+        for (q, run) in [(1, 1), (8_192, 1), (usize::MAX, 1)] {
             is_ill_formed(Receiver {
                 q,
                 run,
@@ -100,6 +101,20 @@ fn settings_out_of_range_are_ill_formed() {
 #[test]
 fn run_is_q_in_ready_and_less_elsewhere() {
     let [hunting, ready, counting, waiting] = good_states();
+    assert!(Receiver {
+        run: 0,
+        ..hunting.clone()
+    }
+    .well_formed());
+    for state in [&counting, &waiting] {
+        for run_level in [0, 1] {
+            is_ill_formed(Receiver {
+                run: 0,
+                run_level,
+                ..state.clone()
+            });
+        }
+    }
     for state in [hunting, counting, waiting] {
         for run in [6, 7, usize::MAX] {
             is_ill_formed(Receiver {
@@ -107,7 +122,7 @@ fn run_is_q_in_ready_and_less_elsewhere() {
                 ..state.clone()
             });
         }
-        for run in 0..6 {
+        for run in 1..6 {
             assert!(Receiver {
                 run,
                 ..state.clone()
@@ -213,7 +228,44 @@ fn unused_bit_places_are_clear() {
 }
 
 #[test]
-fn level_is_a_level_and_high_outside_a_row() {
+fn run_level_is_a_level_and_high_before_the_first_read() {
+    for state in good_states() {
+        for run_level in [2, 255] {
+            let mut other = Receiver {
+                run_level,
+                ..state.clone()
+            };
+            if other.mode == Mode::Ready {
+                other.level = run_level;
+            }
+            is_ill_formed(other);
+        }
+    }
+    let [hunting, ready, counting, waiting] = good_states();
+    for state in [&hunting, &counting, &waiting] {
+        for run_level in [0, 1] {
+            assert!(Receiver {
+                run_level,
+                ..state.clone()
+            }
+            .well_formed());
+        }
+    }
+    assert!(Receiver {
+        run_level: 0,
+        level: 0,
+        ..ready
+    }
+    .well_formed());
+    is_ill_formed(Receiver {
+        run: 0,
+        run_level: 0,
+        ..hunting
+    });
+}
+
+#[test]
+fn level_is_a_level_high_in_hunting_and_the_runs_in_ready() {
     for state in good_states() {
         for level in [2, 255] {
             is_ill_formed(Receiver {
@@ -223,8 +275,17 @@ fn level_is_a_level_and_high_outside_a_row() {
         }
     }
     let [hunting, ready, counting, waiting] = good_states();
-    for state in [hunting, ready] {
-        is_ill_formed(Receiver { level: 0, ..state });
+    for run_level in [0, 1] {
+        is_ill_formed(Receiver {
+            run_level,
+            level: 0,
+            ..hunting.clone()
+        });
+        is_ill_formed(Receiver {
+            run_level,
+            level: 1 - run_level,
+            ..ready.clone()
+        });
     }
     for state in [counting, waiting] {
         for level in [0, 1] {
@@ -246,6 +307,7 @@ fn fresh_state_is_as_told() {
         q: 33,
         mode: Mode::Hunting,
         run: 0,
+        run_level: 1,
         left: 0,
         level: 1,
         found: 0,
@@ -255,32 +317,52 @@ fn fresh_state_is_as_told() {
 }
 
 #[test]
-fn quiet_makes_ready_without_a_report() {
-    let mut receiver = Receiver::fresh(2, 2, 6).unwrap();
-    for run in 1..6 {
-        assert_eq!(receiver.step(1), Ok(None));
-        assert_eq!((receiver.mode, receiver.run), (Mode::Hunting, run));
+fn quiet_at_either_level_makes_ready_without_a_report() {
+    for quiet in [0, 1] {
+        let mut receiver = Receiver::fresh(2, 2, 6).unwrap();
+        for run in 1..6 {
+            assert_eq!(receiver.step(quiet), Ok(None));
+            assert_eq!((receiver.mode, receiver.run), (Mode::Hunting, run));
+            assert_eq!((receiver.run_level, receiver.level), (quiet, 1));
+        }
+        for _ in 0..3 {
+            assert_eq!(receiver.step(quiet), Ok(None));
+            assert_eq!((receiver.mode, receiver.run), (Mode::Ready, 6));
+            assert_eq!((receiver.run_level, receiver.level), (quiet, quiet));
+        }
+        let mark = 1 - quiet;
+        assert_eq!(receiver.step(mark), Ok(None));
+        assert_eq!((receiver.mode, receiver.left), (Mode::Counting, 2));
+        assert_eq!((receiver.run, receiver.run_level), (1, mark));
+        assert_eq!(receiver.level, mark);
     }
-    for _ in 0..3 {
-        assert_eq!(receiver.step(1), Ok(None));
-        assert_eq!((receiver.mode, receiver.run), (Mode::Ready, 6));
-    }
-    assert_eq!(receiver.step(0), Ok(None));
-    let Receiver {
-        mode,
-        run,
-        left,
-        level,
-        ..
-    } = receiver;
-    assert_eq!((mode, run, left, level), (Mode::Counting, 0, 2, 0));
 }
 
 #[test]
-fn low_reads_while_hunting_start_the_run_again() {
+fn another_level_while_hunting_starts_the_run_again() {
     let mut receiver = Receiver::fresh(2, 2, 6).unwrap();
-    assert!(feed(&mut receiver, &[1, 1, 1, 1, 1, 0, 1, 1]).is_empty());
-    assert_eq!((receiver.mode, receiver.run), (Mode::Hunting, 2));
+    for (reads, run, level) in [
+        ([1, 1, 1, 1, 1], 5, 1),
+        ([0, 1, 1, 1, 0], 1, 0),
+        ([0, 0, 0, 0, 1], 1, 1),
+    ] {
+        assert!(feed(&mut receiver, &reads).is_empty());
+        assert_eq!(receiver.mode, Mode::Hunting);
+        assert_eq!((receiver.run, receiver.run_level), (run, level));
+    }
+}
+
+#[test]
+fn turned_over_reads_bring_the_same_events() {
+    let mut rng = Rng::new(17);
+    for _ in 0..600 {
+        let (k, n, q) = (rng.within(1, 6), rng.within(1, 9), rng.within(2, 14));
+        let mut straight = Receiver::fresh(k, n, q).unwrap();
+        let mut crossed = straight.clone();
+        for read in rng.reads(300) {
+            assert_eq!(straight.step(read), crossed.step(1 - read));
+        }
+    }
 }
 
 #[test]
@@ -339,13 +421,21 @@ fn least_settings() {
     let mut receiver = Receiver::fresh(1, 1, 2).unwrap();
     let reads = [0, 1, 0, 1, 1, 0, 0, 1, 1, 1, 0, 1, 1, 0, 0, 0];
     let events = feed(&mut receiver, &reads);
-    let row = |bit| Event::Row(packed(&[bit]));
-    assert_eq!(events, [(6, row(0)), (11, row(1)), (14, row(0))]);
+    // With Q 2 a sample of the mark's own level is quiet, so only a bit 1 is ever found.
+    let (row, broken) = (Event::Row(packed(&[1])), Event::Broken(0));
+    let expected = [
+        (6, broken.clone()),
+        (8, broken.clone()),
+        (11, row),
+        (14, broken),
+    ];
+    assert_eq!(events, expected);
 
-    // Two bits: the second high read in a row breaks at once.
+    // Two bits: the second equal read breaks at once.
     let mut receiver = Receiver::fresh(1, 2, 2).unwrap();
-    let events = feed(&mut receiver, &[1, 1, 0, 1, 1, 0, 0, 1, 0]);
-    let expected = [(4, Event::Broken(1)), (8, Event::Row(packed(&[0, 1])))];
+    let events = feed(&mut receiver, &[1, 1, 0, 1, 1, 0, 0, 1, 0, 1, 0]);
+    let row = Event::Row(packed(&[1, 1]));
+    let expected = [(4, Event::Broken(1)), (6, Event::Broken(0)), (10, row)];
     assert_eq!(events, expected);
 }
 
@@ -374,21 +464,28 @@ fn any_state(rng: &mut Rng) -> Receiver {
     let (k, n, q) = (rng.within(1, 9), rng.within(1, 40), rng.within(2, 12));
     let fresh = Receiver::fresh(k, n, q).unwrap();
     let found = rng.below(n);
+    let run = rng.within(1, q - 1);
+    let run_level = rng.below(2) as u8;
     let row = Receiver {
-        run: rng.below(q),
+        run,
+        run_level,
         level: rng.below(2) as u8,
         found,
         bits: packed(&rng.bits(found)),
         ..fresh.clone()
     };
     match rng.below(4) {
+        0 if rng.below(4) == 0 => fresh,
         0 => Receiver {
-            run: rng.below(q),
+            run,
+            run_level,
             ..fresh
         },
         1 => Receiver {
             mode: Mode::Ready,
             run: q,
+            run_level,
+            level: run_level,
             ..fresh
         },
         2 => Receiver {

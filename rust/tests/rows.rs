@@ -105,7 +105,8 @@ fn busiest_captures() {
             let mut input = vec![1, n, 2, 1];
             input.extend(runs.iter().cycle().take(65_532));
             let printed = output(&input);
-            assert!(printed.len() < 557_061);
+            // A run brings one line at most, with a place below 1,048,576 and fewer than 10 bits.
+            assert!(printed.len() <= 65_532 * 17 + 16 + 19);
             assert!(printed == model(&input).as_bytes());
         }
     }

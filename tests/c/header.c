@@ -357,7 +357,7 @@ static void receiving(void)
     same(&raw, &wrapped, "the two fresh receivers differ");
     expect(raw.numbers[SIENGULOT_K] == 2 && raw.numbers[SIENGULOT_N] == 2 && raw.numbers[SIENGULOT_Q] == 6, "a fresh receiver's settings");
     expect(raw.numbers[SIENGULOT_MODE] == SIENGULOT_HUNTING && raw.numbers[SIENGULOT_RUN] == 0 && raw.numbers[SIENGULOT_LEFT] == 0, "a fresh receiver hunts");
-    expect(raw.numbers[SIENGULOT_LEVEL] == 1 && raw.numbers[SIENGULOT_FOUND] == 0, "a fresh receiver has no bits");
+    expect(raw.numbers[SIENGULOT_RUN_LEVEL] == 1 && raw.numbers[SIENGULOT_LEVEL] == 1 && raw.numbers[SIENGULOT_FOUND] == 0, "a fresh receiver has no bits");
     expect(siengulot_well_formed(raw.numbers, raw.bits) == 1 && siengulot_receiver_well_formed(&wrapped) == 1, "a fresh receiver is not well formed");
 
     /* The example's reads one by one. */
@@ -376,6 +376,7 @@ static void receiving(void)
     }
     expect(siengulot_row_bit(heard.row, 0) == 1 && siengulot_row_bit(heard.row, 1) == 0, "the row's bits");
     expect(raw.numbers[SIENGULOT_MODE] == SIENGULOT_READY && raw.numbers[SIENGULOT_RUN] == 6, "a broken row leaves a ready receiver");
+    expect(raw.numbers[SIENGULOT_RUN_LEVEL] == 1 && raw.numbers[SIENGULOT_LEVEL] == 1, "the level of the quiet");
     expect(siengulot_receiver_step(&wrapped, 2, &heard) == SIENGULOT_ENTRY && heard.place == 0 && heard.used == 0, "inline step takes a 2");
     same(&raw, &wrapped, "a refused read changes the receiver");
 
@@ -396,7 +397,21 @@ static void receiving(void)
     expect(heard.event == SIENGULOT_NOTHING && heard.found == 0 && heard.used == 0 && heard.place == 1, "where the 2 stands");
     same(&raw, &wrapped, "refused reads change the receiver");
 
-    /* A number that names no mode. */
+    /* The same reads over a crossed pair: each turned over. */
+    siengulot_receiver_fresh(&wrapped, 2, 2, 6);
+    for (size_t i = 0; i < 26; i++) {
+        size_t expected = i == 11 ? SIENGULOT_ROW : i == 25 ? SIENGULOT_BROKEN : SIENGULOT_NOTHING;
+        expect(siengulot_receiver_step(&wrapped, (uint8_t)(1 - reads[i]), &heard) == 0, "step refuses a read turned over");
+        expect(heard.event == expected && heard.found == (i == 25), "the event of a read turned over");
+    }
+    expect(siengulot_row_bit(heard.row, 0) == 1 && siengulot_row_bit(heard.row, 1) == 0, "the row's bits over a crossed pair");
+    expect(wrapped.numbers[SIENGULOT_MODE] == SIENGULOT_READY && wrapped.numbers[SIENGULOT_LEVEL] == 0, "quiet over a crossed pair is low");
+
+    /* A run's level that no byte can say, and a number that names no mode. */
+    wrapped.numbers[SIENGULOT_RUN_LEVEL] = 256;
+    expect(siengulot_receiver_well_formed(&wrapped) == 0, "a run's level of 256 is well formed");
+    expect(siengulot_receiver_step(&wrapped, 1, &heard) == SIENGULOT_SETTING, "step takes a run's level of 256");
+    wrapped = raw;
     wrapped.numbers[SIENGULOT_MODE] = SIENGULOT_WAITING + 1;
     raw = wrapped;
     expect(siengulot_receiver_well_formed(&wrapped) == 0, "mode 4 is well formed");

@@ -22,10 +22,11 @@ static int64_t margins[5];
 static siengulot_receiver receiver;
 /* A receiver by its numbers; those that are not named are 0, and so are all bits. */
 #define RECEIVER(k, n, q, mode, ...) {{[SIENGULOT_K] = k, [SIENGULOT_N] = n, [SIENGULOT_Q] = q, [SIENGULOT_MODE] = mode, __VA_ARGS__}, {0}}
-static const siengulot_receiver hunting = RECEIVER(511, 1024, 8191, SIENGULOT_HUNTING, [SIENGULOT_LEVEL] = 1);
+static const siengulot_receiver hunting = RECEIVER(511, 1024, 8191, SIENGULOT_HUNTING, [SIENGULOT_RUN_LEVEL] = 1, [SIENGULOT_LEVEL] = 1);
 /* These bring an event with a high read: the row of one bit is in, or its second high read breaks a row off. */
-static const siengulot_receiver delivering = RECEIVER(1, 1, 3, SIENGULOT_COUNTING, [SIENGULOT_LEFT] = 1);
-static const siengulot_receiver breaking = RECEIVER(511, 1024, 2, SIENGULOT_COUNTING, [SIENGULOT_RUN] = 1, [SIENGULOT_LEFT] = 510);
+static const siengulot_receiver delivering = RECEIVER(1, 1, 3, SIENGULOT_COUNTING, [SIENGULOT_RUN] = 1, [SIENGULOT_LEFT] = 1);
+static const siengulot_receiver breaking =
+    RECEIVER(511, 1024, 2, SIENGULOT_COUNTING, [SIENGULOT_RUN] = 1, [SIENGULOT_RUN_LEVEL] = 1, [SIENGULOT_LEFT] = 510);
 static uint8_t row[SIENGULOT_ROW_BYTES];
 
 static char *volatile frame; /* of the function that made the call */

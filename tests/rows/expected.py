@@ -57,13 +57,14 @@ def parsed(data):
 
 def events(k, n, q, reads):
     """The row receiver: for each read its place and what it brought, if anything."""
-    mode, run, left, level, bits = "hunting", 0, 0, 1, []
+    mode, run, run_level, left, level, bits = "hunting", 0, 1, 0, 1, []
     for place, read in enumerate(reads):
-        run = min(run + 1, q) if read == 1 else 0
+        run = min(run + 1, q) if read == run_level else 1
+        run_level = read
         if run == q:
             if mode in ("counting", "waiting"):
                 yield place, "broken", str(len(bits))
-            mode, level, bits = "ready", 1, []
+            mode, level, bits = "ready", run_level, []
         elif mode in ("ready", "waiting"):
             if read != level:
                 mode, level, left = "counting", read, k

@@ -16,7 +16,7 @@ use Rattle.measure.specs.Cells.{bitOf}
 use Rattle.board.specs.declared.Mode.{Mode}
 use Rattle.board.specs.declared.Mode.the-variants.{Hunting, Ready, Counting, Waiting}
 use Rattle.board.specs.declared.Receiver.{Receiver}
-use Rattle.board.specs.Rows.{Settings, State, Event, nothing, row, broken, Moved, runAfter, next}
+use Rattle.board.specs.Rows.{Settings, Run, State, Event, nothing, row, broken, Moved, runAfter, next}
 use Rattle.board.specs.Rows.{collected, listening, inProgress}
 use Rattle.board.specs.Feeding.{Report, noted, afterBy, reportsBy, after, reports}
 use Rattle.board.specs.Packed.{receiverOf}
@@ -45,17 +45,19 @@ module _ (g : Settings) where
   whole-quiet false found fewer = tt
 
   -- a row in progress has fewer than n bits
-  in-row : (m : Mode) (run left found level : ℕ) → Fitting m g run left found level → inProgress m ≡ true → found < g .n
+  in-row : (m : Mode) (run : Run) (left found level : ℕ) → Fitting m g run left found level → inProgress m ≡ true
+      → found < g .n
   in-row Hunting run left found level fits e = absurd (false≢true e)
   in-row Ready run left found level fits e = absurd (false≢true e)
   in-row Counting run left found level fits e = fits .3
   in-row Waiting run left found level fits e = fits .2
 
-  whole-collected : (run read : ℕ) (bits : List ℕ) → Binary bits → Whole g (collected g run read bits .event)
+  whole-collected : (run : Run) (read : ℕ) (bits : List ℕ) → Binary bits → Whole g (collected g run read bits .event)
   whole-collected run read bits b =
       whole-either (eqb (length bits) (g .n)) _ _ (λ e. (eqb-true (length bits) (g .n) e, b)) (λ e. tt)
 
-  whole-listening : (m : Mode) (s : State) (run read : ℕ) → Binary (s .bits) → Whole g (listening m g s run read .event)
+  whole-listening : (m : Mode) (s : State) (run : Run) (read : ℕ) → Binary (s .bits)
+      → Whole g (listening m g s run read .event)
   whole-listening Hunting s run read b = tt
   whole-listening Ready s run read b = whole-either (eqb read (s .level)) _ _ (λ e. tt) (λ e. tt)
   whole-listening Counting s run read b =
@@ -67,7 +69,7 @@ module _ (g : Settings) where
   pub whole-next : (s : State) (read : ℕ) → Valid g s → Whole g (next g s read .event)
   unfolding next
   whole-next s read v =
-      whole-either (eqb (runAfter (g .Q) (s .run) read) (g .Q)) _ _
+      whole-either (eqb (runAfter (g .Q) (s .run) read .reads) (g .Q)) _ _
       (λ e. whole-quiet (inProgress (s .mode)) (length (s .bits))
       (in-row (s .mode) (s .run) (s .left) (length (s .bits)) (s .level) (v .fitting)))
       (λ e. whole-listening (s .mode) s (runAfter (g .Q) (s .run) read) read (v .binary))

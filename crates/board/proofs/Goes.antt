@@ -2,14 +2,18 @@
 -- made of.
 use mathlib.Core.Path.{_≡_, refl, subst, sym, ap, _∙_}
 use mathlib.Core.List.{List, [], _++_}
-use Prim.Native.Nat.{ℕ, zero, suc, _+_, _-_, _≤_, _<_}
+use Prim.Native.Nat.{ℕ, zero, suc, _+_, _-_, _≤_, _<_, min}
 use native.Mathlib.Nat.{add-zero, add-suc, suc-add}
-use native.Mathlib.Decide.{decLe}
+use native.Mathlib.Decide.{decLe, ℕ-discrete}
 use native.Mathlib.Omega.{arith}
-use Rattle.board.specs.Rows.{State, Event, Moved, runAfter, hunting, ready, counting, waiting, next, quietened}
+use borrow.Author.Tests.{eq-eqb}
+use Rattle.board.specs.Rows.{Run, State, Event, Moved, runAfter, hunting, ready, counting, waiting, next}
+use Rattle.board.specs.Rows.{quietened}
 use Rattle.board.specs.Feeding.{Report, noted}
 use Rattle.board.proofs.FeedingLaws.{noted-append}
-use Rattle.board.proofs.RowSteps.{rules, run-grows, full-step, hunts, stays-ready, counts-on, waits-on, adds}
+use Rattle.board.proofs.RowRules.{run-most, run-least}
+use Rattle.board.proofs.RowSteps.{rules, run-grows, full-step, hunts, stays-ready, counts-on, waits-on}
+use Rattle.board.proofs.RowSteps.{run-next}
 
 module _ (k n Q : ℕ) (D : ℕ → ℕ) where
   -- From the state s before read j the receiver goes to the state t before read i, and reports es on the way.
@@ -50,14 +54,15 @@ module _ (k n Q : ℕ) (D : ℕ → ℕ) where
   step {j} {i} {x} {s} {t} {u} {e} {es} is p f = then (ap (λ (y : ℕ). next (rules k n Q) s y) is ∙ p) f
 
   -- counting down to the sample
-  hold : (l j m ρ : ℕ) (bs : List ℕ) → ρ + l < Q
-      → (σ : ℕ) × (σ ≤ ρ + l) × Goes j (counting (suc l) m ρ bs) [] (j + l) (counting 1 m σ bs)
+  hold : (l j m : ℕ) (ρ : Run) (bs : List ℕ) → ρ .reads + l < Q
+      → (σ : Run) × (σ .reads ≤ ρ .reads + l) × Goes j (counting (suc l) m ρ bs) [] (j + l) (counting 1 m σ bs)
   hold zero j m ρ bs h = (ρ, omega arith, rw add-zero here)
   hold (suc l) j m ρ bs h = go (hold l (suc j) m (runAfter Q ρ (D j)) bs (omega (arith, run-grows Q ρ (D j))))
     where
-      go : (σ : ℕ) × (σ ≤ runAfter Q ρ (D j) + l)
+      go : (σ : Run) × (σ .reads ≤ runAfter Q ρ (D j) .reads + l)
           × Goes (suc j) (counting (suc l) m (runAfter Q ρ (D j)) bs) [] (suc j + l) (counting 1 m σ bs)
-          → (σ : ℕ) × (σ ≤ ρ + suc l) × Goes j (counting (suc (suc l)) m ρ bs) [] (j + suc l) (counting 1 m σ bs)
+          → (σ : Run) × (σ .reads ≤ ρ .reads + suc l)
+          × Goes j (counting (suc (suc l)) m ρ bs) [] (j + suc l) (counting 1 m σ bs)
       go (σ, p, f) = (
         σ,
         omega (arith, run-grows Q ρ (D j)),
@@ -65,8 +70,8 @@ module _ (k n Q : ℕ) (D : ℕ → ℕ) where
       )
 
   -- from a mark to its sample
-  pub downto : (j m ρ : ℕ) (bs : List ℕ) → 0 < k → ρ + k ≤ Q
-      → (σ : ℕ) × (σ < ρ + k) × Goes (suc j) (counting k m ρ bs) [] (j + k) (counting 1 m σ bs)
+  pub downto : (j m : ℕ) (ρ : Run) (bs : List ℕ) → 0 < k → ρ .reads + k ≤ Q
+      → (σ : Run) × (σ .reads < ρ .reads + k) × Goes (suc j) (counting k m ρ bs) [] (j + k) (counting 1 m σ bs)
   downto j m ρ bs p h = go (hold (k - 1) (suc j) m ρ bs (omega arith))
     where
       whole : suc (k - 1) ≡ k
@@ -75,99 +80,127 @@ module _ (k n Q : ℕ) (D : ℕ → ℕ) where
       place : suc j + (k - 1) ≡ j + k
       place = omega arith
 
-      go : (σ : ℕ) × (σ ≤ ρ + (k - 1))
+      go : (σ : Run) × (σ .reads ≤ ρ .reads + (k - 1))
           × Goes (suc j) (counting (suc (k - 1)) m ρ bs) [] (suc j + (k - 1)) (counting 1 m σ bs)
-          → (σ : ℕ) × (σ < ρ + k) × Goes (suc j) (counting k m ρ bs) [] (j + k) (counting 1 m σ bs)
+          → (σ : Run) × (σ .reads < ρ .reads + k) × Goes (suc j) (counting k m ρ bs) [] (j + k) (counting 1 m σ bs)
       go (σ, q, f) = (σ, omega arith, rw (whole, place) at f)
 
-  -- waiting at the level v, over reads that are all v
-  pub linger : (d j v ρ : ℕ) (bs : List ℕ) → ((i : ℕ) → j ≤ i → i < j + d → D i ≡ v) → ρ + d < Q
-      → (σ : ℕ) × (σ ≤ ρ + d) × (v ≡ 0 → ρ ≡ 0 → σ ≡ 0) × Goes j (waiting v ρ bs) [] (j + d) (waiting v σ bs)
-  linger zero j v ρ bs f h = (ρ, omega arith, λ p q. q, rw add-zero here)
-  linger (suc d) j v ρ bs f h =
+  -- waiting at the level v, which is the run's too, over reads that are all v
+  pub linger : (d j v : ℕ) (ρ : Run) (bs : List ℕ) → ((i : ℕ) → j ≤ i → i < j + d → D i ≡ v) → ρ .reads + d < Q
+      → ρ .level ≡ v
+      → (σ : Run) × (σ .reads ≤ ρ .reads + d) × (σ .level ≡ v) × Goes j (waiting v ρ bs) [] (j + d) (waiting v σ bs)
+  linger zero j v ρ bs f h e = (ρ, omega arith, e, rw add-zero here)
+  linger (suc d) j v ρ bs f h e =
       go (linger d (suc j) v (runAfter Q ρ v) bs (λ i p q. f i (omega arith) (omega arith))
-      (omega (arith, run-grows Q ρ v)))
+      (omega (arith, run-grows Q ρ v)) refl)
     where
-      low : v ≡ 0 → runAfter Q ρ v ≡ 0
-      low p = rw p
-
-      go : (σ : ℕ) × (σ ≤ runAfter Q ρ v + d) × (v ≡ 0 → runAfter Q ρ v ≡ 0 → σ ≡ 0)
+      go : (σ : Run) × (σ .reads ≤ runAfter Q ρ v .reads + d) × (σ .level ≡ v)
           × Goes (suc j) (waiting v (runAfter Q ρ v) bs) [] (suc j + d) (waiting v σ bs)
-          → (σ : ℕ) × (σ ≤ ρ + suc d) × (v ≡ 0 → ρ ≡ 0 → σ ≡ 0)
+          → (σ : Run) × (σ .reads ≤ ρ .reads + suc d) × (σ .level ≡ v)
           × Goes j (waiting v ρ bs) [] (j + suc d) (waiting v σ bs)
       go (σ, p, z, g) = (
         σ,
         omega (arith, run-grows Q ρ v),
-        (λ x y. z x (low x)),
+        z,
         rw (add-suc, ← suc-add)
             (step (f j (omega arith) (omega arith)) (waits-on k n Q v ρ bs (omega (arith, run-grows Q ρ v))) g),
       )
 
-  -- ready, over high reads
-  pub stay : (d j : ℕ) → ((i : ℕ) → j ≤ i → i < j + d → D i ≡ 1) → Goes j (ready Q) [] (j + d) (ready Q)
-  stay zero j f = rw add-zero here
-  stay (suc d) j f =
+  -- ready, over reads of its level
+  pub stay : (v d j : ℕ) → ((i : ℕ) → j ≤ i → i < j + d → D i ≡ v) → Goes j (ready Q v) [] (j + d) (ready Q v)
+  stay v zero j f = rw add-zero here
+  stay v (suc d) j f =
       rw (add-suc, ← suc-add)
-      (step (f j (omega arith) (omega arith)) (stays-ready k n Q)
-      (stay d (suc j) (λ i p q. f i (omega arith) (omega arith))))
+      (step (f j (omega arith) (omega arith)) (stays-ready k n Q v)
+      (stay v d (suc j) (λ i p q. f i (omega arith) (omega arith))))
 
   -- hunting, over any reads too few to make the run Q
-  pub hunt : (d j ρ : ℕ) → ρ + d < Q → (σ : ℕ) × (σ ≤ ρ + d) × Goes j (hunting ρ) [] (j + d) (hunting σ)
+  pub hunt : (d j : ℕ) (ρ : Run) → ρ .reads + d < Q
+      → (σ : Run) × (σ .reads ≤ ρ .reads + d) × Goes j (hunting ρ) [] (j + d) (hunting σ)
   hunt zero j ρ h = (ρ, omega arith, rw add-zero here)
   hunt (suc d) j ρ h = go (hunt d (suc j) (runAfter Q ρ (D j)) (omega (arith, run-grows Q ρ (D j))))
     where
-      go : (σ : ℕ) × (σ ≤ runAfter Q ρ (D j) + d)
+      go : (σ : Run) × (σ .reads ≤ runAfter Q ρ (D j) .reads + d)
           × Goes (suc j) (hunting (runAfter Q ρ (D j))) [] (suc j + d) (hunting σ)
-          → (σ : ℕ) × (σ ≤ ρ + suc d) × Goes j (hunting ρ) [] (j + suc d) (hunting σ)
+          → (σ : Run) × (σ .reads ≤ ρ .reads + suc d) × Goes j (hunting ρ) [] (j + suc d) (hunting σ)
       go (σ, p, f) = (
         σ,
         omega (arith, run-grows Q ρ (D j)),
         rw (add-suc, ← suc-add) (then (hunts k n Q ρ (D j) (omega (arith, run-grows Q ρ (D j)))) f),
       )
 
-  -- from any state, over high reads enough to make the run Q
-  pub lift : (d j : ℕ) (s : State) → 0 < d → Q ≤ s .run + d → ((i : ℕ) → j ≤ i → i < j + d → D i ≡ 1)
-      → (es : List Report) × Goes j s es (j + d) (ready Q)
-  lift zero j s p q f = absurd (omega arith)
-  lift (suc d) j s p q f =
-      go (decLe Q (suc (s .run))) λ r. lift d (suc j) (next (rules k n Q) s 1 .state) (omega arith)
-      (omega (arith, adds k n Q s r)) (λ i y z. f i (omega arith) (omega arith))
+  -- from any state whose run is of the level v, over reads of v enough to make the run Q
+  lengthen : (v d j : ℕ) (s : State) → 0 < d → s .run .level ≡ v → Q ≤ s .run .reads + d
+      → ((i : ℕ) → j ≤ i → i < j + d → D i ≡ v)
+      → (es : List Report) × Goes j s es (j + d) (ready Q v)
+  lengthen v zero j s p e q f = absurd (omega arith)
+  lengthen v (suc d) j s p e q f =
+      go (decLe Q (suc (s .run .reads))) λ r. lengthen v d (suc j) (next (rules k n Q) s v .state) (omega arith)
+      (ap (λ (run : Run). run .level) (run-next k n Q s v))
+      (omega (arith, ap (λ (run : Run). run .reads) (run-next k n Q s v), longer))
+      (λ i y z. f i (omega arith) (omega arith))
     where
-      now : D j ≡ 1
+      now : D j ≡ v
       now = f j (omega arith) (omega arith)
 
-      go : Dec (Q ≤ suc (s .run))
-          → (suc (s .run) < Q
-          → (es : List Report) × Goes (suc j) (next (rules k n Q) s 1 .state) es (suc j + d) (ready Q))
-          → (es : List Report) × Goes j s es (j + suc d) (ready Q)
+      longer : runAfter Q (s .run) v .reads ≡ min (s .run .reads + 1) Q
+      longer = rw (eq-eqb v (s .run .level) (sym e))
+
+      go : Dec (Q ≤ suc (s .run .reads))
+          → (suc (s .run .reads) < Q
+          → (es : List Report) × Goes (suc j) (next (rules k n Q) s v .state) es (suc j + d) (ready Q v))
+          → (es : List Report) × Goes j s es (j + suc d) (ready Q v)
       go (yes y) more = (
-        noted j (quietened (rules k n Q) s .event) [],
+        noted j (quietened (rules k n Q) s v .event) [],
         rw (add-suc, ← suc-add)
-            (step now (full-step k n Q s 1 (omega arith)) (stay d (suc j) (λ i y z. f i (omega arith) (omega arith)))),
+            (step now (full-step k n Q s v (omega (arith, longer)))
+            (stay v d (suc j) (λ i y z. f i (omega arith) (omega arith)))),
       )
       go (no y) more =
           let (es, g) = more (omega arith) in
-          (noted j (next (rules k n Q) s 1 .event) es, rw (add-suc, ← suc-add) (step now refl g))
+          (noted j (next (rules k n Q) s v .event) es, rw (add-suc, ← suc-add) (step now refl g))
 
-  -- hunting, over high reads: silent
-  pub rise : (d j ρ : ℕ) → ρ < Q → ((i : ℕ) → j ≤ i → i < j + d → D i ≡ 1)
-      → (s : State) × Goes j (hunting ρ) [] (j + d) s
-  rise zero j ρ p f = (hunting ρ, rw add-zero here)
-  rise (suc d) j ρ p f =
-      go (decLe Q (suc ρ))
-      (λ r. rise d (suc j) (runAfter Q ρ 1) (omega arith) (λ i y z. f i (omega arith) (omega arith)))
+  -- from any state at all, over Q reads of a level: the first of them has made the run at least 1
+  pub lift : (v d j : ℕ) (s : State) → 1 < Q → Q ≤ d → ((i : ℕ) → j ≤ i → i < j + d → D i ≡ v)
+      → (es : List Report) × Goes j s es (j + d) (ready Q v)
+  lift v zero j s p q f = absurd (omega arith)
+  lift v (suc d) j s p q f =
+      go (lengthen v d (suc j) (next (rules k n Q) s v .state) (omega arith)
+      (ap (λ (run : Run). run .level) (run-next k n Q s v))
+      (omega (arith, ap (λ (run : Run). run .reads) (run-next k n Q s v), run-least Q (s .run) v (omega arith)))
+      (λ i y z. f i (omega arith) (omega arith)))
     where
-      now : D j ≡ 1
+      go : (es : List Report) × Goes (suc j) (next (rules k n Q) s v .state) es (suc j + d) (ready Q v)
+          → (es : List Report) × Goes j s es (j + suc d) (ready Q v)
+      go (es, g) = (
+        noted j (next (rules k n Q) s v .event) es,
+        rw (add-suc, ← suc-add) (step (f j (omega arith) (omega arith)) refl g),
+      )
+
+  -- hunting, over reads of a level: silent
+  pub rise : (v d j : ℕ) (ρ : Run) → ρ .reads < Q → ((i : ℕ) → j ≤ i → i < j + d → D i ≡ v)
+      → (s : State) × Goes j (hunting ρ) [] (j + d) s
+  rise v zero j ρ p f = (hunting ρ, rw add-zero here)
+  rise v (suc d) j ρ p f =
+      go (ℕ-discrete (runAfter Q ρ v .reads) Q)
+      (λ r. rise v d (suc j) (runAfter Q ρ v) (omega (arith, r, run-most Q ρ v (omega arith)))
+      (λ i y z. f i (omega arith) (omega arith)))
+    where
+      now : D j ≡ v
       now = f j (omega arith) (omega arith)
 
-      go : Dec (Q ≤ suc ρ) → (suc ρ < Q → (s : State) × Goes (suc j) (hunting (runAfter Q ρ 1)) [] (suc j + d) s)
+      go : Dec (runAfter Q ρ v .reads ≡ Q)
+          → ((runAfter Q ρ v .reads ≡ Q → ⊥) → (s : State) × Goes (suc j) (hunting (runAfter Q ρ v)) [] (suc j + d) s)
           → (s : State) × Goes j (hunting ρ) [] (j + suc d) s
       go (yes y) more = (
-        ready Q,
+        ready Q v,
         rw (add-suc, ← suc-add)
-            (step now (full-step k n Q (hunting ρ) 1 (omega arith))
-            (stay d (suc j) (λ i y z. f i (omega arith) (omega arith)))),
+            (step now (full-step k n Q (hunting ρ) v y)
+            (stay v d (suc j) (λ i y z. f i (omega arith) (omega arith)))),
       )
       go (no y) more =
-          let (s, g) = more (omega arith) in
-          (s, rw (add-suc, ← suc-add) (step now (hunts k n Q ρ 1 (omega arith)) g))
+          let (s, g) = more y in (
+            s,
+            rw (add-suc, ← suc-add)
+                (step now (hunts k n Q ρ v (omega (arith, y, run-most Q ρ v (omega arith)))) g),
+          )

@@ -17,9 +17,11 @@ use Rattle.measure.specs.Refusals.{Answer, given, refused, refusedAfter}
 use Rattle.board.specs.declared.Receiver.{Receiver}
 use Rattle.board.specs.Rows.{Settings, State, Event, nothing, row, broken, next, fresh}
 use Rattle.board.specs.Feeding.{Report, noted, Step, afterBy, reportsBy, after, reports}
-use Rattle.board.specs.Packed.{settingsOf, stateOf, receiverOf}
+use Rattle.board.specs.Packed.{kept, settingsOf, stateOf, receiverOf}
 use Rattle.board.specs.WellFormed.{wellFormed}
-use Rattle.board.specs.Answers.{Outcome, rowOf, refusing, begun, levelsOf, silent, toEvent, listened}
+use Rattle.board.specs.Answers.{Outcome, rowOf, reached, refusing, begun, levelsOf, silent, toEvent, listened}
+use Rattle.board.specs.Answers.{inLent}
+use Rattle.board.specs.Feeding.{firstEvent, usedOf}
 use Rattle.board.proofs.FeedingLaws.{after-keeps}
 use Rattle.board.proofs.PackedBits.{Binary, length-packed}
 use Rattle.board.proofs.RowRules.{Valid, valid-next}
@@ -158,6 +160,43 @@ heard-all x reads =
     (reports (settingsOf x) (stateOf x) 0 (levelsOf reads))
     (omega (arith, length-take (firstAbove 1 reads) reads)) refl)))
     (heard-refused (length reads) x 1 0)
+
+-- where the bytes that are lent for a row hold 0, an outcome stands in them as it is
+pub row-lent : (x : Receiver) (reads : List ℕ) → inLent (kept []) (listened x reads) ≡ listened x reads
+unfolding listened
+row-lent x reads =
+    let P : Outcome × ℕ → Type 0 = λ heard. inLent (kept []) heard ≡ heard in
+    let g = settingsOf x in
+    let told = reports g (stateOf x) 0 (levelsOf reads) in
+    chosen P (wellFormed x)
+    (chosen P (ltb entriesMost (length reads)) refl
+    (chosen P (someAbove 1 reads && silent told) refl
+    (event-lent g (after g (stateOf x) (take (usedOf told (length (levelsOf reads))) (levelsOf reads)))
+    (firstEvent told) (usedOf told (length (levelsOf reads))))))
+    refl
+  where
+    event-lent : (g : Settings) (s : State) (event : Event) (used : ℕ)
+        → inLent (kept []) (reached g s event, used) ≡ (reached g s event, used)
+    event-lent g s nothing used = refl
+    event-lent g s (row bits) used = refl
+    event-lent g s (broken found) used = refl
+
+-- a refusal leaves the receiver as it came
+abbrev pub Refuses : Answer Event → Type 0
+Refuses (given event) = ⊥
+Refuses (refused number place) = Unit {0}
+Refuses (refusedAfter number place count) = Unit {0}
+
+pub refused-same : (x : Receiver) (reads : List ℕ) → Refuses (listened x reads .0 .answer)
+    → listened x reads .0 .receiver ≡ x
+unfolding listened
+refused-same x reads =
+    let P : Outcome × ℕ → Type 0 = λ heard. Refuses (heard .0 .answer) → heard .0 .receiver ≡ x in
+    let told = reports (settingsOf x) (stateOf x) 0 (levelsOf reads) in
+    chosen P (wellFormed x)
+    (chosen P (ltb entriesMost (length reads)) (λ r. refl)
+    (chosen P (someAbove 1 reads && silent told) (λ r. refl) (λ r. absurd r)))
+    (λ r. refl)
 
 -- settings that fit start a fresh receiver
 pub begun-fresh : (k n Q : ℕ) → rowSettingsFit k n Q ≡ true

@@ -8,13 +8,17 @@ use Rattle.board.specs.declared.Mode.{Mode}
 use Rattle.board.specs.declared.Mode.the-variants.{Hunting, Ready, Counting, Waiting}
 use Rattle.board.specs.declared.Receiver.{Receiver}
 use Rattle.board.specs.declared.state.Numbers.{Numbers}
-use Rattle.board.specs.Rows.{Settings, State, hunting, ready, counting, waiting}
+use Rattle.board.specs.Rows.{Settings, Run, runOf, State, hunting, ready, counting, waiting}
 use Rattle.board.specs.Packed.{unpacked, kept, stateOf, receiverOf}
 use Rattle.board.specs.WellFormed.{wellFormed}
 use Rattle.board.specs.Listening.{keeping, Keeps}
 use Rattle.board.proofs.PackedBits.{Binary, binary-snoc}
 use Rattle.board.proofs.RowRules.{Fitting, Valid}
 use Rattle.board.proofs.Standing.{facts, valid-of, state-of-receiver, well-formed-of, one-more, room-for-one}
+
+-- the run that numbers keep
+abbrev pub runIn : Numbers → Run
+runIn now = runOf (now .run) (now .runlevel)
 
 -- the bits that numbers and bytes keep
 abbrev pub bitsIn : Numbers → List ℕ → List ℕ
@@ -45,27 +49,31 @@ module _ (g : Settings) (now : Numbers) (bytes : List ℕ) (keeps : Keeps g now 
 
   -- the state that is kept, by its mode
 
-  fits : (m : Mode) → now .mode ≡ m → Fitting m g (now .run) (now .left) (now .found) (now .level)
+  fits : (m : Mode) → now .mode ≡ m → Fitting m g (runIn now) (now .left) (now .found) (now .level)
   fits m e = rw e at (facts (keeping g now bytes) (keeps .well) .fitting)
 
-  kept-as : (s : State) → now .mode ≡ s .mode → now .left ≡ s .left → now .level ≡ s .level → now .run ≡ s .run
+  kept-as : (s : State) → now .mode ≡ s .mode → now .left ≡ s .left → now .level ≡ s .level → runIn now ≡ s .run
       → bitsIn now bytes ≡ s .bits
       → stateOf (keeping g now bytes) ≡ s
   kept-as s m f l r b = rw (m, f, l, r, b)
 
-  pub counting-fits : now .mode ≡ Counting → Fitting Counting g (now .run) (now .left) (now .found) (now .level)
+  -- the run's level is a level
+  pub kept-level : now .runlevel ≤ 1
+  kept-level = kept-valid .level .most
+
+  pub counting-fits : now .mode ≡ Counting → Fitting Counting g (runIn now) (now .left) (now .found) (now .level)
   counting-fits m = fits Counting m
 
   pub counting-kept : now .mode ≡ Counting
-      → stateOf (keeping g now bytes) ≡ counting (now .left) (now .level) (now .run) (bitsIn now bytes)
-  counting-kept m = kept-as (counting (now .left) (now .level) (now .run) (bitsIn now bytes)) m refl refl refl refl
+      → stateOf (keeping g now bytes) ≡ counting (now .left) (now .level) (runIn now) (bitsIn now bytes)
+  counting-kept m = kept-as (counting (now .left) (now .level) (runIn now) (bitsIn now bytes)) m refl refl refl refl
 
-  pub waiting-fits : now .mode ≡ Waiting → Fitting Waiting g (now .run) (now .left) (now .found) (now .level)
+  pub waiting-fits : now .mode ≡ Waiting → Fitting Waiting g (runIn now) (now .left) (now .found) (now .level)
   waiting-fits m = fits Waiting m
 
   pub waiting-kept : now .mode ≡ Waiting
-      → stateOf (keeping g now bytes) ≡ waiting (now .level) (now .run) (bitsIn now bytes)
-  waiting-kept m = kept-as (waiting (now .level) (now .run) (bitsIn now bytes)) m (fits Waiting m .1) refl refl refl
+      → stateOf (keeping g now bytes) ≡ waiting (now .level) (runIn now) (bitsIn now bytes)
+  waiting-kept m = kept-as (waiting (now .level) (runIn now) (bitsIn now bytes)) m (fits Waiting m .1) refl refl refl
 
   none-in : now .found ≡ 0 → bitsIn now bytes ≡ []
   none-in e = rw e
@@ -74,15 +82,17 @@ module _ (g : Settings) (now : Numbers) (bytes : List ℕ) (keeps : Keeps g now 
   none-kept e = rw (none-in e) at kept-bytes
 
   pub hunting-kept : now .mode ≡ Hunting
-      → (stateOf (keeping g now bytes) ≡ hunting (now .run)) × (kept [] ≡ bytes) × (now .run < g .Q)
+      → (stateOf (keeping g now bytes) ≡ hunting (runIn now)) × (kept [] ≡ bytes) × (now .run < g .Q)
   hunting-kept m =
       let f = fits Hunting m in
-      (kept-as (hunting (now .run)) m (f .1) (f .3) refl (none-in (f .2)), none-kept (f .2), f .0)
+      (kept-as (hunting (runIn now)) m (f .1) (f .3) refl (none-in (f .2)), none-kept (f .2), f .0)
 
-  pub ready-kept : now .mode ≡ Ready → (stateOf (keeping g now bytes) ≡ ready (g .Q)) × (kept [] ≡ bytes)
+  pub ready-kept : now .mode ≡ Ready
+      → (stateOf (keeping g now bytes) ≡ ready (g .Q) (now .runlevel)) × (kept [] ≡ bytes)
   ready-kept m =
       let f = fits Ready m in
-      (kept-as (ready (g .Q)) m (f .1) (f .3) (f .0) (none-in (f .2)), none-kept (f .2))
+      let run : runIn now ≡ runOf (g .Q) (now .runlevel) = rw (f .0) in
+      (kept-as (ready (g .Q) (now .runlevel)) m (f .1) (f .3) run (none-in (f .2)), none-kept (f .2))
 
   -- where there is room for a bit, its place holds 0
   pub kept-room : now .found < 1024 → getD bytes (now .found / 8) 0 < 2 ^ (now .found % 8)

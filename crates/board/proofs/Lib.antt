@@ -16,3 +16,4 @@ pub mod Fed
 pub mod BitPlaces
 pub mod HeardLaws
 pub mod CallLaws
+pub mod TurnedOver

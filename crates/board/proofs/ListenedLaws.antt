@@ -129,3 +129,14 @@ stepped-is x read =
     go true true s (broken found) = refl
     go true false s event = refl
     go false level s event = refl
+
+-- one read is a list of one
+pub stepped-listened : (x : Receiver) (read : ℕ) → stepped x read ≡ listened x (read ∷ []) .0
+stepped-listened x read =
+    stepped-is x read ∙ go (wellFormed x) ∙ sym (ap (λ (heard : Outcome × ℕ). heard .0) (listened-is x (read ∷ [])))
+  where
+    go : (well : Bool)
+        → choose well (heardFrom x (settingsOf x) (stateOf x) 0 (read ∷ []) .0) (refusing x 1 0)
+        ≡ choose well (heardFrom x (settingsOf x) (stateOf x) 0 (read ∷ [])) (refusing x 1 0, 0) .0
+    go true = refl
+    go false = refl

@@ -1,6 +1,6 @@
 -- Listening goes read by read: each law says what the outcome from a place becomes of the read that stands there.
 use Prim.Native.Nat.{ℕ, _+_, _-_, _≤_, _<_, min}
-use mathlib.Core.Path.{_≡_, refl, _∙_}
+use mathlib.Core.Path.{_≡_, refl, _∙_, ap}
 use mathlib.Core.List.{List, [], _∷_, _++_}
 use mathlib.Core.Bool.{Bool, true, false}
 use native.Mathlib.Numerals.{add-one}
@@ -12,11 +12,11 @@ use lib.Seq.{drop-cons}
 use Rattle.measure.specs.Choose.{choose}
 use Rattle.measure.specs.Cells.{bitOf}
 use Rattle.board.specs.declared.Receiver.{Receiver}
-use Rattle.board.specs.Rows.{Settings, State, nothing, Moved, runAfter, ready, counting, waiting, quietened}
-use Rattle.board.specs.Rows.{marked, collected, listening, next}
+use Rattle.board.specs.Rows.{Settings, Run, runOf, State, nothing, Moved, runAfter, ready, counting, waiting}
+use Rattle.board.specs.Rows.{quietened, marked, collected, listening, next}
 use Rattle.board.specs.Answers.{reached, refusing}
 use Rattle.board.specs.Listening.{longer, heardFrom, movedFrom}
-use Rattle.board.proofs.RowRules.{run-most, run-full}
+use Rattle.board.proofs.RowRules.{run-most, run-least, run-full}
 
 -- the reads are at their end, or at one that is no level, or at one that moves the state
 
@@ -39,58 +39,65 @@ heard-move x g s m i reads h p e = rw (drop-cons reads i 0 h, le-leb (getD reads
 
 -- the run
 
-run-longer : (Q run read : ℕ) → run < Q → runAfter Q run read ≡ longer run read
-run-longer Q run read h = go (eqb read 1)
+-- how long the run is after a read
+abbrev pub grown : Run → (read : ℕ) → ℕ
+grown run read = longer (run .reads) (run .level) read
+
+run-longer : (Q : ℕ) (run : Run) (read : ℕ) → run .reads < Q → runAfter Q run read .reads ≡ grown run read
+run-longer Q run read h = go (eqb read (run .level))
   where
-    go : (b : Bool) → choose b (min (run + 1) Q) 0 ≡ choose b (run + 1) 0
+    go : (b : Bool) → choose b (min (run .reads + 1) Q) 1 ≡ choose b (run .reads + 1) 1
     go true = omega arith
     go false = refl
 
-pub longer-most : (Q run read : ℕ) → run < Q → longer run read ≤ Q
-longer-most Q run read h = rw (run-longer Q run read h) at (run-most Q run read)
+pub longer-most : (Q : ℕ) (run : Run) (read : ℕ) → run .reads < Q → grown run read ≤ Q
+longer-most Q run read h = rw (run-longer Q run read h) at (run-most Q run read (omega arith))
+
+pub longer-least : (Q : ℕ) (run : Run) (read : ℕ) → run .reads < Q → 1 ≤ grown run read
+longer-least Q run read h = rw (run-longer Q run read h) at (run-least Q run read (omega arith))
 
 -- one read, by what it does to the run
 
-pub next-quiet : (g : Settings) (s : State) (read : ℕ) → s .run < g .Q → longer (s .run) read ≡ g .Q
-    → next g s read ≡ quietened g s
+pub next-quiet : (g : Settings) (s : State) (read : ℕ) → s .run .reads < g .Q → grown (s .run) read ≡ g .Q
+    → next g s read ≡ quietened g s read
 unfolding next
-next-quiet g s read h e = rw (run-longer (g .Q) (s .run) read h, eq-eqb (longer (s .run) read) (g .Q) e) refl
+next-quiet g s read h e = rw (run-longer (g .Q) (s .run) read h, eq-eqb (grown (s .run) read) (g .Q) e) refl
 
-pub next-on : (g : Settings) (s : State) (read : ℕ) → s .run < g .Q → (longer (s .run) read ≡ g .Q → ⊥)
-    → next g s read ≡ listening (s .mode) g s (longer (s .run) read) read
+pub next-on : (g : Settings) (s : State) (read : ℕ) → s .run .reads < g .Q → (grown (s .run) read ≡ g .Q → ⊥)
+    → next g s read ≡ listening (s .mode) g s (runOf (grown (s .run) read) read) read
 unfolding next
-next-on g s read h n = rw (run-longer (g .Q) (s .run) read h, ne-eqb (longer (s .run) read) (g .Q) n) refl
+next-on g s read h n = rw (run-longer (g .Q) (s .run) read h, ne-eqb (grown (s .run) read) (g .Q) n) refl
 
 -- and in each mode
 
-pub ready-high : (g : Settings) (read : ℕ) → read ≡ 1
-    → next g (ready (g .Q)) read ≡ record { state = ready (g .Q); event = nothing }
+pub ready-on : (g : Settings) (level read : ℕ) → read ≡ level
+    → next g (ready (g .Q) level) read ≡ record { state = ready (g .Q) level; event = nothing }
 unfolding next
-ready-high g read e = rw (run-full (g .Q) (g .Q) read refl e, eq-eqb (g .Q) (g .Q) refl) refl
+ready-on g level read e =
+    rw (run-full (g .Q) (runOf (g .Q) level) read refl e, eq-eqb (g .Q) (g .Q) refl)
+    (ap (λ (v : ℕ). record { state = ready (g .Q) v; event = nothing }) e)
 
-pub ready-low : (g : Settings) (read : ℕ) → 1 ≤ g .Q → read ≡ 0
-    → next g (ready (g .Q)) read ≡ record { state = counting (g .k) 0 0 []; event = nothing }
+pub ready-mark : (g : Settings) (level read : ℕ) → 2 ≤ g .Q → (read ≡ level → ⊥)
+    → next g (ready (g .Q) level) read ≡ record { state = counting (g .k) read (runOf 1 read) []; event = nothing }
 unfolding next
-ready-low g read h e = rw (e, ne-eqb 0 (g .Q) (λ z. omega arith)) refl
+ready-mark g level read h d = rw (ne-eqb read level d, ne-eqb 1 (g .Q) (λ z. omega arith)) refl
 
-pub counting-on : (g : Settings) (left level run : ℕ) (l : List ℕ) (read : ℕ) → run < g .Q
-    → (longer run read ≡ g .Q → ⊥) → (left - 1 ≡ 0 → ⊥)
-    → next g (counting left level run l) read
-    ≡ record { state = counting (left - 1) level (longer run read) l; event = nothing }
-counting-on g left level run l read h n d = next-on g (counting left level run l) read h n ∙ rw (ne-eqb (left - 1) 0 d)
+module _ (g : Settings) (level : ℕ) (run : Run) (l : List ℕ) (read : ℕ) (h : run .reads < g .Q) where
+  pub counting-on : (left : ℕ) → (grown run read ≡ g .Q → ⊥) → (left - 1 ≡ 0 → ⊥)
+      → next g (counting left level run l) read
+      ≡ record { state = counting (left - 1) level (runOf (grown run read) read) l; event = nothing }
+  counting-on left n d = next-on g (counting left level run l) read h n ∙ rw (ne-eqb (left - 1) 0 d)
 
-pub counting-sample : (g : Settings) (left level run : ℕ) (l : List ℕ) (read : ℕ) → run < g .Q
-    → (longer run read ≡ g .Q → ⊥) → left - 1 ≡ 0
-    → next g (counting left level run l) read ≡ collected g (longer run read) read (l ++ bitOf level read ∷ [])
-counting-sample g left level run l read h n d = next-on g (counting left level run l) read h n
-    ∙ rw (eq-eqb (left - 1) 0 d)
+  pub counting-sample : (left : ℕ) → (grown run read ≡ g .Q → ⊥) → left - 1 ≡ 0
+      → next g (counting left level run l) read
+      ≡ collected g (runOf (grown run read) read) read (l ++ bitOf level read ∷ [])
+  counting-sample left n d = next-on g (counting left level run l) read h n ∙ rw (eq-eqb (left - 1) 0 d)
 
-pub waiting-on : (g : Settings) (level run : ℕ) (l : List ℕ) (read : ℕ) → run < g .Q → (longer run read ≡ g .Q → ⊥)
-    → read ≡ level
-    → next g (waiting level run l) read ≡ record { state = waiting level (longer run read) l; event = nothing }
-waiting-on g level run l read h n d = next-on g (waiting level run l) read h n ∙ rw (eq-eqb read level d)
+  pub waiting-on : (grown run read ≡ g .Q → ⊥) → read ≡ level
+      → next g (waiting level run l) read
+      ≡ record { state = waiting level (runOf (grown run read) read) l; event = nothing }
+  waiting-on n d = next-on g (waiting level run l) read h n ∙ rw (eq-eqb read level d)
 
-pub waiting-mark : (g : Settings) (level run : ℕ) (l : List ℕ) (read : ℕ) → run < g .Q → (longer run read ≡ g .Q → ⊥)
-    → (read ≡ level → ⊥)
-    → next g (waiting level run l) read ≡ marked g (waiting level run l) (longer run read) read
-waiting-mark g level run l read h n d = next-on g (waiting level run l) read h n ∙ rw (ne-eqb read level d)
+  pub waiting-mark : (grown run read ≡ g .Q → ⊥) → (read ≡ level → ⊥)
+      → next g (waiting level run l) read ≡ marked g (waiting level run l) (runOf (grown run read) read) read
+  waiting-mark n d = next-on g (waiting level run l) read h n ∙ rw (ne-eqb read level d)

@@ -1,17 +1,18 @@
 -- What one read does in each mode: either it makes the run Q, and the receiver is ready, or the rule of the mode
 -- decides.
-use mathlib.Core.Path.{_≡_, refl, ap, _∙_}
+use mathlib.Core.Path.{_≡_, refl, sym, ap, _∙_}
 use mathlib.Core.Bool.{Bool, true, false}
 use mathlib.Core.List.{List, [], _∷_, _++_}
-use Prim.Native.Nat.{ℕ, zero, suc, _+_, _-_, _≤_, _<_, min}
+use Prim.Native.Nat.{ℕ, suc, _+_, _-_, _≤_, _<_, min}
+use native.Mathlib.Decide.{ℕ-discrete}
 use native.Mathlib.Omega.{arith}
 use lib.Dec.{eqb}
 use lib.ListN.{length, length-append}
 use borrow.Author.Tests.{eq-eqb, ne-eqb}
 use Rattle.measure.specs.Choose.{choose}
 use Rattle.measure.specs.Cells.{bitOf}
-use Rattle.board.specs.Rows.{Settings, State, nothing, row, Moved, runAfter, hunting, ready, counting, waiting}
-use Rattle.board.specs.Rows.{quietened, collected, listening, next}
+use Rattle.board.specs.Rows.{Settings, Run, runOf, State, nothing, row, Moved, runAfter, hunting, ready, counting}
+use Rattle.board.specs.Rows.{waiting, quietened, collected, listening, next}
 use Rattle.board.specs.declared.Mode.{Mode}
 use Rattle.board.specs.declared.Mode.the-variants.{Hunting, Ready, Counting, Waiting}
 
@@ -24,10 +25,10 @@ abbrev pub silently : State → Moved
 silently s = record { state = s; event = nothing }
 
 -- the run grows by at most one
-pub run-grows : (Q run read : ℕ) → runAfter Q run read ≤ suc run
-run-grows Q run read = go (eqb read 1)
+pub run-grows : (Q : ℕ) (run : Run) (read : ℕ) → runAfter Q run read .reads ≤ suc (run .reads)
+run-grows Q run read = go (eqb read (run .level))
   where
-    go : (high : Bool) → choose high (min (run + 1) Q) 0 ≤ suc run
+    go : (same : Bool) → choose same (min (run .reads + 1) Q) 1 ≤ suc (run .reads)
     go true = omega arith
     go false = omega arith
 
@@ -36,28 +37,32 @@ module _ (k n Q : ℕ) where
   G = rules k n Q
 
   -- a read that does not make the run Q, and one that does
-  pub calm-step : (s : State) (x : ℕ) → runAfter Q (s .run) x < Q
+  other-step : (s : State) (x : ℕ) → (runAfter Q (s .run) x .reads ≡ Q → ⊥)
       → next G s x ≡ listening (s .mode) G s (runAfter Q (s .run) x) x
   unfolding next
-  calm-step s x h = rw (ne-eqb (runAfter Q (s .run) x) Q (omega arith))
+  other-step s x n = rw (ne-eqb (runAfter Q (s .run) x .reads) Q n)
 
-  pub full-step : (s : State) (x : ℕ) → runAfter Q (s .run) x ≡ Q → next G s x ≡ quietened G s
+  pub calm-step : (s : State) (x : ℕ) → runAfter Q (s .run) x .reads < Q
+      → next G s x ≡ listening (s .mode) G s (runAfter Q (s .run) x) x
+  calm-step s x h = other-step s x (omega arith)
+
+  pub full-step : (s : State) (x : ℕ) → runAfter Q (s .run) x .reads ≡ Q → next G s x ≡ quietened G s x
   unfolding next
-  full-step s x h = rw (eq-eqb (runAfter Q (s .run) x) Q h)
+  full-step s x h = rw (eq-eqb (runAfter Q (s .run) x .reads) Q h)
 
   -- hunting
-  pub hunts : (ρ x : ℕ) → runAfter Q ρ x < Q → next G (hunting ρ) x ≡ silently (hunting (runAfter Q ρ x))
+  pub hunts : (ρ : Run) (x : ℕ) → runAfter Q ρ x .reads < Q → next G (hunting ρ) x ≡ silently (hunting (runAfter Q ρ x))
   hunts ρ x h = calm-step (hunting ρ) x h
 
-  -- ready, at a high read and at a low one, which is the first mark
-  pub stays-ready : next G (ready Q) 1 ≡ silently (ready Q)
-  stays-ready = full-step (ready Q) 1 (omega arith)
+  -- ready, at a read of its level and at another, which is the first mark
+  pub stays-ready : (v : ℕ) → next G (ready Q v) v ≡ silently (ready Q v)
+  stays-ready v = full-step (ready Q v) v (rw (eq-eqb v v refl) (omega arith))
 
-  pub opened : 0 < Q → next G (ready Q) 0 ≡ silently (counting k 0 0 [])
-  opened p = calm-step (ready Q) 0 p
+  pub opened : (v x : ℕ) → 1 < Q → (x ≡ v → ⊥) → next G (ready Q v) x ≡ silently (counting k x (runOf 1 x) [])
+  opened v x p d = calm-step (ready Q v) x (rw (ne-eqb x v d) p) ∙ rw (ne-eqb x v d)
 
   -- counting, before the sample
-  pub counts-on : (left m ρ : ℕ) (bs : List ℕ) (x : ℕ) → runAfter Q ρ x < Q
+  pub counts-on : (left m : ℕ) (ρ : Run) (bs : List ℕ) (x : ℕ) → runAfter Q ρ x .reads < Q
       → next G (counting (suc (suc left)) m ρ bs) x ≡ silently (counting (suc left) m (runAfter Q ρ x) bs)
   counts-on left m ρ bs x h =
       calm-step (counting (suc (suc left)) m ρ bs) x h
@@ -68,14 +73,16 @@ module _ (k n Q : ℕ) where
       fewer = omega arith
 
   -- at the sample: the last of a row, and any other
-  pub sample-last : (m ρ : ℕ) (bs : List ℕ) (x y : ℕ) → runAfter Q ρ x < Q → bitOf m x ≡ y → suc (length bs) ≡ n
+  pub sample-last : (m : ℕ) (ρ : Run) (bs : List ℕ) (x y : ℕ) → runAfter Q ρ x .reads < Q → bitOf m x ≡ y
+      → suc (length bs) ≡ n
       → next G (counting 1 m ρ bs) x ≡ record { state = hunting (runAfter Q ρ x); event = row (bs ++ (y ∷ [])) }
   sample-last m ρ bs x y h e l =
       calm-step (counting 1 m ρ bs) x h
       ∙ ap (λ (z : ℕ). collected G (runAfter Q ρ x) x (bs ++ (z ∷ []))) e
       ∙ rw (eq-eqb (length (bs ++ (y ∷ []))) n (rw length-append (omega arith)))
 
-  pub sample-more : (m ρ : ℕ) (bs : List ℕ) (x y : ℕ) → runAfter Q ρ x < Q → bitOf m x ≡ y → suc (length bs) < n
+  pub sample-more : (m : ℕ) (ρ : Run) (bs : List ℕ) (x y : ℕ) → runAfter Q ρ x .reads < Q → bitOf m x ≡ y
+      → suc (length bs) < n
       → next G (counting 1 m ρ bs) x ≡ silently (waiting x (runAfter Q ρ x) (bs ++ (y ∷ [])))
   sample-more m ρ bs x y h e l =
       calm-step (counting 1 m ρ bs) x h
@@ -83,25 +90,17 @@ module _ (k n Q : ℕ) where
       ∙ rw (ne-eqb (length (bs ++ (y ∷ []))) n (rw length-append (omega arith)))
 
   -- waiting, at a read of the level and at a mark
-  pub waits-on : (v ρ : ℕ) (bs : List ℕ) → runAfter Q ρ v < Q
+  pub waits-on : (v : ℕ) (ρ : Run) (bs : List ℕ) → runAfter Q ρ v .reads < Q
       → next G (waiting v ρ bs) v ≡ silently (waiting v (runAfter Q ρ v) bs)
   waits-on v ρ bs h = calm-step (waiting v ρ bs) v h ∙ rw (eq-eqb v v refl)
 
-  pub marks : (v ρ : ℕ) (bs : List ℕ) → 1 < Q → v ≤ 1 → (v ≡ 0 → ρ ≡ 0)
-      → (σ : ℕ) × (σ ≤ 1) × (next G (waiting v ρ bs) (1 - v) ≡ silently (counting k (1 - v) σ bs))
-  marks zero ρ bs p h z = (
-    1,
-    omega arith,
-    rw (z refl) (calm-step (waiting 0 0 bs) 1 (omega arith) ∙ ap (λ (σ : ℕ). silently (counting k 1 σ bs)) least),
-  )
-    where
-      least : min 1 Q ≡ 1
-      least = omega arith
-  marks (suc zero) ρ bs p h z = (0, omega arith, calm-step (waiting 1 ρ bs) 0 (omega arith))
-  marks (suc (suc v)) ρ bs p h z = absurd (omega arith)
+  pub marks : (v x : ℕ) (ρ : Run) (bs : List ℕ) → 1 < Q → ρ .level ≡ v → (x ≡ v → ⊥)
+      → next G (waiting v ρ bs) x ≡ silently (counting k x (runOf 1 x) bs)
+  marks v x ρ bs p e d =
+      calm-step (waiting v ρ bs) x (rw (e, ne-eqb x v d) p) ∙ rw (e, ne-eqb x v d)
 
   -- the run that is kept is the run after the read, in every mode
-  keeps-run : (s : State) (ρ x : ℕ) → listening (s .mode) G s ρ x .state .run ≡ ρ
+  keeps-run : (s : State) (ρ : Run) (x : ℕ) → listening (s .mode) G s ρ x .state .run ≡ ρ
   keeps-run s ρ x = go (s .mode)
     where
       either : (b : Bool) (one other : Moved) → one .state .run ≡ ρ → other .state .run ≡ ρ
@@ -117,10 +116,11 @@ module _ (k n Q : ℕ) where
           (either (eqb (length (s .bits ++ (bitOf (s .level) x ∷ []))) n) _ _ refl refl) refl
       go Waiting = either (eqb x (s .level)) _ _ refl refl
 
-  -- a high read that does not make the run Q adds one to it
-  pub adds : (s : State) → suc (s .run) < Q → next G s 1 .state .run ≡ suc (s .run)
-  adds s h = ap (λ (m : Moved). m .state .run) (calm-step s 1 (omega arith)) ∙ keeps-run s (runAfter Q (s .run) 1) 1
-      ∙ least
+  -- and where the run is now Q too
+  pub run-next : (s : State) (x : ℕ) → next G s x .state .run ≡ runAfter Q (s .run) x
+  run-next s x = go (ℕ-discrete (runAfter Q (s .run) x .reads) Q)
     where
-      least : runAfter Q (s .run) 1 ≡ suc (s .run)
-      least = omega arith
+      go : Dec (runAfter Q (s .run) x .reads ≡ Q) → next G s x .state .run ≡ runAfter Q (s .run) x
+      go (yes e) =
+          ap (λ (m : Moved). m .state .run) (full-step s x e) ∙ ap (λ (reads : ℕ). runOf reads x) (sym e)
+      go (no n) = ap (λ (m : Moved). m .state .run) (other-step s x n) ∙ keeps-run s (runAfter Q (s .run) x) x

@@ -5,8 +5,9 @@ use mathlib.Core.Path.{_≡_, refl, sym, _∙_}
 use mathlib.Core.List.{List, [], _∷_, _++_}
 use mathlib.Core.Bool.{true, _&&_}
 use native.Mathlib.Omega.{arith}
-use native.Mathlib.Decide.{decLt}
-use borrow.Author.Tests.{lt-ltb, le-leb, eq-eqb, ltb-true, leb-true, eqb-true}
+use native.Mathlib.Decide.{decLt, ℕ-discrete}
+use borrow.Author.Tests.{lt-ltb, le-leb, eq-eqb, ne-eqb, ltb-true, leb-true, eqb-true}
+use lib.Dec.{leb, ltb}
 use lib.ListN.{length, getD, take, drop, set, replicate, length-take, List·getD-eq-default}
 use lib.Seq.{getD-take, getD-drop, take-at}
 use Rattle.measure.specs.Ranges.{sampling, rowBits, quiet, rowSettingsFit}
@@ -14,13 +15,14 @@ use Rattle.measure.proofs.Both.{both, both-3, range-ends, ends-range}
 use Rattle.board.specs.declared.Mode.{Mode}
 use Rattle.board.specs.declared.Mode.the-variants.{Hunting, Ready, Counting, Waiting}
 use Rattle.board.specs.declared.Receiver.{Receiver}
-use Rattle.board.specs.Rows.{Settings, State}
+use Rattle.board.specs.Rows.{Settings, Run, runOf, State}
 use Rattle.board.specs.Packed.{unpacked, kept, settingsOf, stateOf, receiverOf}
-use Rattle.board.specs.WellFormed.{runFits, leftFits, foundFits, levelFits, unusedZero, wellFormed}
+use Rattle.board.specs.WellFormed.{runFits, runLevelFits, leftFits, foundFits, levelFits, unusedZero}
+use Rattle.board.specs.WellFormed.{wellFormed}
 use Rattle.board.proofs.PackedBits.{Binary, Words, binary-take, unpacked-binary, length-unpacked, packed-snoc}
 use Rattle.board.proofs.PackedBits.{packed-low, packed-cong, packed-unpacked, unpacked-packed}
 use Rattle.board.proofs.UnusedBits.{zero-at, unused-packed}
-use Rattle.board.proofs.RowRules.{Ranged, Fitting, Valid}
+use Rattle.board.proofs.RowRules.{Ranged, Fitting, Level, Valid}
 
 -- the tests and what they say
 
@@ -41,49 +43,91 @@ of-ranged g r =
     )
 
 -- the four tests of the numbers, in the order of the definition
-abbrev Numbered : Mode → Settings → (run left found level : ℕ) → Type 0
+abbrev Numbered : Mode → Settings → Run → (left found level : ℕ) → Type 0
 Numbered m g run left found level =
-    (runFits m run (g .Q) ≡ true) × (leftFits m left (g .k) ≡ true) × (foundFits m found (g .n) ≡ true)
-    × (levelFits m level ≡ true)
+    (runFits m (run .reads) (g .Q) ≡ true) × (leftFits m left (g .k) ≡ true) × (foundFits m found (g .n) ≡ true)
+    × (levelFits m level (run .level) ≡ true)
 
-fitting-of : (m : Mode) (g : Settings) (run left found level : ℕ) → Numbered m g run left found level
+-- inside a row the run has begun
+begun : (run Q : ℕ) → (leb 1 run && ltb run Q) ≡ true → (1 ≤ run) × (run < Q)
+begun run Q h = let b = both (leb 1 run) (ltb run Q) h in (leb-true 1 run (b .0), ltb-true run Q (b .1))
+
+of-begun : (run Q : ℕ) → 1 ≤ run → run < Q → (leb 1 run && ltb run Q) ≡ true
+of-begun run Q p h = rw (le-leb 1 run p, lt-ltb run Q h)
+
+fitting-of : (m : Mode) (g : Settings) (run : Run) (left found level : ℕ) → Numbered m g run left found level
     → Fitting m g run left found level
 fitting-of Hunting g run left found level h =
-    (ltb-true run (g .Q) (h .0), eqb-true left 0 (h .1), eqb-true found 0 (h .2), eqb-true level 1 (h .3))
-fitting-of Ready g run left found level h =
-    (eqb-true run (g .Q) (h .0), eqb-true left 0 (h .1), eqb-true found 0 (h .2), eqb-true level 1 (h .3))
+    (ltb-true (run .reads) (g .Q) (h .0), eqb-true left 0 (h .1), eqb-true found 0 (h .2), eqb-true level 1 (h .3))
+fitting-of Ready g run left found level h = (
+  eqb-true (run .reads) (g .Q) (h .0),
+  eqb-true left 0 (h .1),
+  eqb-true found 0 (h .2),
+  eqb-true level (run .level) (h .3),
+)
 fitting-of Counting g run left found level h =
     let b = range-ends 1 (g .k) left (h .1) in
-    (ltb-true run (g .Q) (h .0), b .0, b .1, ltb-true found (g .n) (h .2), leb-true level 1 (h .3))
+    let r = begun (run .reads) (g .Q) (h .0) in
+    (r .1, b .0, b .1, ltb-true found (g .n) (h .2), leb-true level 1 (h .3), r .0)
 fitting-of Waiting g run left found level h =
-    (ltb-true run (g .Q) (h .0), eqb-true left 0 (h .1), ltb-true found (g .n) (h .2), leb-true level 1 (h .3))
+    let r = begun (run .reads) (g .Q) (h .0) in
+    (r .1, eqb-true left 0 (h .1), ltb-true found (g .n) (h .2), leb-true level 1 (h .3), r .0)
 
-of-fitting : (m : Mode) (g : Settings) (run left found level : ℕ) → Fitting m g run left found level
+of-fitting : (m : Mode) (g : Settings) (run : Run) (left found level : ℕ) → Fitting m g run left found level
     → Numbered m g run left found level
 of-fitting Hunting g run left found level h =
-    (lt-ltb run (g .Q) (h .0), eq-eqb left 0 (h .1), eq-eqb found 0 (h .2), eq-eqb level 1 (h .3))
-of-fitting Ready g run left found level h =
-    (eq-eqb run (g .Q) (h .0), eq-eqb left 0 (h .1), eq-eqb found 0 (h .2), eq-eqb level 1 (h .3))
+    (lt-ltb (run .reads) (g .Q) (h .0), eq-eqb left 0 (h .1), eq-eqb found 0 (h .2), eq-eqb level 1 (h .3))
+of-fitting Ready g run left found level h = (
+  eq-eqb (run .reads) (g .Q) (h .0),
+  eq-eqb left 0 (h .1),
+  eq-eqb found 0 (h .2),
+  eq-eqb level (run .level) (h .3),
+)
 of-fitting Counting g run left found level h = (
-  lt-ltb run (g .Q) (h .0),
+  of-begun (run .reads) (g .Q) (h .5) (h .0),
   ends-range 1 (g .k) left (h .1) (h .2),
   lt-ltb found (g .n) (h .3),
   le-leb level 1 (h .4),
 )
-of-fitting Waiting g run left found level h =
-    (lt-ltb run (g .Q) (h .0), eq-eqb left 0 (h .1), lt-ltb found (g .n) (h .2), le-leb level 1 (h .3))
+of-fitting Waiting g run left found level h = (
+  of-begun (run .reads) (g .Q) (h .4) (h .0),
+  eq-eqb left 0 (h .1),
+  lt-ltb found (g .n) (h .2),
+  le-leb level 1 (h .3),
+)
+
+-- the test of the run's level
+level-of : (run : Run) → runLevelFits (run .reads) (run .level) ≡ true → Level run
+level-of run h = go (ℕ-discrete (run .reads) 0)
+  where
+    go : Dec (run .reads ≡ 0) → Level run
+    go (yes e) =
+        let one = eqb-true (run .level) 1 (rw (eq-eqb (run .reads) 0 e) at h) in
+        record { most = omega (arith, one); high = λ z. one }
+    go (no n) =
+        record {
+          most = leb-true (run .level) 1 (rw (ne-eqb (run .reads) 0 n) at h);
+          high = λ z. absurd (n z);
+        }
+
+of-level : (run : Run) → Level run → runLevelFits (run .reads) (run .level) ≡ true
+of-level run l = go (ℕ-discrete (run .reads) 0)
+  where
+    go : Dec (run .reads ≡ 0) → runLevelFits (run .reads) (run .level) ≡ true
+    go (yes e) = rw (eq-eqb (run .reads) 0 e, eq-eqb (run .level) 1 (l .high e))
+    go (no n) = rw (ne-eqb (run .reads) 0 n, le-leb (run .level) 1 (l .most))
 
 -- fewer bits fit as well
-fitting-fewer : (m : Mode) (g : Settings) (run left found fewer level : ℕ) → fewer ≤ found
+fitting-fewer : (m : Mode) (g : Settings) (run : Run) (left found fewer level : ℕ) → fewer ≤ found
     → Fitting m g run left found level → Fitting m g run left fewer level
 fitting-fewer Hunting g run left found fewer level p h = (h .0, h .1, omega arith, h .3)
 fitting-fewer Ready g run left found fewer level p h = (h .0, h .1, omega arith, h .3)
-fitting-fewer Counting g run left found fewer level p h = (h .0, h .1, h .2, omega arith, h .4)
-fitting-fewer Waiting g run left found fewer level p h = (h .0, h .1, omega arith, h .3)
+fitting-fewer Counting g run left found fewer level p h = (h .0, h .1, h .2, omega arith, h .4, h .5)
+fitting-fewer Waiting g run left found fewer level p h = (h .0, h .1, omega arith, h .3, h .4)
 
 -- the bits found are fewer than a row's most
-found-most : (m : Mode) (g : Settings) (run left found level : ℕ) → Ranged g → Fitting m g run left found level
-    → found < 1024
+found-most : (m : Mode) (g : Settings) (run : Run) (left found level : ℕ) → Ranged g
+    → Fitting m g run left found level → found < 1024
 found-most Hunting g run left found level r h = omega arith
 found-most Ready g run left found level r h = omega arith
 found-most Counting g run left found level r h = omega (arith, r .n-most)
@@ -106,7 +150,8 @@ found-fits-most m k n Q found s f = go m f
 -- what a well formed receiver is known by
 pub record Facts (x : Receiver) : Type 0 where
   pub range : Ranged (settingsOf x)
-  pub fitting : Fitting (x .mode) (settingsOf x) (x .run .0) (x .left .0) (x .found) (x .level)
+  pub fitting : Fitting (x .mode) (settingsOf x) (runOf (x .run .0) (x .runlevel)) (x .left .0) (x .found) (x .level)
+  pub level : Level (runOf (x .run .0) (x .runlevel))
   pub unused : unusedZero (x .found) (x .bits) ≡ true
 
 pub facts : (x : Receiver) → wellFormed x ≡ true → Facts x
@@ -114,24 +159,28 @@ unfolding wellFormed
 facts x h =
     let s = rowSettingsFit (x .k .0) (x .n) (x .q .0) in
     let r = runFits (x .mode) (x .run .0) (x .q .0) in
+    let u = runLevelFits (x .run .0) (x .runlevel) in
     let l = leftFits (x .mode) (x .left .0) (x .k .0) in
     let f = foundFits (x .mode) (x .found) (x .n) in
-    let v = levelFits (x .mode) (x .level) in
-    let six = both (s && r && l && f && v) (unusedZero (x .found) (x .bits)) h in
-    let five = both (s && r && l && f) v (six .0) in
-    let four = both (s && r && l) f (five .0) in
-    let three = both-3 s r l (four .0) in
+    let v = levelFits (x .mode) (x .level) (x .runlevel) in
+    let seven = both (s && r && u && l && f && v) (unusedZero (x .found) (x .bits)) h in
+    let six = both (s && r && u && l && f) v (seven .0) in
+    let five = both (s && r && u && l) f (six .0) in
+    let four = both (s && r && u) l (five .0) in
+    let three = both-3 s r u (four .0) in
     record {
       range = ranged-of (settingsOf x) (three .0);
       fitting =
-          fitting-of (x .mode) (settingsOf x) (x .run .0) (x .left .0) (x .found) (x .level)
-          (three .1, three .2, four .1, five .1);
-      unused = six .1;
+          fitting-of (x .mode) (settingsOf x) (runOf (x .run .0) (x .runlevel)) (x .left .0) (x .found) (x .level)
+          (three .1, four .1, five .1, six .1);
+      level = level-of (runOf (x .run .0) (x .runlevel)) (three .2);
+      unused = seven .1;
     }
 
 pub found-below : (x : Receiver) → Facts x → x .found < 1024
 found-below x h =
-    found-most (x .mode) (settingsOf x) (x .run .0) (x .left .0) (x .found) (x .level) (h .range) (h .fitting)
+    found-most (x .mode) (settingsOf x) (runOf (x .run .0) (x .runlevel)) (x .left .0) (x .found) (x .level) (h .range)
+    (h .fitting)
 
 -- the state of a well formed receiver is well formed
 pub valid-of : (x : Receiver) → wellFormed x ≡ true → Valid (settingsOf x) (stateOf x)
@@ -140,9 +189,10 @@ valid-of x h =
     record {
       range = f .range;
       fitting =
-          fitting-fewer (x .mode) (settingsOf x) (x .run .0) (x .left .0) (x .found)
+          fitting-fewer (x .mode) (settingsOf x) (runOf (x .run .0) (x .runlevel)) (x .left .0) (x .found)
           (length (take (x .found) (unpacked 8 (x .bits)))) (x .level)
           (omega (arith, length-take (x .found) (unpacked 8 (x .bits)))) (f .fitting);
+      level = f .level;
       binary = binary-take (x .found) (unpacked 8 (x .bits)) (unpacked-binary 8 (x .bits));
     }
 
@@ -200,6 +250,7 @@ module _ (g : Settings) (s : State) (v : Valid g s) where
       let n = of-fitting (s .mode) g (s .run) (s .left) (length (s .bits)) (s .level) (v .fitting) in
       simp (
         of-ranged g (v .range),
+        of-level (s .run) (v .level),
         n .0,
         n .1,
         n .2,

@@ -3,15 +3,16 @@
 use Prim.Native.Nat.{ℕ, zero, suc, _+_, _-_, _*_, _/_, _%_, _^_, _≤_, _<_}
 use mathlib.Core.Path.{_≡_, refl, sym, _∙_, ap}
 use mathlib.Core.List.{List, [], _∷_, _++_}
-use mathlib.Core.Bool.{Bool, true, false, _&&_, and-assoc}
+use mathlib.Core.Bool.{Bool, true, false, _&&_, and-assoc, and-true, and-false}
 use native.Mathlib.Nat.{pow-succ', zero-mul, suc-mul}
 use native.Mathlib.Omega.{arith}
-use native.Mathlib.Decide.{decLt, decLe}
-use borrow.Author.Tests.{lt-ltb, le-ltb, le-leb, lt-leb, eq-eqb, ne-eqb, eqb-true}
-use lib.Dec.{eqb, ltb, eqb·suc-suc, eqb·zero-suc}
-use lib.ListN.{length, getD, drop, set, replicate}
-use lib.Seq.{drop-append-le, drop-append-add, drop-at}
-use Rattle.measure.specs.Lists.{firstAbove}
+use native.Mathlib.Decide.{decLt}
+use native.Mathlib.Numerals.{add-one}
+use borrow.Author.Tests.{lt-ltb, le-ltb, eq-eqb, ne-eqb, eqb-true}
+use lib.Bits.{bitAnd, bitOr, or-add-and, and-le-l, and-le-r}
+use lib.Dec.{eqb, ltb}
+use lib.ListN.{length, getD, take, drop, replicate, take-append-drop, drop-of-length-le}
+use lib.Seq.{drop-append-le, drop-append-add, drop-at, drop-cons}
 use Rattle.measure.proofs.Both.{both}
 use Rattle.board.specs.Packed.{digits, packed, unpacked}
 use Rattle.board.specs.WellFormed.{allZero, unusedZero}
@@ -32,34 +33,59 @@ zero-append : (l t : List ℕ) → allZero (l ++ t) ≡ (allZero l && allZero t)
 zero-append [] t = refl
 zero-append (x ∷ l) t = rw (zero-append l t) (sym (and-assoc (eqb x 0) (allZero l) (allZero t)))
 
--- entries 0 in front of a list change nothing
-pub zeros-before : (n : ℕ) (l : List ℕ) → allZero (replicate n 0 ++ l) ≡ allZero l
-zeros-before zero l = refl
-zeros-before (suc n) l = zeros-before n l
+-- a part that is not all 0
+pub zero-part : (l : List ℕ) (n : ℕ) → allZero (take n l) ≡ false → allZero l ≡ false
+zero-part l n h =
+    ap allZero (sym (take-append-drop n l)) ∙ zero-append (take n l) (drop n l) ∙ rw h
 
--- the first entry that is not cleared
-pub cleared-next : (l : List ℕ) (i : ℕ) → i < length l → getD (replicate i 0 ++ drop i l) i 0 ≡ getD l i 0
-cleared-next [] i h = absurd (omega arith)
-cleared-next (x ∷ l) zero h = refl
-cleared-next (x ∷ l) (suc i) h = cleared-next l i (omega arith)
+-- entries at the front that are 0 may be passed over, fewer too
+pub zero-past : (l : List ℕ) (m n : ℕ) → m ≤ n → allZero (take n l) ≡ true → allZero l ≡ allZero (drop m l)
+zero-past l zero n p h = refl
+zero-past [] (suc m) n p h = refl
+zero-past (x ∷ l) (suc m) zero p h = absurd (omega arith)
+zero-past (x ∷ l) (suc m) (suc n) p h =
+    let b = both (eqb x 0) (allZero (take n l)) h in rw (b .0) (zero-past l m n (omega arith) (b .1))
 
--- one entry more is cleared
-pub clear-one : (l : List ℕ) (i : ℕ) → i < length l
-    → set (replicate i 0 ++ drop i l) i 0 ≡ replicate (suc i) 0 ++ drop (suc i) l
-clear-one [] i h = absurd (omega arith)
-clear-one (x ∷ l) zero h = refl
-clear-one (x ∷ l) (suc i) h = ap (λ (t : List ℕ). 0 ∷ t) (clear-one l i (omega arith))
-
--- no entry is above 0
-pub zero-above : (l : List ℕ) → allZero l ≡ eqb (firstAbove 0 l) (length l)
-unfolding firstAbove
-zero-above [] = refl
-zero-above (x ∷ l) = go (decLe x 0) (zero-above l)
+-- one entry more is looked at: the bits of all together are 0 where they were and the entry's are
+or-zero : (all entry : ℕ) → eqb (bitOr all entry) 0 ≡ (eqb all 0 && eqb entry 0)
+or-zero all entry = go (decLt 0 all) (decLt 0 entry)
   where
-    go : Dec (x ≤ 0) → allZero l ≡ eqb (firstAbove 0 l) (length l)
-        → allZero (x ∷ l) ≡ eqb (firstAbove 0 (x ∷ l)) (suc (length l))
-    go (yes p) e = rw (le-leb x 0 p, eq-eqb x 0 (omega arith)) (e ∙ sym (eqb·suc-suc (firstAbove 0 l) (length l)))
-    go (no p) e = rw (lt-leb x 0 (omega arith), ne-eqb x 0 (λ z. omega arith)) (sym (eqb·zero-suc (length l)))
+    sum : bitOr all entry + bitAnd all entry ≡ all + entry
+    sum = or-add-and all entry
+
+    first : bitAnd all entry ≤ all
+    first = and-le-l all entry
+
+    second : bitAnd all entry ≤ entry
+    second = and-le-r all entry
+
+    go : Dec (0 < all) → Dec (0 < entry) → eqb (bitOr all entry) 0 ≡ (eqb all 0 && eqb entry 0)
+    go (yes h) d =
+        rw (ne-eqb (bitOr all entry) 0 (λ e. omega (arith, sum, first, second)), ne-eqb all 0 (λ e. omega arith))
+    go (no h) (yes d) =
+        rw (
+          ne-eqb (bitOr all entry) 0 (λ e. omega (arith, sum, first, second)),
+          ne-eqb entry 0 (λ e. omega arith),
+          and-false (eqb all 0),
+        )
+    go (no h) (no d) =
+        rw (
+          eq-eqb (bitOr all entry) 0 (omega (arith, sum, first, second)),
+          eq-eqb all 0 (omega arith),
+          eq-eqb entry 0 (omega arith),
+        )
+
+pub looked-on : (l : List ℕ) (all i : ℕ) → i < length l → (eqb all 0 && allZero (drop i l)) ≡ allZero l
+    → (eqb (bitOr all (getD l i 0)) 0 && allZero (drop (i + 1) l)) ≡ allZero l
+looked-on l all i h so-far =
+    rw (or-zero all (getD l i 0), add-one i)
+    (and-assoc (eqb all 0) (eqb (getD l i 0) 0) (allZero (drop (suc i) l)) ∙ (rw (drop-cons l i 0 h) at so-far))
+
+-- all are looked at
+pub looked-all : (l : List ℕ) (all i : ℕ) → length l ≤ i → (eqb all 0 && allZero (drop i l)) ≡ allZero l
+    → allZero l ≡ eqb all 0
+looked-all l all i h so-far =
+    sym so-far ∙ rw (drop-of-length-le l {i = i} h) (and-true (eqb all 0))
 
 -- two tests that hold of the same numbers are one test
 same-test : (a b c d : ℕ) → (a < b → c < d) → (b ≤ a → d ≤ c) → ltb a b ≡ ltb c d

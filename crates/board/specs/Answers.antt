@@ -8,10 +8,10 @@ use lib.Dec.{leb, ltb}
 use Rattle.measure.specs.Choose.{choose}
 use Rattle.measure.specs.Ranges.{entriesMost, rowSettingsFit}
 use Rattle.measure.specs.Lists.{firstAbove, someAbove}
-use Rattle.measure.specs.Refusals.{Answer, given, refused, denied}
+use Rattle.measure.specs.Refusals.{Answer, given, refused, refusedAfter, denied}
 use Rattle.board.specs.Rows.{Settings, State, Event, nothing, row, broken, next, fresh}
 use Rattle.board.specs.Feeding.{Report, reports, after, firstEvent, usedOf}
-use Rattle.board.specs.Packed.{unpacked, kept, settingsOf, stateOf, receiverOf}
+use Rattle.board.specs.Packed.{unpacked, kept, whole, settingsOf, stateOf, receiverOf}
 use Rattle.board.specs.WellFormed.{wellFormed}
 use Rattle.board.specs.declared.Mode.the-variants.{Hunting}
 use Rattle.board.specs.declared.Receiver.{Receiver}
@@ -21,6 +21,7 @@ use Rattle.board.specs.declared.Start.{Start}
 use Rattle.board.specs.declared.Start.the-variants.{Fresh, Refused as StartRefused}
 use Rattle.board.specs.declared.Stepped.{Stepped}
 use Rattle.board.specs.declared.Listened.{Listened}
+use Rattle.board.specs.declared.Told.{Told}
 
 -- R50: the receiver afterwards, what the reads brought or the refusal, and a delivered row's bits as they are kept (all
 -- 0 otherwise)
@@ -43,7 +44,7 @@ reached g s event = record { receiver = receiverOf g s; answer = given event; ro
 abbrev pub refusing : Receiver → (number place : ℕ) → Outcome
 refusing x number place = record { receiver = x; answer = refused number place; row = kept [] }
 
--- R33: a refused fresh state is hunting, and every number and bit of it is 0, the level too
+-- R33: a refused fresh state is hunting, and every number and bit of it is 0, both levels too
 abbrev pub refusedFresh : Receiver
 refusedFresh =
     record {
@@ -52,6 +53,7 @@ refusedFresh =
       q = record { 0 = 0 };
       mode = Hunting;
       run = record { 0 = 0 };
+      runlevel = 0;
       left = record { 0 = 0 };
       level = 0;
       found = 0;
@@ -100,6 +102,25 @@ listened x reads =
     (toEvent (settingsOf x) (stateOf x) (levelsOf reads) (reports (settingsOf x) (stateOf x) 0 (levelsOf reads)))))
     (refusing x 1 0, 0)
 
+-- B32: of bytes that are lent for a row: they hold it where one is delivered, and are otherwise left
+abbrev pub rowLent : Answer Event → (delivered before : List ℕ) → List ℕ
+rowLent (given nothing) delivered before = before
+rowLent (given (row bits)) delivered before = delivered
+rowLent (given (broken found)) delivered before = before
+rowLent (refused number place) delivered before = before
+rowLent (refusedAfter number place count) delivered before = before
+
+-- B32, R51: an outcome where the bytes for a row are lent
+abbrev pub inLent : (before : List ℕ) → Outcome × ℕ → Outcome × ℕ
+inLent before (outcome, used) = (
+  record {
+    receiver = outcome .receiver;
+    answer = outcome .answer;
+    row = rowLent (outcome .answer) (outcome .row) before;
+  },
+  used,
+)
+
 -- A8: what each case of the code's answers says; a row's bits stand beside the event, n of them
 abbrev pub eventSays : (n : ℕ) (bytes : List ℕ) → CodeEvent → Answer Event
 eventSays n bytes Nothing = given nothing
@@ -120,5 +141,12 @@ steppedSays x = record { receiver = x .receiver; answer = eventSays (x .receiver
 abbrev pub listenedSays : Listened → Outcome × ℕ
 listenedSays x = (
   record { receiver = x .receiver; answer = eventSays (x .receiver .n) (x .row) (x .event); row = x .row },
+  x .used .0,
+)
+
+-- A8: of bare numbers, beside the bits and the row's bytes as they are left
+abbrev pub toldSays : Told → (bits row : List ℕ) → Outcome × ℕ
+toldSays x bits bytes = (
+  record { receiver = whole (x .bare) bits; answer = eventSays (x .bare .n) bytes (x .event); row = bytes },
   x .used .0,
 )

@@ -5,3 +5,4 @@ pub mod WellFormed
 pub mod Answers
 pub mod EveryStep
 pub mod Listening
+pub mod Crossed

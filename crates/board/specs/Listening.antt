@@ -7,7 +7,8 @@ use lib.ListN.{length, take, drop}
 use lib.Dec.{leb, eqb}
 use Rattle.measure.specs.Choose.{choose}
 use Rattle.measure.specs.Refusals.{given}
-use Rattle.board.specs.Rows.{Settings, State, Event, nothing, row, broken, Moved, hunting, ready, next}
+use Rattle.board.specs.Rows.{Settings, Run, runOf, State, Event, nothing, row, broken, Moved, hunting, ready}
+use Rattle.board.specs.Rows.{next}
 use Rattle.board.specs.Packed.{unpacked, kept, stateOf, receiverOf}
 use Rattle.board.specs.WellFormed.{wellFormed}
 use Rattle.board.specs.Answers.{Outcome, reached, refusing}
@@ -31,6 +32,7 @@ keeping g now bytes =
       q = record { 0 = g .Q };
       mode = now .mode;
       run = record { 0 = now .run };
+      runlevel = now .runlevel;
       left = record { 0 = now .left };
       level = now .level;
       found = now .found;
@@ -42,9 +44,9 @@ pub record Keeps (g : Settings) (now : Numbers) (bytes : List ℕ) : Type 0 wher
   pub well : wellFormed (keeping g now bytes) ≡ true
   pub whole : receiverOf g (stateOf (keeping g now bytes)) ≡ keeping g now bytes
 
--- a run that is still short of Q, one read later
-abbrev pub longer : (run read : ℕ) → ℕ
-longer run read = choose (eqb read 1) (run + 1) 0
+-- how long a run is that was still short of Q, one read later
+abbrev pub longer : (run runLevel read : ℕ) → ℕ
+longer run runLevel read = choose (eqb read runLevel) (run + 1) 1
 
 -- a move that brings an event is the outcome, with the reads used by then; one that brings nothing leaves it to the
 -- rest of the reads
@@ -72,35 +74,37 @@ abbrev pub heardSays : Receiver → Settings → (all : ℕ) (bytes : List ℕ) 
 heardSays x g all bytes (Ended now) =
     (record { receiver = keeping g now bytes; answer = given nothing; row = kept [] }, all)
 heardSays x g all bytes (Bad place) = (refusing x 2 place, 0)
-heardSays x g all bytes (Full run used) = (
+heardSays x g all bytes (Full run sample used) = (
   record {
-    receiver = receiverOf g (hunting run);
+    receiver = receiverOf g (hunting (runOf run sample));
     answer = given (row (take (g .n) (unpacked 8 bytes)));
     row = bytes;
   },
   used,
 )
-heardSays x g all bytes (Broken found used) = (reached g (ready (g .Q)) (broken found), used)
+heardSays x g all bytes (Broken found read used) = (reached g (ready (g .Q) read) (broken found), used)
 
 -- listening from a place on: whatever receiver a refusal hands back, the outcome of the reads is what the case says
 abbrev pub Hears : Settings → State → (from : ℕ) (reads bytes : List ℕ) → Heard → Type 0
 Hears g s from reads bytes heard =
     (x : Receiver) → heardFrom x g s from (drop from reads) ≡ heardSays x g (length reads) bytes heard
 
--- what each case of a search says: where it finds its read, what is done with that read follows
-abbrev pub soughtSays : Receiver → Settings → (done : ℕ → ℕ → Moved) (bits reads : List ℕ) → Sought → Outcome × ℕ
-soughtSays x g done bits reads (Found used run read) = movedFrom x g (done run read) used (drop used reads)
+-- what each case of a search says: where it finds its read, which is then the run's level, what is done with that read
+-- follows
+abbrev pub soughtSays : Receiver → Settings → (done : Run → ℕ → Moved) (bits reads : List ℕ) → Sought → Outcome × ℕ
+soughtSays x g done bits reads (Found used run read) =
+    movedFrom x g (done (runOf run read) read) used (drop used reads)
 soughtSays x g done bits reads (Stopped heard) = heardSays x g (length reads) (kept bits) heard
 
--- a read that is found stands after the place of departure, is a level, and leaves the run below Q
+-- a read that is found stands after the place of departure, is a level, and leaves a run below Q
 abbrev pub Lands : (from all Q : ℕ) → Sought → Type 0
-Lands from all Q (Found used run read) = (from < used) × (used ≤ all) × (run < Q) × (read ≤ 1)
+Lands from all Q (Found used run read) = (from < used) × (used ≤ all) × (1 ≤ run) × (run < Q) × (read ≤ 1)
 Lands from all Q (Stopped heard) = Unit {0}
 
 -- A search from a place on, in a row of so many bits: it lands, and the outcome of the reads is what the case says. The
 -- state in which it starts and what is done with the read that it finds are known for each list of bits.
 pub record Seeks (Q found from : ℕ) (reads : List ℕ) (start : List ℕ → State)
-    (done : Settings → List ℕ → ℕ → ℕ → Moved) (sought : Sought) : Type 0 where
+    (done : Settings → List ℕ → Run → ℕ → Moved) (sought : Sought) : Type 0 where
   pub lands : Lands from (length reads) Q sought
   pub says : (x : Receiver) (k n : ℕ) (bits : List ℕ) → length bits ≡ found
       → heardFrom x (settingsFrom k n Q) (start bits) from (drop from reads)

@@ -3,7 +3,8 @@
 use Prim.Native.Nat.{ℕ, zero, suc, _+_, _*_, _/_, _%_}
 use mathlib.Core.List.{List, [], _∷_, _++_}
 use lib.ListN.{length, take, drop}
-use Rattle.board.specs.Rows.{Settings, State}
+use Rattle.board.specs.Rows.{Settings, runOf, State}
+use Rattle.board.specs.declared.Bare.{Bare}
 use Rattle.board.specs.declared.Receiver.{Receiver}
 
 -- B30: the number whose binary digits, lowest first, are the first `width` entries of a list; a place past the end
@@ -32,6 +33,22 @@ unpacked width (x ∷ words) = digits width x ++ unpacked width words
 abbrev pub kept : List ℕ → List ℕ
 kept bits = packed 8 128 bits
 
+-- B1, B32: the receiver that bare numbers and lent bits make
+abbrev pub whole : Bare → (bits : List ℕ) → Receiver
+whole x bits =
+    record {
+      k = x .k;
+      n = x .n;
+      q = x .q;
+      mode = x .mode;
+      run = x .run;
+      runlevel = x .runlevel;
+      left = x .left;
+      level = x .level;
+      found = x .found;
+      bits = bits;
+    }
+
 -- B1: the settings that a receiver keeps
 abbrev pub settingsOf : Receiver → Settings
 settingsOf x = record { k = x .k .0; n = x .n; Q = x .q .0 }
@@ -43,7 +60,7 @@ stateOf x =
       mode = x .mode;
       left = x .left .0;
       level = x .level;
-      run = x .run .0;
+      run = runOf (x .run .0) (x .runlevel);
       bits = take (x .found) (unpacked 8 (x .bits));
     }
 
@@ -55,7 +72,8 @@ receiverOf g s =
       n = g .n;
       q = record { 0 = g .Q };
       mode = s .mode;
-      run = record { 0 = s .run };
+      run = record { 0 = s .run .reads };
+      runlevel = s .run .level;
       left = record { 0 = s .left };
       level = s .level;
       found = length (s .bits);

@@ -5,7 +5,7 @@ ghost use mathlib.Core.Bool.{true};
 ghost use mathlib.Core.List.{[], _∷_, _++_};
 ghost use Prim.Native.Nat.{_+_, _^_, _≤_, _<_};
 ghost use lib.ListN.{length};
-ghost use Rattle.board.specs.Rows.{hunting, ready, counting, waiting, collected, marked};
+ghost use Rattle.board.specs.Rows.{runOf, hunting, ready, counting, waiting, collected, marked};
 ghost use Rattle.board.specs.Packed.{kept, stateOf};
 ghost use Rattle.board.specs.Listening.{settingsFrom, keeping, Keeps, longer as longerRun, Seeks, Hears};
 ghost use Rattle.measure.specs.Ranges.{rowSettingsFit};
@@ -21,36 +21,37 @@ pub enum Heard {
     Ended(Numbers),
     // At a read that is no level, at this place.
     Bad(usize),
-    // With a row's last bit: the run then, and the reads used.
-    Full(usize, usize),
-    // With a row in progress broken: its number of bits, and the reads used.
-    Broken(usize, usize),
+    // With a row's last bit: the run then, its level, and the reads used.
+    Full(usize, u8, usize),
+    // With a row in progress broken: its number of bits, the run's level, and the reads used.
+    Broken(usize, u8, usize),
 }
 
-// How a search for a sample or a mark ends: with the reads used up to it, the run after it and its level, or before it.
+// How a search for a sample or a mark ends: with the reads used up to it, the run with it and its level, or before it.
 enum Sought {
     Found(usize, usize, u8),
     Stopped(Heard),
 }
 
 // The run after a read, where it was below Q before and so cannot pass it.
-fn longer(run: usize, read: u8) -> usize
+pub fn longer(run: usize, runlevel: u8, read: u8) -> usize
     requires { ⌜ run + 1 < 2 ^ 64 ⌝ }
-    ensures { λ x. ⌜ longerRun run read ≡ x ⌝ }
+    ensures { λ x. ⌜ longerRun run runlevel read ≡ x ⌝ }
 {
-    if read == HIGH { run + 1 } else { 0 }
+    if read == runlevel { run + 1 } else { 1 }
 }
 
 // Counting: searches for the sample.
 fn to_sample(reads: &[u8], from: usize, start: Numbers, q: usize) -> Sought
     requires { ⌜ (from ≤ length (now reads)) × (start .run < q) × (1 ≤ start .left) ⌝ }
     ensures { λ x. ⌜ Seeks q (start .found) from (now (reads .entry))
-        (λ bits. counting (start .left) (start .level) (start .run) bits)
+        (λ bits. counting (start .left) (start .level) (runOf (start .run) (start .runlevel)) bits)
         (λ g bits run read. collected g run read (bits ++ bitOf (start .level) read ∷ [])) x ⌝ }
 {
     let level = start.level;
     let found = start.found;
     let mut run = start.run;
+    let mut runlevel = start.runlevel;
     let mut left = start.left;
     let mut i = from;
     while i < reads.len() {
@@ -60,9 +61,10 @@ fn to_sample(reads: &[u8], from: usize, start: Numbers, q: usize) -> Sought
         }
         i += 1;
         left -= 1;
-        run = longer(run, read);
+        run = longer(run, runlevel, read);
+        runlevel = read;
         if run == q {
-            return Sought::Stopped(Heard::Broken(found, i));
+            return Sought::Stopped(Heard::Broken(found, read, i));
         }
         if left == 0 {
             return Sought::Found(i, run, read);
@@ -71,6 +73,7 @@ fn to_sample(reads: &[u8], from: usize, start: Numbers, q: usize) -> Sought
     Sought::Stopped(Heard::Ended(Numbers {
         mode: Mode::Counting,
         run: run,
+        runlevel: runlevel,
         left: left,
         level: level,
         found: found,
@@ -81,12 +84,14 @@ fn to_sample(reads: &[u8], from: usize, start: Numbers, q: usize) -> Sought
 fn to_mark(reads: &[u8], from: usize, start: Numbers, q: usize) -> Sought
     requires { ⌜ (from ≤ length (now reads)) × (start .run < q) ⌝ }
     ensures { λ x. ⌜ Seeks q (start .found) from (now (reads .entry))
-        (λ bits. waiting (start .level) (start .run) bits)
-        (λ g bits run read. marked g (waiting (start .level) (start .run) bits) run read) x ⌝ }
+        (λ bits. waiting (start .level) (runOf (start .run) (start .runlevel)) bits)
+        (λ g bits run read. marked g (waiting (start .level) (runOf (start .run) (start .runlevel)) bits) run read)
+        x ⌝ }
 {
     let level = start.level;
     let found = start.found;
     let mut run = start.run;
+    let mut runlevel = start.runlevel;
     let mut i = from;
     while i < reads.len() {
         let read = reads[i];
@@ -94,9 +99,10 @@ fn to_mark(reads: &[u8], from: usize, start: Numbers, q: usize) -> Sought
             return Sought::Stopped(Heard::Bad(i));
         }
         i += 1;
-        run = longer(run, read);
+        run = longer(run, runlevel, read);
+        runlevel = read;
         if run == q {
-            return Sought::Stopped(Heard::Broken(found, i));
+            return Sought::Stopped(Heard::Broken(found, read, i));
         }
         if read != level {
             return Sought::Found(i, run, read);
@@ -105,6 +111,7 @@ fn to_mark(reads: &[u8], from: usize, start: Numbers, q: usize) -> Sought
     Sought::Stopped(Heard::Ended(Numbers {
         mode: Mode::Waiting,
         run: run,
+        runlevel: runlevel,
         left: 0,
         level: level,
         found: found,
@@ -139,12 +146,13 @@ fn from_counting(
                 put(bits, numbers.found, mark, sample);
                 let found = numbers.found + 1;
                 if found == n {
-                    return Heard::Full(run, used);
+                    return Heard::Full(run, sample, used);
                 }
                 i = used;
                 numbers = Numbers {
                     mode: Mode::Waiting,
                     run: run,
+                    runlevel: sample,
                     left: 0,
                     level: sample,
                     found: found,
@@ -162,6 +170,7 @@ fn from_counting(
                 numbers = Numbers {
                     mode: Mode::Counting,
                     run: run,
+                    runlevel: mark,
                     left: k,
                     level: mark,
                     found: found,
@@ -193,6 +202,7 @@ fn from_waiting(
             let numbers = Numbers {
                 mode: Mode::Counting,
                 run: run,
+                runlevel: mark,
                 left: k,
                 level: mark,
                 found: found,
@@ -202,41 +212,44 @@ fn from_waiting(
     }
 }
 
-// Listens from a place on in ready: past the high reads, and from a low one in counting.
+// Listens from a place on in ready: past the reads of the quiet's level, and from another in counting.
 fn from_ready(
     reads: &[u8],
     from: usize,
     bits: &mut [u8; 128],
+    quiet: u8,
     k: usize,
     n: usize,
     q: usize,
 ) -> Heard
-    requires { ⌜ (rowSettingsFit k n q ≡ true) × (kept [] ≡ now bits) × (from ≤ length (now reads)) ⌝ }
-    ensures { λ x. ⌜ Hears (settingsFrom k n q) (ready q) from (now (reads .entry)) (now (bits .exit)) x ⌝ }
+    requires { ⌜ (rowSettingsFit k n q ≡ true) × (kept [] ≡ now bits) × (from ≤ length (now reads)) × (quiet ≤ 1) ⌝ }
+    ensures { λ x. ⌜ Hears (settingsFrom k n q) (ready q quiet) from (now (reads .entry)) (now (bits .exit)) x ⌝ }
 {
     let mut i = from;
     while i < reads.len() {
         let read = reads[i];
-        if HIGH < read {
-            return Heard::Bad(i);
-        }
-        i += 1;
-        if read == 0 {
+        if read != quiet {
+            if HIGH < read {
+                return Heard::Bad(i);
+            }
             let numbers = Numbers {
                 mode: Mode::Counting,
-                run: 0,
+                run: 1,
+                runlevel: read,
                 left: k,
-                level: 0,
+                level: read,
                 found: 0,
             };
-            return from_counting(reads, i, bits, numbers, k, n, q);
+            return from_counting(reads, i + 1, bits, numbers, k, n, q);
         }
+        i += 1;
     }
     Heard::Ended(Numbers {
         mode: Mode::Ready,
         run: q,
+        runlevel: quiet,
         left: 0,
-        level: HIGH,
+        level: quiet,
         found: 0,
     })
 }
@@ -246,29 +259,34 @@ fn from_hunting(
     reads: &[u8],
     bits: &mut [u8; 128],
     run: usize,
+    runlevel: u8,
     k: usize,
     n: usize,
     q: usize,
 ) -> Heard
     requires { ⌜ (rowSettingsFit k n q ≡ true) × (kept [] ≡ now bits) × (run < q) ⌝ }
-    ensures { λ x. ⌜ Hears (settingsFrom k n q) (hunting run) 0 (now (reads .entry)) (now (bits .exit)) x ⌝ }
+    ensures { λ x. ⌜ Hears (settingsFrom k n q) (hunting (runOf run runlevel)) 0 (now (reads .entry))
+        (now (bits .exit)) x ⌝ }
 {
     let mut i = 0;
-    let mut high = run;
+    let mut equal = run;
+    let mut level = runlevel;
     while i < reads.len() {
         let read = reads[i];
         if HIGH < read {
             return Heard::Bad(i);
         }
         i += 1;
-        high = longer(high, read);
-        if high == q {
-            return from_ready(reads, i, bits, k, n, q);
+        equal = longer(equal, level, read);
+        level = read;
+        if equal == q {
+            return from_ready(reads, i, bits, read, k, n, q);
         }
     }
     Heard::Ended(Numbers {
         mode: Mode::Hunting,
-        run: high,
+        run: equal,
+        runlevel: level,
         left: 0,
         level: HIGH,
         found: 0,
@@ -290,9 +308,10 @@ pub fn hear(
 {
     let mode = start.mode;
     let run = start.run;
+    let runlevel = start.runlevel;
     match mode {
-        Mode::Hunting => from_hunting(reads, bits, run, k, n, q),
-        Mode::Ready => from_ready(reads, 0, bits, k, n, q),
+        Mode::Hunting => from_hunting(reads, bits, run, runlevel, k, n, q),
+        Mode::Ready => from_ready(reads, 0, bits, runlevel, k, n, q),
         Mode::Counting => from_counting(reads, 0, bits, start, k, n, q),
         Mode::Waiting => from_waiting(reads, bits, start, k, n, q),
     }

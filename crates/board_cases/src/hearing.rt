@@ -127,8 +127,8 @@ fn formed(state: Receiver) {
     }
 }
 
-// k n Q run left level found of a state in this mode, and reads and the state's bytes: it takes the first read, if
-// there is one, and listens to all.
+// k n Q run runlevel left level found of a state in this mode, and reads and the state's bytes: it takes the first
+// read, if there is one, and listens to all.
 pub fn tried(mode: Mode, n: Numbers, case: &[u8], reads: &[u8]) -> usize {
     let state = Receiver {
         k: ReadCycles(n.n0),
@@ -136,9 +136,10 @@ pub fn tried(mode: Mode, n: Numbers, case: &[u8], reads: &[u8]) -> usize {
         q: ReadCycles(n.n2),
         mode: mode,
         run: ReadCycles(n.n3),
-        left: ReadCycles(n.n4),
-        level: reading::byte(n.n5),
-        found: n.n6,
+        runlevel: reading::byte(n.n4),
+        left: ReadCycles(n.n5),
+        level: reading::byte(n.n6),
+        found: n.n7,
         bits: packed(case),
     };
     formed(state);

@@ -30,7 +30,7 @@ fn bytes(packed: &[u8; 128]) {
     }
 }
 
-// The eight numbers of a state, k n Q mode run left level found, and its bytes.
+// The nine numbers of a state, k n Q mode run runlevel left level found, and its bytes.
 pub fn shown(receiver: Receiver) {
     let mode = receiver.mode;
     let packed = receiver.bits;
@@ -39,6 +39,7 @@ pub fn shown(receiver: Receiver) {
     show::count(receiver.q.0);
     show::count(mode_number(mode));
     show::count(receiver.run.0);
+    show::count(receiver.runlevel as usize);
     show::count(receiver.left.0);
     show::count(receiver.level as usize);
     show::count(receiver.found);

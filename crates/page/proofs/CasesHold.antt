@@ -13,4 +13,4 @@ use Rattle.page.specs.Cases.{cases}
 pub cases-hold : Agree cases
 unfolding following group numberAt fittingAt fourNumbers someRunsFrom runsFrom capture readsOfRuns next reportsBy
     decimalIn bitsText eventLines rowsIn output
-cases-hold = (refl, (refl, tt))
+cases-hold = (refl, (refl, (refl, tt)))

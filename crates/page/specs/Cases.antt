@@ -1,4 +1,4 @@
--- Rules E: the example, byte for byte, and an empty input.
+-- Rules E: the example, byte for byte, the same over a crossed pair, and an empty input.
 use Prim.Native.Nat.{ℕ}
 use mathlib.Core.List.{List, [], _∷_, _++_}
 use Rattle.measure.specs.Table.{Case}
@@ -21,6 +21,15 @@ example =
       printed = exampleText;
     }
 
+-- the same with the first level turned over, as a board reads it over a crossed pair: the same lines
+abbrev crossed : Case
+crossed =
+    record {
+      kind = List ℕ;
+      gives = output (0x02 ∷ 0x02 ∷ 0x06 ∷ 0x00 ∷ 0x06 ∷ 0x02 ∷ 0x01 ∷ 0x03 ∷ 0x06 ∷ 0x02 ∷ 0x06 ∷ []);
+      printed = exampleText;
+    }
+
 -- no byte at all: a capture that ends before its fourth number
 abbrev empty : Case
 empty = record {
@@ -30,6 +39,6 @@ empty = record {
       114 ∷ 101 ∷ 102 ∷ 117 ∷ 115 ∷ 101 ∷ 100 ∷ 32 ∷ 54 ∷ 32 ∷ 97 ∷ 116 ∷ 32 ∷ 48 ∷ 10 ∷ [];
 }
 
--- E8
+-- E8, E9
 abbrev pub cases : List Case
-cases = example ∷ empty ∷ []
+cases = example ∷ crossed ∷ empty ∷ []

@@ -10,7 +10,7 @@ use Rattle.measure.proofs.LevelLaws.{most-at}
 use Rattle.board.specs.Rows.{Settings, fresh, ready}
 use Rattle.board.specs.Feeding.{Report}
 use Rattle.board.proofs.PackedBits.{Binary, binary-take}
-use Rattle.promises.specs.Places.{Scene, lastFrom, heard}
+use Rattle.promises.specs.Places.{quietOn, Scene, lastFrom, heard}
 use Rattle.promises.specs.Replaced.{damaged, below, above, moved}
 use Rattle.promises.specs.Demand3.{receiverSettings, Demand3}
 use Rattle.promises.specs.Hearing.{heeding, Hears}
@@ -37,11 +37,13 @@ any-hearing x high fits hear hears = record {
       let h : ℕ = heard x (lastFrom x earlier row m) m in
       let lead : List ℕ = take (suc h - j) (drop j (x .reads)) in
       ap (above (i + length junk + (h - j))) (hears (damaged x i j junk))
-      ∙ after-stretch (heeding g) (x .reads) i j junk h (ready (x .Q)) (omega arith) (at .from) (at .there)
+      ∙ after-stretch (heeding g) (x .reads) i j junk h (ready (x .Q) (quietOn (x .pair))) (omega arith) (at .from)
+      (at .there)
       (λ s. heeded-after g s lead (binary-take (suc h - j) (drop j (x .reads)) (binary-drop j (x .reads) levels))
       ∙ at .readies s)
       ∙ ap (moved i j junk)
-      (heeded-reports g (ready (x .Q)) (suc h) (drop (suc h) (x .reads)) (binary-drop (suc h) (x .reads) levels)
+      (heeded-reports g (ready (x .Q) (quietOn (x .pair))) (suc h) (drop (suc h) (x .reads))
+      (binary-drop (suc h) (x .reads) levels)
       ∙ at .told);
 }
   where

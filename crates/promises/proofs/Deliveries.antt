@@ -12,7 +12,7 @@ use Rattle.sender.specs.Sending.{Row}
 use Rattle.sender.proofs.PlanWaves.{length-one}
 use Rattle.line.proofs.ClockBounds.{Clock, mono}
 use Rattle.board.specs.Feeding.{Report}
-use Rattle.promises.specs.Places.{Scene, placesWhere, numbered, wholly, withinLead}
+use Rattle.promises.specs.Places.{quietOn, Scene, placesWhere, numbered, wholly, withinLead}
 use Rattle.promises.specs.Places.{heard, lastAfter, lastSample, deliveries}
 use Rattle.promises.specs.Replaced.{reportsAt, below}
 use Rattle.promises.proofs.Sampling.{Samples, samples-on, sampled-at}
@@ -72,8 +72,8 @@ module _ (test : ℕ → Bool) where
         go (suc q) p h f = omega (arith, numbered-all q (many - i0) i0 (omega arith) (λ i y z. f i y (omega arith)))
 
 -- rows that are placed among the first N reads are reported below N
-pub placed-below : {tw tr D : ℕ → ℕ} {g k Q r2 d N c : ℕ} {rows : List Row} {fs : List Report}
-    → Placed tw tr D g k Q r2 d N c rows fs → below N fs ≡ fs
+pub placed-below : {tw tr D : ℕ → ℕ} {g k Q v r2 d N c : ℕ} {rows : List Row} {fs : List Report}
+    → Placed tw tr D g k Q v r2 d N c rows fs → below N fs ≡ fs
 unfolding reportsAt
 placed-below no-row = refl
 placed-below {N = N} (a-row {s = s} {row = row} {fs = fs} lead samples within last more) =
@@ -88,6 +88,9 @@ module _ (x : Scene) (reader : Clock (x .begins) (x .ends .r1) (x .ends .r2)) wh
 
   abbrev tr : ℕ → ℕ
   tr = x .begins
+
+  abbrev v : ℕ
+  v = quietOn (x .pair)
 
   -- the Q reads of lead cycles are the first that lie wholly within them
   module _ (c m i0 : ℕ) (lead : Lead tw tr (x .g) (x .Q) c m i0) (there : i0 + x .Q ≤ length R) where
@@ -110,14 +113,14 @@ module _ (x : Scene) (reader : Clock (x .begins) (x .ends .r1) (x .ends .r2)) wh
     heard-is = the-Qth (wholly x (c + x .g) (c + m)) i0 (x .Q) (length R) there outside inside
 
   -- the n-th sample that the counted rule finds after a read
-  pub last-after : (read : ℕ) {j s : ℕ} → suc read ≡ j → Samples (x .k) (λ i. getD R i 2) (x .n) 1 j s → s < length R
+  pub last-after : (read : ℕ) {j s : ℕ} → suc read ≡ j → Samples (x .k) (λ i. getD R i 2) (x .n) v j s → s < length R
       → lastAfter x read ≡ s
   last-after read e samples there = rw e (sampled-at R samples there)
 
   -- rows that are placed are placed where the rules' words place them
   pub placed-is : {c : ℕ} {rows : List Row} {fs : List Report} → 0 < x .Q
       → Fit (x .n) (x .Q) (x .g) (x .ends .w1) (x .ends .r2) rows
-      → Placed tw tr (λ i. getD R i 2) (x .g) (x .k) (x .Q) (x .ends .r2) (x .a + x .b) (length R) c rows fs
+      → Placed tw tr (λ i. getD R i 2) (x .g) (x .k) (x .Q) v (x .ends .r2) (x .a + x .b) (length R) c rows fs
       → fs ≡ deliveries x c rows
   unfolding deliveries lastSample
   placed-is some fit no-row = refl
@@ -128,4 +131,4 @@ module _ (x : Scene) (reader : Clock (x .begins) (x .ends .r1) (x .ends .r2)) wh
       sampled : lastAfter x (heard x c (row .lead)) ≡ s
       sampled =
           last-after (heard x c (row .lead)) (heard-is c (row .lead) i0 lead (omega (arith, samples-on samples)) some)
-          (subst (λ (n : ℕ). Samples (x .k) (λ i. getD R i 2) n 1 (i0 + x .Q) s) (fit .1) samples) within
+          (subst (λ (n : ℕ). Samples (x .k) (λ i. getD R i 2) n v (i0 + x .Q) s) (fit .1) samples) within

@@ -18,7 +18,7 @@ use Rattle.line.proofs.ClockBounds.{Clock}
 use Rattle.line.proofs.LineLaws.{Reads}
 use Rattle.board.specs.Rows.{State, fresh, ready, next}
 use Rattle.board.specs.Feeding.{Report, Step, afterBy, reportsBy, reports}
-use Rattle.promises.specs.Places.{Scene, cyclesOf, lastFrom, withinLead, heard, lastAfter}
+use Rattle.promises.specs.Places.{quietOn, over, Scene, cyclesOf, lastFrom, withinLead, heard, lastAfter}
 use Rattle.promises.specs.Places.{lastSample, deliveries}
 use Rattle.promises.specs.Replaced.{WhollyAfter, below, moved}
 use Rattle.promises.specs.Demand3.{RowsFit, Asked, LongEnough, After, Demand3, UserWording, receiverSettings}
@@ -45,7 +45,8 @@ pub record Clocked (x : Scene) (high : ℕ) : Type 0 where
   pub timed : 0 < x .ends .r1
   pub begun : x .starts 0 ≤ x .begins 0
   pub unended : x .begins 0 < x .starts 1
-  pub line : Reads (x .starts) (x .begins) (smooth (x .g) (planWave (x .a) (x .b) (x .rows) ++ pad high)) (x .reads)
+  pub line : Reads (x .starts) (x .begins)
+      (smooth (x .g) (over (x .pair) (planWave (x .a) (x .b) (x .rows) ++ pad high))) (x .reads)
   pub levels : Levels (x .reads)
 
 module _ (x : Scene) (high : ℕ) (fits : Clocked x high) where
@@ -54,6 +55,9 @@ module _ (x : Scene) (high : ℕ) (fits : Clocked x high) where
 
   abbrev asked : Asked x
   asked = fits .asked
+
+  abbrev v : ℕ
+  v = quietOn (x .pair)
 
   pub ok : Margins (x .a) (x .b) (x .g) (x .k) (x .ends .w1) (x .ends .w2) (x .ends .r1) (x .ends .r2)
   ok = record {
@@ -82,15 +86,15 @@ module _ (x : Scene) (high : ℕ) (fits : Clocked x high) where
   pub in-rows : InRows (length (x .reads))
   in-rows =
       reads-in-rows (fits .writer) (fits .reader) (fits .timed) (fits .begun) (fits .unended) (asked .settles) ok
-      (x .n) (x .Q) quiet (asked .some-bits) (x .rows) high fit (x .reads) (fits .line)
+      (x .n) (x .Q) quiet (asked .some-bits) (x .pair) (x .rows) high fit (x .reads) (fits .line)
 
   -- with nothing replaced
   pub placed : (N : ℕ) → N ≤ length (x .reads) → InRows N
-      → Placed (x .starts) (x .begins) (λ i. getD (x .reads) i 2) (x .g) (x .k) (x .Q) (x .ends .r2)
+      → Placed (x .starts) (x .begins) (λ i. getD (x .reads) i 2) (x .g) (x .k) (x .Q) v (x .ends .r2)
       (x .a + x .b) N 0 (x .rows) (reportsBy G fresh 0 (x .reads))
   placed =
       undamaged (fits .writer) (fits .reader) (fits .timed) (fits .begun) (fits .unended) (asked .settles) ok
-      (x .n) (x .Q) quiet (asked .some-bits) (x .rows) high fit (x .reads) (fits .line)
+      (x .n) (x .Q) quiet (asked .some-bits) (x .pair) (x .rows) high fit (x .reads) (fits .line)
 
   pub whole : reportsBy G fresh 0 (x .reads) ≡ deliveries x 0 (x .rows)
   whole = placed-is x (fits .reader) some-Q fit (placed (length (x .reads)) (omega arith) in-rows)
@@ -108,8 +112,8 @@ module _ (x : Scene) (high : ℕ) (fits : Clocked x high) where
       pub from : j ≤ h
       pub there : h < length (x .reads)
       pub enough : x .Q ≤ length (withinLead x c m)
-      pub readies : (s : State) → afterBy G s (take (suc h - j) (drop j (x .reads))) ≡ ready (x .Q)
-      pub told : reportsBy G (ready (x .Q)) (suc h) (drop (suc h) (x .reads))
+      pub readies : (s : State) → afterBy G s (take (suc h - j) (drop j (x .reads))) ≡ ready (x .Q) v
+      pub told : reportsBy G (ready (x .Q) v) (suc h) (drop (suc h) (x .reads))
           ≡ deliveries x (cyclesOf x earlier) (row ∷ later)
       pub sample : lastAfter x h ≡ lastSample x (cyclesOf x earlier) row
 
@@ -120,10 +124,10 @@ module _ (x : Scene) (high : ℕ) (fits : Clocked x high) where
       there = omega (arith, rec .there, eq);
       enough = lead-enough x (fits .reader) c m (rec .i0) (rec .lead) (rec .there);
       readies =
-          λ s. subst (λ (e : ℕ). afterBy G s (take (e - j) (drop j (x .reads))) ≡ ready (x .Q))
+          λ s. subst (λ (e : ℕ). afterBy G s (take (e - j) (drop j (x .reads))) ≡ ready (x .Q) v)
           (sym eq) (rec .readies s);
       told =
-          subst (λ (e : ℕ). reportsBy G (ready (x .Q)) e (drop e (x .reads))
+          subst (λ (e : ℕ). reportsBy G (ready (x .Q) v) e (drop e (x .reads))
           ≡ deliveries x (cyclesOf x earlier) (row ∷ later)) (sym eq)
           (placed-is x (fits .reader) some-Q fit′ (rec .told));
       sample = last (rec .sample .from-read) eq ∙ sym whole-sample;
@@ -135,20 +139,20 @@ module _ (x : Scene) (high : ℕ) (fits : Clocked x high) where
             (subst (λ (l : List Row). Fit (x .n) (x .Q) (x .g) (x .ends .w1) (x .ends .r2) l) same fit)
 
         rec : Recovered (fits .writer) (fits .reader) (fits .timed) (fits .begun) (fits .unended) (asked .settles) ok
-            (x .n) (x .Q) quiet (asked .some-bits) (x .rows) high fit (x .reads) (fits .line) j
+            (x .n) (x .Q) quiet (asked .some-bits) (x .pair) (x .rows) high fit (x .reads) (fits .line) j
             (cyclesOf x earlier) m row later
         rec = recovered (fits .writer) (fits .reader) (fits .timed) (fits .begun) (fits .unended) (asked .settles) ok
-            (x .n) (x .Q) quiet (asked .some-bits) (x .rows) high fit (x .reads) (fits .line) j earlier
+            (x .n) (x .Q) quiet (asked .some-bits) (x .pair) (x .rows) high fit (x .reads) (fits .line) j earlier
             row later same m (long .within) (omega (arith, leb-true, rw m5-met at (long .m5))) wholly
 
         eq : suc h ≡ rec .i0 + x .Q
         eq = heard-is x (fits .reader) c m (rec .i0) (rec .lead) (rec .there) some-Q
 
-        last : {read j : ℕ} → Samples (x .k) (λ i. getD (x .reads) i 2) (length (row .bits)) 1 j (rec .sample .s)
+        last : {read j : ℕ} → Samples (x .k) (λ i. getD (x .reads) i 2) (length (row .bits)) v j (rec .sample .s)
             → suc read ≡ j → lastAfter x read ≡ rec .sample .s
         last {read} {j} samples e =
             last-after x (fits .reader) read e
-            (subst (λ (n : ℕ). Samples (x .k) (λ i. getD (x .reads) i 2) n 1 j (rec .sample .s)) (fit′ .1) samples)
+            (subst (λ (n : ℕ). Samples (x .k) (λ i. getD (x .reads) i 2) n v j (rec .sample .s)) (fit′ .1) samples)
             (rec .sample .there)
 
         whole-sample : lastSample x (cyclesOf x earlier) row ≡ rec .sample .s
@@ -165,7 +169,7 @@ clocked-demand x high fits = record {
   after = λ earlier row later same m long i j junk ij le wholly.
       let at = heard-row x high fits j earlier row later same m long wholly in
       after-stretch (next (receiverSettings x)) (x .reads) i j junk (heard x (lastFrom x earlier row m) m)
-      (ready (x .Q)) (omega arith) (at .from) (at .there) (at .readies)
+      (ready (x .Q) (quietOn (x .pair))) (omega arith) (at .from) (at .there) (at .readies)
       ∙ ap (λ (l : List Report). moved i j junk l) (at .told);
 }
 
@@ -200,7 +204,7 @@ clocked-grounds x high fits = record {
       let h : ℕ = heard x (lastFrom x earlier row m) m in
       rw (← any earlier row later same m long .told)
       (all-fed (next (receiverSettings x)) (λ at. ltb h at) (drop (suc h) (x .reads)) (suc h)
-      (ready (x .Q)) λ at p q. lt-ltb h at p);
+      (ready (x .Q) (quietOn (x .pair))) λ at p q. lt-ltb h at p);
 }
   where
     any : (earlier : List Row) (row : Row) (later : List Row) (same : x .rows ≡ earlier ++ row ∷ later)

@@ -10,6 +10,7 @@ use Rattle.counted.proofs.Later.{later-reads-keep}
 use Rattle.timecode.proofs.WrittenBack.{written-reads-back}
 use Rattle.timecode.proofs.ReadBack.{read-writes-back}
 use Rattle.board.proofs.WellFormedStays.{every-step}
+use Rattle.board.proofs.TurnedOver.{same-crossed}
 use Rattle.capture.proofs.RoundTrips.{written-read-back, read-written-back}
 use Rattle.halfcells.proofs.TableHolds.{table-is-the-rule}
 use Rattle.log.proofs.OnceListed.{lists-in-order}
@@ -59,6 +60,7 @@ demands = record {
     keeps = later-reads-keep;
     picks = picked-counts;
     well-formed = every-step;
+    same-crossed = same-crossed;
     hears = every-caller;
     reads-back = written-read-back;
     writes-back = read-written-back;

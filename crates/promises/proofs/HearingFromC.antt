@@ -1,7 +1,7 @@
 -- What C holds between calls is a receiver as it crosses, from which that receiver can be recovered, and a row's bits
 -- can be recovered from its bytes. So a run of calls from C is a run of the operations.
 use Prim.Native.Nat.{ℕ, _≤_, _<_}
-use mathlib.Core.Path.{_≡_, refl, sym, ap}
+use mathlib.Core.Path.{_≡_, refl, sym, ap, _∙_}
 use mathlib.Core.Bool.{true}
 use mathlib.Core.List.{List}
 use native.Mathlib.Omega.{arith}
@@ -11,25 +11,25 @@ use Rattle.measure.specs.Refusals.{given, refused}
 use Rattle.board.specs.declared.Mode.{Mode}
 use Rattle.board.specs.declared.Mode.the-variants.{Hunting, Ready, Counting, Waiting}
 use Rattle.board.specs.declared.Receiver.{Receiver}
-use Rattle.board.specs.Rows.{Settings, State, Event, nothing, row, broken, fresh, next}
+use Rattle.board.specs.Rows.{Settings, Run, State, Event, nothing, row, broken, fresh, next}
 use Rattle.board.specs.Packed.{kept, receiverOf}
 use Rattle.board.specs.Answers.{Outcome, reached, refusing, begun, stepped, listened}
 use Rattle.board.proofs.RowRules.{Ranged, Fitting, Valid, valid-fresh}
 use Rattle.board.proofs.Standing.{ranged-of}
 use Rattle.board.proofs.CellLaws.{row-read}
 use Rattle.board.proofs.CallLaws.{Whole, whole-next, stepped-level, stepped-other}
-use Rattle.siengulot.specs.Receivers.{Lent, Reply, putBack, brought, steppedLent, listenedLent}
-use Rattle.siengulot.proofs.Recovered.{its-numbers-fit, receiver-recovered}
-use Rattle.siengulot.proofs.Brought.{step-brought, listen-brought}
-use Rattle.promises.specs.Hearing.{crossedEvent, stepFromC, listenFromC, startedFromC, Caller, steps, listens}
+use Rattle.siengulot.specs.Receivers.{Lent, Reply, putBack, brought, steppedLent, broughtBy, listenedLent}
+use Rattle.siengulot.proofs.CallAfterCall.{next-step, next-listen}
+use Rattle.promises.specs.Hearing.{eventFromC, stepFromC, listenFromC, startedFromC, Caller, steps, listens}
 use Rattle.promises.specs.Hearing.{stepsFromC, listensFromC, hearing, Hears}
 use Rattle.promises.proofs.Hearing.{Steps, Listens, one-by-one, by-lists, step-hears, listen-hears}
 
-level-low : (m : Mode) (g : Settings) (run left found level : ℕ) → Fitting m g run left found level → level ≤ 255
-level-low Hunting g run left found level f = omega (arith, f .3)
-level-low Ready g run left found level f = omega (arith, f .3)
-level-low Counting g run left found level f = omega (arith, f .4)
-level-low Waiting g run left found level f = omega (arith, f .3)
+level-low : (m : Mode) (g : Settings) (run : Run) (left found level : ℕ) → Fitting m g run left found level
+    → run .level ≤ 1 → level ≤ 255
+level-low Hunting g run left found level f low = omega (arith, f .3)
+level-low Ready g run left found level f low = omega (arith, f .3)
+level-low Counting g run left found level f low = omega (arith, f .4)
+level-low Waiting g run left found level f low = omega (arith, f .3)
 
 module _ (g : Settings) where
   -- the receiver that keeps a state, lent beside some bytes for a row
@@ -39,7 +39,7 @@ module _ (g : Settings) where
   -- what an event crosses as is that event, and the receiver crosses with it
   crosses : (s : State) (room : List ℕ) (x : Receiver) (event : Event) → Ranged g → Whole g event
       → (crossed : Reply × Lent) → brought (putBack x room) (reached g s event) ≡ crossed
-      → (crossedEvent (crossed .0) (crossed .1) ≡ given event) × Holds s (crossed .1)
+      → (eventFromC (crossed .0) (crossed .1) ≡ given event) × Holds s (crossed .1)
   crosses s room x nothing range whole crossed e = rw (← e) (refl, (room, refl))
   crosses s room x (row bits) range whole crossed e =
       rw (← e) (
@@ -52,18 +52,21 @@ module _ (g : Settings) where
     abbrev x : Receiver
     x = receiverOf g s
 
+    run-byte : x .runlevel ≤ 255
+    run-byte = omega (arith, v .level .most)
+
     byte : x .level ≤ 255
-    byte = level-low (s .mode) g (s .run) (s .left) (length (s .bits)) (s .level) (v .fitting)
+    byte = level-low (s .mode) g (s .run) (s .left) (length (s .bits)) (s .level) (v .fitting) (v .level .most)
 
     step-crosses : (read : ℕ) (outcome : Outcome) → stepped x read ≡ outcome
         → steppedLent (putBack x room) read ≡ brought (putBack x room) outcome
     step-crosses read outcome e =
-        step-brought (putBack x room) (its-numbers-fit x byte) (receiver-recovered x) read e refl
+        next-step x run-byte byte room read ∙ ap (λ (o : Outcome). brought (putBack x room) o) e
 
     listen-crosses : (reads : List ℕ) (outcome : Outcome) (used : ℕ) → listened x reads ≡ (outcome, used)
         → listenedLent (putBack x room) reads ≡ (brought (putBack x room) outcome, used)
     listen-crosses reads outcome used e =
-        listen-brought (putBack x room) (its-numbers-fit x byte) (receiver-recovered x) reads e refl
+        next-listen x run-byte byte room reads ∙ ap (λ (o : Outcome × ℕ). broughtBy (putBack x room) o) e
 
   c-steps : Steps g Holds stepFromC
   c-steps = record { level = level; other = other }

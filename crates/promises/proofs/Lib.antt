@@ -23,6 +23,7 @@ pub mod Useless
 pub mod Worked
 pub mod Timing
 pub mod Cells
+pub mod Pairs
 pub mod Sent
 pub mod SignedMargins
 pub mod Received

@@ -51,7 +51,9 @@ use Rattle.board.specs.declared.Receiver.{Receiver}
 use Rattle.board.specs.declared.Start.the-variants as F
 use Rattle.board.specs.declared.Stepped.{Stepped}
 use Rattle.board.specs.declared.Listened.{Listened}
-use Rattle.board.specs.Answers.{Outcome, eventSays, startSays, steppedSays, listenedSays}
+use Rattle.board.specs.declared.Bare.{Bare}
+use Rattle.board.specs.declared.Told.{Told as ToldLent}
+use Rattle.board.specs.Answers.{Outcome, eventSays, startSays, steppedSays, listenedSays, toldSays}
 use Rattle.capture.specs.Capture.{Heading}
 use Rattle.capture.specs.Numbers.{Numeral}
 use Rattle.capture.specs.declared.Summary.{Summary}
@@ -159,6 +161,26 @@ event-back n bytes E.Row = refl
 event-back n bytes (E.Broken found) = refl
 event-back n bytes (E.Refused f) = ap E.Refused (refusal-back f)
 
+-- a receiver's numbers, and what was told of lent bits, from the outcome
+bareOf : Receiver → Bare
+bareOf x =
+    record {
+      k = x .k;
+      n = x .n;
+      q = x .q;
+      mode = x .mode;
+      run = x .run;
+      runlevel = x .runlevel;
+      left = x .left;
+      level = x .level;
+      found = x .found;
+    }
+
+told-of : Outcome × ℕ → ToldLent
+unfolding plain answer event
+told-of (o, used) =
+    record { bare = bareOf (o .receiver); event = plain event E.Refused (o .answer); used = record { 0 = used } }
+
 step-of : Outcome → Stepped
 unfolding plain answer event
 step-of o = record { receiver = o .receiver; event = plain event E.Refused (o .answer); row = o .row }
@@ -175,7 +197,7 @@ listen-of (o, used) =
     }
 
 pub one-meaning : OneMeaning
-unfolding plain answer judged quiet-judged step-of listen-of
+unfolding plain answer judged quiet-judged bareOf told-of step-of listen-of
 one-meaning = record {
   number = record { always = λ κs a. tt; once = λ κs a x y left right h h′. (h ∙ sym h′, refl) };
   place = record { always = λ κs a. tt; once = λ κs a x y left right h h′. (h ∙ sym h′, refl) };
@@ -250,6 +272,19 @@ one-meaning = record {
   well-formed = record { always = λ κs a. tt; once = λ κs a x y left right h h′. (h ∙ sym h′, refl) };
   step = record { always = λ κs a. tt; once = λ κs a x y left right h h′. (same stepped-said h h′, refl) };
   listen = record { always = λ κs a. tt; once = λ κs a x y left right h h′. (same listened-said h h′, refl) };
+  bare = record {
+    always = λ κs a. tt;
+    once = λ κs a x y left right h h′. (ap bareOf (h ∙ sym h′), refl);
+  };
+  well-formed-lent = record { always = λ κs a. tt; once = λ κs a x y left right h h′. (h ∙ sym h′, refl) };
+  step-lent = record {
+    always = λ κs a. tt;
+    once = λ κs a x y left right h h′. told h h′ (λ bits row. (tt, (tt, (bits, (row, tt)))));
+  };
+  listen-lent = record {
+    always = λ κs a. tt;
+    once = λ κs a x y left right h h′. told h h′ (λ bits row. (tt, (tt, (bits, (row, tt)))));
+  };
   read-header = record { always = λ κs a. tt; once = λ κs a x y left right h h′. (same head-said h h′, refl) };
   check = record { always = λ κs a. tt; once = λ κs a x y left right h h′. (same checked-said h h′, refl) };
   read-capture = record {
@@ -591,6 +626,19 @@ one-meaning = record {
     listen-back x =
         ap (λ (e : CodeEvent). record { receiver = x .receiver; event = e; row = x .row; used = x .used })
         (event-back (x .receiver .n) (x .row) (x .event))
+
+    told-back : (x : ToldLent) (bits bytes : List ℕ) → told-of (toldSays x bits bytes) ≡ x
+    told-back x bits bytes =
+        ap (λ (e : CodeEvent). record { bare = x .bare; event = e; used = x .used })
+        (event-back (x .bare .n) bytes (x .event))
+
+    told : {W : Type 0} {defined : Outcome × ℕ} {x y : ToldLent} {bits bits′ bytes bytes′ : List ℕ}
+        → defined ≡ toldSays x bits bytes → defined ≡ toldSays y bits′ bytes′ → (place : List ℕ → List ℕ → W)
+        → (x ≡ y) × (place bits bytes ≡ place bits′ bytes′)
+    told {x = x} {y = y} {bits} {bits′} {bytes} {bytes′} h h′ place = (
+      sym (told-back x bits bytes) ∙ ap told-of (sym h ∙ h′) ∙ told-back y bits′ bytes′,
+      ap (λ (o : Outcome × ℕ). place (o .0 .receiver .bits) (o .0 .row)) (sym h ∙ h′),
+    )
 
     number-back : (x : Number) → plain (λ n. N.Is (n .value) (n .after)) N.Refused (numberSays x) ≡ x
     number-back (N.Is v after) = refl

@@ -1,5 +1,5 @@
--- One row through the row receiver: each mark is heard and each sample is right, and M4 keeps the run of high reads
--- below Q up to the last sample.
+-- One row through the row receiver: each mark is heard and each sample is right, and M4 keeps every run of equal reads
+-- below Q, up to the last sample and until the quiet after it has settled.
 use mathlib.Core.Path.{_≡_, refl, subst, sym, ap, _∙_}
 use mathlib.Core.List.{List, [], _∷_, _++_, append-assoc}
 use Prim.Native.Nat.{ℕ, suc, _+_, _*_, _-_, _≤_, _<_}
@@ -12,14 +12,13 @@ use Rattle.measure.specs.Levels.{Levels}
 use Rattle.sender.specs.Sending.{codeLevel}
 use Rattle.sender.proofs.Cells.{code-level-most}
 use Rattle.sender.proofs.Waves.{bit-code}
-use Rattle.sender.proofs.PlanWaves.{final}
 use Rattle.line.proofs.ClockBounds.{Clock, mono, span-low, span-high}
 use Rattle.line.proofs.LineLaws.{Settled}
-use Rattle.board.specs.Rows.{row, runAfter, hunting, ready, counting, waiting, next}
+use Rattle.board.specs.Rows.{Run, runOf, State, row, runAfter, hunting, ready, counting, waiting, next}
 use Rattle.board.specs.Feeding.{Report}
 use Rattle.board.proofs.RowSteps.{rules, silently, run-grows, opened, sample-last, sample-more, marks}
 use Rattle.board.proofs.Goes.{Goes, here, then, step, join, stay, linger, downto}
-use Rattle.promises.proofs.Timing.{Cell, Waits, Heard, Margins, hear, counts, takes-time}
+use Rattle.promises.proofs.Timing.{Waits, Heard, Margins, hear, counts, takes-time}
 use Rattle.promises.proofs.Cells.{Holds}
 use Rattle.promises.proofs.Sampling.{Samples, none, more}
 
@@ -27,16 +26,12 @@ use Rattle.promises.proofs.Sampling.{Samples, none, more}
 abbrev pub deliveredAt : ℕ → List ℕ → Report
 deliveredAt place bits = record { place = place; event = row bits }
 
--- Before read j the receiver hunts with the run ρ, and the cells of a row, which end at cycle c, leave the level u.
-pub record Ended (tw tr S : ℕ → ℕ) (g Q c u j ρ : ℕ) : Type 0 where
-  pub level : u ≤ 1
-  pub runs : ρ < Q
-  pub nought : u ≡ 0 → ρ ≡ 0
-  pub since : ℕ
-  pub settled : tw since ≤ tr j
-  pub holds : (i : ℕ) → since ≤ i → i < c → S i ≡ u
+-- Before read j the receiver hunts with the run ρ, after a row whose cells end at cycle c. The reads from j on that
+-- start before the quiet has settled are too few to make that run Q, whatever they are.
+pub record Ended (tw tr : ℕ → ℕ) (g Q c j : ℕ) (ρ : Run) : Type 0 where
+  pub runs : ρ .reads < Q
+  pub few-more : (i : ℕ) → j ≤ i → tr i < tw (c + g) → ρ .reads + (suc i - j) < Q
   pub ends : tr j ≤ tw (c + g)
-  pub low-ends : u ≡ 0 → tr j ≤ tw c
   pub inside : 0 < j → tr j ≤ tw c
 
 -- Read s is the sample of a cell of d cycles that ends before cycle c: its mark touches the cell and starts soon after
@@ -72,20 +67,23 @@ module _ {tw tr S D : ℕ → ℕ} {w1 w2 r1 r2 end : ℕ} (wclk : Clock tw w1 w
           less = lt-of-mul-lt-mul-right r1 (omega (arith, m4, far, span-high wclk c (a + b + g)))
       go (no h) = omega (arith, two)
 
+  -- a mark after the level v begins a run
+  abbrev marked : (v : ℕ) (bs : List ℕ) → State
+  marked v bs = counting k (1 - v) (runOf 1 (1 - v)) bs
+
   -- The receiver counts after the mark m of the cell at c, for which it waited at v from read j on, and has the bits
   -- bs. It delivers those and the bits of the cells from c on, with the last sample that the counted rule finds from
   -- read j on.
-  abbrev Delivered : (j m ρ v : ℕ) (bs bits : List ℕ) (c : ℕ) → Type 0
-  Delivered j m ρ v bs bits c =
-      (s : ℕ) × (σ : ℕ)
-      × Goes k n Q D (suc m) (counting k (1 - v) ρ bs) (deliveredAt s (bs ++ bits) ∷ []) (suc s) (hunting σ)
-      × Ended tw tr S g Q (c + length bits * (a + b)) (final v bits) (suc s) σ
+  abbrev Delivered : (j m v : ℕ) (bs bits : List ℕ) (c : ℕ) → Type 0
+  Delivered j m v bs bits c =
+      (s : ℕ) × (σ : Run)
+      × Goes k n Q D (suc m) (marked v bs) (deliveredAt s (bs ++ bits) ∷ []) (suc s) (hunting σ)
+      × Ended tw tr g Q (c + length bits * (a + b)) (suc s) σ
       × Samples k D (length bits) v j s
       × LastCell tw tr (a + b) g k r2 (c + length bits * (a + b)) s
 
   -- one cell: from its mark to its sample
-  module _ (x c v j m ρ : ℕ) (bs : List ℕ) (lv : v ≤ 1) (lx : x ≤ 1) (lr : ρ ≤ 1)
-      (cell : Cell S a b g c v (codeLevel v x))
+  module _ (x c v j m : ℕ) (bs : List ℕ) (lv : v ≤ 1) (lx : x ≤ 1)
       (heard : Heard tw tr D a b g k r2 c v (codeLevel v x) j m) where
     short : k + 1 < Q
     short = omega (
@@ -100,20 +98,16 @@ module _ {tw tr S D : ℕ → ℕ} {w1 w2 r1 r2 end : ℕ} (wclk : Clock tw w1 w
     bit-is : bitOf (1 - v) (D (m + k)) ≡ x
     bit-is = rw (heard .sample) (bit-code v x lv lx)
 
-    sampled-low : (σ : ℕ) → codeLevel v x ≡ 0 → runAfter Q σ (D (m + k)) ≡ 0
-    sampled-low σ e = rw (heard .sample, e)
-
     sampled : {d s : ℕ} → Samples k D d (codeLevel v x) (m + k) s → Samples k D (suc d) v j s
     sampled {d} {s} more′ =
         more (heard .from) (heard .before) (omega (arith, heard .differs))
         (subst (λ (u : ℕ). Samples k D d u (m + k) s) (sym (heard .sample)) more′)
 
-    last : suc (length bs) ≡ n → Delivered j m ρ v bs (x ∷ []) c
-    last l = go (downto k n Q D m (1 - v) ρ bs some-k (omega (arith, short)))
+    last : suc (length bs) ≡ n → Delivered j m v bs (x ∷ []) c
+    last l = go (downto k n Q D m (1 - v) (runOf 1 (1 - v)) bs some-k (omega (arith, short)))
       where
-        go : (σ : ℕ) × (σ < ρ + k)
-            × Goes k n Q D (suc m) (counting k (1 - v) ρ bs) [] (m + k) (counting 1 (1 - v) σ bs)
-            → Delivered j m ρ v bs (x ∷ []) c
+        go : (σ : Run) × (σ .reads < 1 + k) × Goes k n Q D (suc m) (marked v bs) [] (m + k) (counting 1 (1 - v) σ bs)
+            → Delivered j m v bs (x ∷ []) c
         go (σ, p, f) = (
           m + k,
           runAfter Q σ (D (m + k)),
@@ -121,14 +115,15 @@ module _ {tw tr S D : ℕ → ℕ} {w1 w2 r1 r2 end : ℕ} (wclk : Clock tw w1 w
               (then (sample-last k n Q (1 - v) σ bs (D (m + k)) x
               (omega (arith, run-grows Q σ (D (m + k)), short)) bit-is l) here),
           record {
-            level = code-level-most v x lv;
             runs = omega (arith, run-grows Q σ (D (m + k)), short);
-            nought = sampled-low σ;
-            since = c + (a + g);
-            settled = omega (arith, heard .late, rclk .low (m + k));
-            holds = λ i y z. cell .code i y (omega arith);
+            few-more = λ i y z.
+                omega (
+                  arith,
+                  run-grows Q σ (D (m + k)),
+                  few c m i (heard .edge)
+                      (omega (arith, mono wclk (c + 1 * (a + b) + g) (c + (a + b + g)) (omega arith))),
+                );
             ends = omega (arith, heard .ends, mono wclk (c + (a + b)) (c + 1 * (a + b) + g) (omega arith));
-            low-ends = λ y. omega (arith, heard .ends, mono wclk (c + (a + b)) (c + 1 * (a + b)) (omega arith));
             inside = λ y. omega (arith, heard .ends, mono wclk (c + (a + b)) (c + 1 * (a + b)) (omega arith));
           },
           sampled none,
@@ -144,13 +139,11 @@ module _ {tw tr S D : ℕ → ℕ} {w1 w2 r1 r2 end : ℕ} (wclk : Clock tw w1 w
 
     -- from the mark up to and with the mark m′ of the next cell, which is heard from the sample on
     abbrev Onward : ℕ → Type 0
-    Onward m′ =
-        (σ : ℕ) × (σ ≤ 1)
-        × Goes k n Q D (suc m) (counting k (1 - v) ρ bs) [] (suc m′) (counting k (1 - codeLevel v x) σ (bs ++ (x ∷ [])))
+    Onward m′ = Goes k n Q D (suc m) (marked v bs) [] (suc m′) (marked (codeLevel v x) (bs ++ (x ∷ [])))
 
     onward : (u m′ : ℕ) → suc (length bs) < n → Heard tw tr D a b g k r2 (c + (a + b)) (codeLevel v x) u (m + k) m′
         → Onward m′
-    onward u m′ l next′ = wait (downto k n Q D m (1 - v) ρ bs some-k (omega (arith, short)))
+    onward u m′ l next′ = wait (downto k n Q D m (1 - v) (runOf 1 (1 - v)) bs some-k (omega (arith, short)))
       where
         s : ℕ
         s = m + k
@@ -174,15 +167,19 @@ module _ {tw tr S D : ℕ → ℕ} {w1 w2 r1 r2 end : ℕ} (wclk : Clock tw w1 w
         place = omega (arith, later)
 
         -- the run after the sample, and the reads from the sample to the mark
-        mark : (σ : ℕ) → runAfter Q σ (D s) < Q
-            → Goes k n Q D (suc m) (counting k (1 - v) ρ bs) [] s (counting 1 (1 - v) σ bs)
-            → (τ : ℕ) × (τ ≤ runAfter Q σ (D s) + (m′ - suc s)) × (codeLevel v x ≡ 0 → runAfter Q σ (D s) ≡ 0 → τ ≡ 0)
+        mark : (σ : Run) → runAfter Q σ (D s) .reads < Q
+            → Goes k n Q D (suc m) (marked v bs) [] s (counting 1 (1 - v) σ bs)
+            → (τ : Run) × (τ .reads ≤ runAfter Q σ (D s) .reads + (m′ - suc s)) × (τ .level ≡ codeLevel v x)
             × Goes k n Q D (suc s) (waiting (codeLevel v x) (runAfter Q σ (D s)) (bs ++ (x ∷ []))) []
             (suc s + (m′ - suc s)) (waiting (codeLevel v x) τ (bs ++ (x ∷ [])))
             → Onward m′
         mark σ h f (τ, p, z, w) =
-            go (marks k n Q (codeLevel v x) τ (bs ++ (x ∷ [])) two (code-level-most v x lv)
-            (λ e. z e (sampled-low σ e)))
+            join k n Q D f
+            (then to-wait
+            (join k n Q D (rw place at w)
+            (step k n Q D (next′ .differs)
+            (marks k n Q (codeLevel v x) (1 - codeLevel v x) τ (bs ++ (x ∷ [])) two z
+            (omega (arith, code-level-most v x lv))) here)))
           where
             to-wait : next (rules k n Q) (counting 1 (1 - v) σ bs) (D s)
                 ≡ silently (waiting (codeLevel v x) (runAfter Q σ (D s)) (bs ++ (x ∷ [])))
@@ -190,35 +187,23 @@ module _ {tw tr S D : ℕ → ℕ} {w1 w2 r1 r2 end : ℕ} (wclk : Clock tw w1 w
                 sample-more k n Q (1 - v) σ bs (D s) x h bit-is l
                 ∙ ap (λ (y : ℕ). silently (waiting y (runAfter Q σ (D s)) (bs ++ (x ∷ [])))) (heard .sample)
 
-            go : (ω : ℕ) × (ω ≤ 1)
-                × (next (rules k n Q) (waiting (codeLevel v x) τ (bs ++ (x ∷ []))) (1 - codeLevel v x)
-                ≡ silently (counting k (1 - codeLevel v x) ω (bs ++ (x ∷ [])))) → Onward m′
-            go (ω, q, e) = (
-              ω,
-              q,
-              join k n Q D f
-                  (then to-wait (join k n Q D (rw place at w) (step k n Q D (next′ .differs) e here))),
-            )
-
-        wait : (σ : ℕ) × (σ < ρ + k) × Goes k n Q D (suc m) (counting k (1 - v) ρ bs) [] s (counting 1 (1 - v) σ bs)
+        wait : (σ : Run) × (σ .reads < 1 + k) × Goes k n Q D (suc m) (marked v bs) [] s (counting 1 (1 - v) σ bs)
             → Onward m′
         wait (σ, p, f) =
             mark σ (omega (arith, run-grows Q σ (D s), short)) f
             (linger k n Q D (m′ - suc s) (suc s) (codeLevel v x) (runAfter Q σ (D s)) (bs ++ (x ∷ []))
             (λ i y z. next′ .before i (omega arith) (omega (arith, place)))
-            (omega (arith, run-grows Q σ (D s), close, later)))
+            (omega (arith, run-grows Q σ (D s), close, later)) (heard .sample))
 
-  body : (xs : List ℕ) (x c v j m ρ : ℕ) (bs : List ℕ) → v ≤ 1 → x ≤ 1 → Levels xs → ρ ≤ 1
-      → Cell S a b g c v (codeLevel v x)
+  body : (xs : List ℕ) (x c v j m : ℕ) (bs : List ℕ) → v ≤ 1 → x ≤ 1 → Levels xs
       → Heard tw tr D a b g k r2 c v (codeLevel v x) j m → Holds a b g S (c + (a + b)) (codeLevel v x) xs
       → length bs + suc (length xs) ≡ n
-      → tw (c + suc (length xs) * (a + b)) ≤ end → Delivered j m ρ v bs (x ∷ xs) c
-  body [] x c v j m ρ bs lv lx hb lr cell heard hs l e = last x c v j m ρ bs lv lx lr cell heard (omega arith)
-  body (y ∷ ys) x c v j m ρ bs lv lx hb lr cell heard hs l e =
+      → tw (c + suc (length xs) * (a + b)) ≤ end → Delivered j m v bs (x ∷ xs) c
+  body [] x c v j m bs lv lx hb heard hs l e = last x c v j m bs lv lx heard (omega arith)
+  body (y ∷ ys) x c v j m bs lv lx hb heard hs l e =
       go (hear wclk rclk pos see ok (c + (a + b)) (codeLevel v x) (codeLevel (codeLevel v x) y) (m + k) lu
       (code-level-most (codeLevel v x) y lu) inside (hs .0) (heard .next))
-      λ m′ σ q h. body ys y (c + (a + b)) (codeLevel v x) (m + k) m′ σ (bs ++ (x ∷ [])) lu (hb .0) (hb .1) q (hs .0) h
-      (hs .1)
+      λ m′ h. body ys y (c + (a + b)) (codeLevel v x) (m + k) m′ (bs ++ (x ∷ [])) lu (hb .0) (hb .1) h (hs .1)
       (rw length-append (omega arith)) (subst (λ (i : ℕ). tw i ≤ end) further e)
     where
       lu : codeLevel v x ≤ 1
@@ -234,54 +219,47 @@ module _ {tw tr S D : ℕ → ℕ} {w1 w2 r1 r2 end : ℕ} (wclk : Clock tw w1 w
       Next m′ = Heard tw tr D a b g k r2 (c + (a + b)) (codeLevel v x) (codeLevel (codeLevel v x) y) (m + k) m′
 
       go : (m′ : ℕ) × Next m′
-          → ((m′ σ : ℕ) → σ ≤ 1 → Next m′
-          → Delivered (m + k) m′ σ (codeLevel v x) (bs ++ (x ∷ [])) (y ∷ ys) (c + (a + b)))
-          → Delivered j m ρ v bs (x ∷ y ∷ ys) c
+          → ((m′ : ℕ) → Next m′ → Delivered (m + k) m′ (codeLevel v x) (bs ++ (x ∷ [])) (y ∷ ys) (c + (a + b)))
+          → Delivered j m v bs (x ∷ y ∷ ys) c
       go (m′, next′) rest =
-          on (onward x c v j m ρ bs lv lx lr cell heard (codeLevel (codeLevel v x) y) m′ (omega arith) next′)
-        where
-          on : (σ : ℕ) × (σ ≤ 1)
-              × Goes k n Q D (suc m) (counting k (1 - v) ρ bs) [] (suc m′)
-              (counting k (1 - codeLevel v x) σ (bs ++ (x ∷ [])))
-              → Delivered j m ρ v bs (x ∷ y ∷ ys) c
-          on (σ, q, f) =
-              let (s, τ, h, d, p, z) = rest m′ σ q next′ in (
-                s,
-                τ,
-                join k n Q D f (rw append-assoc at h),
-                rw further d,
-                sampled x c v j m ρ bs lv lx lr cell heard p,
-                rw further z,
-              )
+          let (s, σ, h, d, p, z) = rest m′ next′ in (
+            s,
+            σ,
+            join k n Q D
+                (onward x c v j m bs lv lx heard (codeLevel (codeLevel v x) y) m′ (omega arith) next′)
+                (rw append-assoc at h),
+            rw further d,
+            sampled x c v j m bs lv lx heard p,
+            rw further z,
+          )
 
-  -- a row from ready on: exactly the row is reported, at its last sample
-  abbrev pub RowFrom : List ℕ → ℕ → ℕ → Type 0
-  RowFrom bits c j =
-      (s : ℕ) × (σ : ℕ) × Goes k n Q D j (ready Q) (deliveredAt s bits ∷ []) (suc s) (hunting σ)
-      × Ended tw tr S g Q (c + length bits * (a + b)) (final 1 bits) (suc s) σ
-      × Samples k D (length bits) 1 j s
+  -- a row from ready at the quiet level v on: exactly the row is reported, at its last sample
+  abbrev pub RowFrom : (v : ℕ) → List ℕ → ℕ → ℕ → Type 0
+  RowFrom v bits c j =
+      (s : ℕ) × (σ : Run) × Goes k n Q D j (ready Q v) (deliveredAt s bits ∷ []) (suc s) (hunting σ)
+      × Ended tw tr g Q (c + length bits * (a + b)) (suc s) σ
+      × Samples k D (length bits) v j s
       × LastCell tw tr (a + b) g k r2 (c + length bits * (a + b)) s
 
-  pub one-row : (bits : List ℕ) (c j : ℕ) → 0 < n → Levels bits → Holds a b g S c 1 bits → Waits tw tr D g c 1 j
+  pub one-row : (v : ℕ) (bits : List ℕ) (c j : ℕ) → v ≤ 1 → 0 < n → Levels bits → Holds a b g S c v bits
+      → Waits tw tr D g c v j
       → length bits ≡ n
-      → tw (c + length bits * (a + b)) ≤ end → RowFrom bits c j
-  one-row [] c j some hb hs wait l e = absurd (omega arith)
-  one-row (x ∷ xs) c j some hb hs wait l e =
-      go (hear wclk rclk pos see ok c 1 (codeLevel 1 x) j (omega arith) (code-level-most 1 x (omega arith)) inside
-      (hs .0) wait)
+      → tw (c + length bits * (a + b)) ≤ end → RowFrom v bits c j
+  one-row v [] c j lv some hb hs wait l e = absurd (omega arith)
+  one-row v (x ∷ xs) c j lv some hb hs wait l e =
+      go (hear wclk rclk pos see ok c v (codeLevel v x) j lv (code-level-most v x lv) inside (hs .0) wait)
     where
       inside : tw (c + (a + b)) ≤ end
       inside = omega (arith, e, mono wclk (c + (a + b)) (c + suc (length xs) * (a + b)) (omega arith))
 
-      go : (m : ℕ) × Heard tw tr D a b g k r2 c 1 (codeLevel 1 x) j m → RowFrom (x ∷ xs) c j
+      go : (m : ℕ) × Heard tw tr D a b g k r2 c v (codeLevel v x) j m → RowFrom v (x ∷ xs) c j
       go (m, heard) =
           let (s, σ, f, d, p, z) =
-          body xs x c 1 j m 0 [] (omega arith) (hb .0) (hb .1) (omega arith) (hs .0) heard (hs .1)
-          (omega arith) e in (
+          body xs x c v j m [] lv (hb .0) (hb .1) heard (hs .1) (omega arith) e in (
             s,
             σ,
-            join k n Q D (rw place at (stay k n Q D (m - j) j (λ i y z. heard .before i y (omega (arith, place)))))
-                (step k n Q D (heard .differs) (opened k n Q (omega (arith, two))) f),
+            join k n Q D (rw place at (stay k n Q D v (m - j) j (λ i y z. heard .before i y (omega (arith, place)))))
+                (step k n Q D (heard .differs) (opened k n Q v (1 - v) two (omega arith)) f),
             d,
             p,
             z,

@@ -14,7 +14,7 @@ use Rattle.sender.proofs.PlanWaves.{length-rows, length-one}
 use Rattle.line.proofs.ClockBounds.{mono, span-high, reach-low}
 use Rattle.board.specs.Rows.{fresh}
 use Rattle.board.specs.Feeding.{Report, reports}
-use Rattle.promises.specs.Places.{Scene, Link, scene, cyclesOf}
+use Rattle.promises.specs.Places.{quietOn, Scene, Link, scene, cyclesOf}
 use Rattle.promises.specs.Demand3.{Fitting, receiverSettings}
 use Rattle.promises.specs.Ready.{WithinCode, WithinSettledCode, EachRow, Ready, ReadyHolds}
 use Rattle.promises.proofs.Timing.{counts}
@@ -96,8 +96,8 @@ module _ (x : Scene) (high : ℕ) (fits : Clocked x high) where
   }
 
   each : {c : ℕ} {rows : List Row} {told : List Report}
-      → Placed (x .starts) (x .begins) (λ i. getD (x .reads) i 2) (x .g) (x .k) (x .Q) (x .ends .r2) (x .a + x .b)
-      (length (x .reads)) c rows told
+      → Placed (x .starts) (x .begins) (λ i. getD (x .reads) i 2) (x .g) (x .k) (x .Q) (quietOn (x .pair))
+      (x .ends .r2) (x .a + x .b) (length (x .reads)) c rows told
       → EachRow (x .a) (x .b) (WithinSettledCode x) c rows told
   each no-row = tt
   each {c} (a-row {s = s} {row = row} lead samples here last more) =

@@ -21,13 +21,15 @@ use Rattle.board.proofs.FeedingLaws.{after-append}
 use Rattle.board.proofs.RowSteps.{rules}
 use Rattle.board.proofs.Goes.{Goes, stay}
 use Rattle.board.proofs.Fed.{feeds, leads, reports-on}
+use Rattle.promises.specs.Places.{Pair, quietOn, over}
 use Rattle.promises.specs.Replaced.{below, above, moved}
 use Rattle.promises.proofs.Timing.{Margins}
-use Rattle.promises.proofs.Sent.{Line, sent, settles-in-code, later-line}
+use Rattle.promises.proofs.Pairs.{quiet-level, length-over}
+use Rattle.promises.proofs.Sent.{Line, sent, later-line}
 use Rattle.promises.proofs.Sampling.{Samples, samples-later}
 use Rattle.promises.proofs.OneRow.{two}
-use Rattle.promises.proofs.Quiets.{Lead, lead-reads, highs, from-any}
-use Rattle.promises.proofs.ManyRows.{Fit, later-fit, filled, Placed, a-row, heard-lead, heard-rows, delivered}
+use Rattle.promises.proofs.Quiets.{Lead, lead-reads, quiet-reads, from-any}
+use Rattle.promises.proofs.ManyRows.{Fit, later-fit, Placed, a-row, heard-lead, heard-rows, delivered}
 use Rattle.promises.proofs.Seams.{movedTo, first-part, last-part, moves}
 
 -- below the stretch the reports are those of the reads as they were
@@ -73,52 +75,51 @@ after-stretch step R i j junk h t fits jh hR lead =
     ready-then : afterBy step fresh (take i R ++ junk ++ A) ≡ t
     ready-then = after-append step fresh (take i R ++ junk) A ∙ lead (afterBy step fresh (take i R ++ junk))
 
--- Clocks within bounds, a settling count g, and the reads R of the smoothed wave of a plan with high cycles after it.
+-- Clocks within bounds, a settling count g, and the reads R of what a pair makes of the wave of a plan with high cycles
+-- after it, smoothed.
 module _ {tw tr : ℕ → ℕ} {w1 w2 r1 r2 : ℕ} (wclk : Clock tw w1 w2) (rclk : Clock tr r1 r2) (pos : 0 < r1)
     (phase : tw 0 ≤ tr 0) (start : tr 0 < tw 1)
     {a b g k : ℕ} (settles : 0 < g) (ok : Margins a b g k w1 w2 r1 r2) (n Q : ℕ)
     (m4 : (a + b + g) * w2 + 2 * r1 ≤ suc (Q * r1)) (some : 0 < n)
-    (rows : List Row) (high : ℕ) (fit : Fit n Q g w1 r2 rows) (R : List ℕ)
-    (reads : Reads tw tr (smooth g (planWave a b rows ++ pad high)) R) where
+    (pair : Pair) (rows : List Row) (high : ℕ) (fit : Fit n Q g w1 r2 rows) (R : List ℕ)
+    (reads : Reads tw tr (smooth g (over pair (planWave a b rows ++ pad high))) R) where
   abbrev D : ℕ → ℕ
   D i = getD R i 2
 
   abbrev S : ℕ → ℕ
-  S i = getD (smooth g (planWave a b rows ++ pad high)) i 2
+  S i = getD (smooth g (over pair (planWave a b rows ++ pad high))) i 2
 
   abbrev E : ℕ
   E = length (planWave a b rows)
 
   abbrev L : ℕ
-  L = length (smooth g (planWave a b rows ++ pad high))
+  L = length (smooth g (over pair (planWave a b rows ++ pad high)))
+
+  abbrev v : ℕ
+  v = quietOn pair
 
   abbrev G : Step
   G = next (rules k n Q)
 
-  lined : Line a b g S L 0 1 rows
-  lined = rw length-smooth (sent a b g rows high
-      (omega (
-        arith,
-        settles-in-code (omega (arith, wclk .low 0, wclk .high 0)) (omega (arith, rclk .low 0, rclk .high 0)) pos ok,
-      ))
-      (filled n Q g w1 r2 rows some fit))
+  lined : Line a b g v S L 0 rows
+  lined = rw length-smooth (sent a b g pair rows high)
 
   within : E ≤ L
-  within = rw length-smooth (rw length-append (omega arith))
+  within = rw length-smooth (rw (length-over, length-append) (omega arith))
 
   begun : tr 0 ≤ tw g
   begun = omega (arith, mono wclk 1 g settles)
 
   -- reports that are the rows from cycle c on, each at its last sample, which is among the first N reads
   abbrev pub Told : ℕ → List Report → ℕ → List Row → Type 0
-  Told N told c later = Placed tw tr D g k Q r2 (a + b) N c later told
+  Told N told c later = Placed tw tr D g k Q v r2 (a + b) N c later told
 
   -- with nothing replaced exactly the rows are reported, all with reads that end by their last cell's end
   pub undamaged : (N : ℕ) → N ≤ length R → ((j : ℕ) → tr (suc j) ≤ tw E → j < N)
       → Told N (reportsBy G fresh 0 R) 0 rows
   undamaged N few there =
       go (delivered E L within wclk rclk pos (reads .settled) ok n Q m4 some begun N (length R) few there (reads .ends)
-      rows lined fit (omega (arith, length-rows a b rows)) phase)
+      v (quiet-level pair) rows lined fit (omega (arith, length-rows a b rows)) phase)
     where
       go : (fs : List Report) × (t : State) × Goes k n Q D 0 fresh fs (length R) t × Told N fs 0 rows
           → Told N (reportsBy G fresh 0 R) 0 rows
@@ -135,8 +136,8 @@ module _ {tw tr : ℕ → ℕ} {w1 w2 r1 r2 : ℕ} (wclk : Clock tw w1 w2) (rclk
     pub lead : Lead tw tr g Q c (row .lead) i0
     pub s : ℕ
     pub there : s < length R
-    pub from-lead : Samples k D (length (row .bits)) 1 (i0 + Q) s
-    pub from-read : Samples k D (length (row .bits)) 1 read s
+    pub from-lead : Samples k D (length (row .bits)) v (i0 + Q) s
+    pub from-read : Samples k D (length (row .bits)) v read s
 
   -- The last m cycles of a row's lead are read wholly from read j on; the row begins with cycle c. Then the receiver is
   -- ready after their Q reads from any state before read j, and from there exactly that row and those after it are
@@ -146,8 +147,8 @@ module _ {tw tr : ℕ → ℕ} {w1 w2 r1 r2 : ℕ} (wclk : Clock tw w1 w2) (rclk
     pub lead : Lead tw tr g Q (c + (row .lead - m)) m i0
     pub from : j ≤ i0
     pub there : i0 + Q ≤ length R
-    pub readies : (s : State) → afterBy G s (take (i0 + Q - j) (drop j R)) ≡ ready Q
-    pub told : Told (length R) (reportsBy G (ready Q) (i0 + Q) (drop (i0 + Q) R)) c (row ∷ later)
+    pub readies : (s : State) → afterBy G s (take (i0 + Q - j) (drop j R)) ≡ ready Q v
+    pub told : Told (length R) (reportsBy G (ready Q v) (i0 + Q) (drop (i0 + Q) R)) c (row ∷ later)
     pub sample : SameSample c row (i0 + Q)
 
   module _ (j : ℕ) (earlier : List Row) (row : Row) (later : List Row) (same : rows ≡ earlier ++ row ∷ later)
@@ -180,7 +181,7 @@ module _ {tw tr : ℕ → ℕ} {w1 w2 r1 r2 : ℕ} (wclk : Clock tw w1 w2) (rclk
     end = mono wclk (c + row .lead) L (omega (arith, total, within))
 
     -- the last m cycles of the lead are heard with Q reads from i1 on
-    module _ (u : ℕ) (line : Line a b g S L c u (row ∷ later)) (i1 : ℕ) (last : Lead tw tr g Q c′ m i1) where
+    module _ (line : Line a b g v S L c (row ∷ later)) (i1 : ℕ) (last : Lead tw tr g Q c′ m i1) where
       ending : c′ + m ≡ c + row .lead
       ending = omega arith
 
@@ -214,14 +215,14 @@ module _ {tw tr : ℕ → ℕ} {w1 w2 r1 r2 : ℕ} (wclk : Clock tw w1 w2) (rclk
                 absurd (omega
                 (arith, lead .first i1 (omega arith), last .starts, mono wclk (c + g) (c′ + g) (omega arith)))
 
-        -- between the two the lead is high, so the receiver stays ready
-        between : (x : ℕ) → i0 + Q ≤ x → x < i1 + Q → D x ≡ 1
+        -- between the two the lead is quiet, so the receiver stays ready
+        between : (x : ℕ) → i0 + Q ≤ x → x < i1 + Q → D x ≡ v
         between x p q =
-            highs wclk rclk pos (reads .settled) ok n Q m4 c (row .lead) i0 end (line .0) lead (i1 + Q) last-ends x
-            (omega arith) q
+            quiet-reads wclk rclk pos (reads .settled) ok n Q m4 v (quiet-level pair) c (row .lead) i0 end (line .0)
+            lead (i1 + Q) last-ends x (omega arith) q
 
-        stays : Goes k n Q D (i0 + Q) (ready Q) [] (i1 + Q) (ready Q)
-        stays = rw place at (stay k n Q D (i1 - i0) (i0 + Q) λ x p q. between x p (omega (arith, place)))
+        stays : Goes k n Q D (i0 + Q) (ready Q v) [] (i1 + Q) (ready Q v)
+        stays = rw place at (stay k n Q D v (i1 - i0) (i0 + Q) λ x p q. between x p (omega (arith, place)))
           where
             place : i0 + Q + (i1 - i0) ≡ i1 + Q
             place = omega (arith, later-heard)
@@ -241,18 +242,18 @@ module _ {tw tr : ℕ → ℕ} {w1 w2 r1 r2 : ℕ} (wclk : Clock tw w1 w2) (rclk
       recovers : (i0 : ℕ) → Lead tw tr g Q c (row .lead) i0 → Recovered j c m row later
       recovers i0 lead =
           tell (heard-rows E L within wclk rclk pos (reads .settled) ok n Q m4 some begun (length R) (length R)
-          (omega arith) reads-in-rows (reads .ends) later row c u i0 line fit′ total lead)
+          (omega arith) reads-in-rows (reads .ends) v (quiet-level pair) later row c i0 line fit′ total lead)
         where
-          tell : (fs : List Report) × (v : State) × Goes k n Q D (i0 + Q) (ready Q) fs (length R) v
+          tell : (fs : List Report) × (t : State) × Goes k n Q D (i0 + Q) (ready Q v) fs (length R) t
               × Told (length R) fs c (row ∷ later) → Recovered j c m row later
-          tell (fs, v, f, p) = record {
+          tell (fs, t, f, p) = record {
             i0 = i1;
             lead = last;
             from = from;
             there = here-in;
             readies =
-                leads k n Q R j i1 (i1 + Q) (ready Q) from (omega arith) here-in
-                (from-any wclk rclk pos (reads .settled) ok n Q m4 c′ m i1
+                leads k n Q R j i1 (i1 + Q) (ready Q v) from (omega arith) here-in
+                (from-any wclk rclk pos (reads .settled) ok n Q m4 v (quiet-level pair) c′ m i1
                 (subst (λ (x : ℕ). tw x ≤ tw L) (sym ending) end)
                 (λ i p q. line .0 i (omega arith) (omega arith)) last);
             told = subst (λ (l : List Report). Told (length R) l c (row ∷ later))
@@ -264,16 +265,16 @@ module _ {tw tr : ℕ → ℕ} {w1 w2 r1 r2 : ℕ} (wclk : Clock tw w1 w2) (rclk
 
     pub recovered : Recovered j c m row later
     recovered =
-        go (later-line a b g S L earlier (row ∷ later) 0 1 (subst (λ (x : List Row). Line a b g S L 0 1 x) same lined))
+        go (later-line a b g v S L earlier (row ∷ later) 0 (subst (λ (x : List Row). Line a b g v S L 0 x) same lined))
         (heard-lead E L within wclk rclk pos (reads .settled) ok n Q m4 some begun (length R) (length R) (omega arith)
-        reads-in-rows (reads .ends) row later c fit′)
+        reads-in-rows (reads .ends) v (quiet-level pair) row later c fit′)
         (lead-reads wclk rclk pos (reads .settled) ok n Q m4 c′ m
         (omega (arith, begun, mono wclk g (c′ + g) (omega arith))) m5)
       where
         at : 0 + size (a + b) earlier ≡ c
         at = omega (arith, length-rows a b earlier)
 
-        go : (u : ℕ) × Line a b g S L (0 + size (a + b) earlier) u (row ∷ later)
+        go : Line a b g v S L (0 + size (a + b) earlier) (row ∷ later)
             → (i0 : ℕ) × Lead tw tr g Q c (row .lead) i0 → (i1 : ℕ) × Lead tw tr g Q c′ m i1 → Recovered j c m row later
-        go (u, line) (i0, lead) (i1, last) =
-            recovers u (subst (λ (d : ℕ). Line a b g S L d u (row ∷ later)) at line) i1 last i0 lead
+        go line (i0, lead) (i1, last) =
+            recovers (subst (λ (d : ℕ). Line a b g v S L d (row ∷ later)) at line) i1 last i0 lead

@@ -31,6 +31,7 @@ use Rattle.promises.specs.Replaced.{damaged, WhollyAfter, below, above, 
 use Rattle.promises.specs.Demand3.{RowsFit, Asked, Fitting, LongEnough, Demand3, Grounds}
 use Rattle.promises.specs.Demand3.{receiverSettings, Demand3Holds, GroundsHold}
 use Rattle.promises.specs.Demand3.{withClocks, steadied, byLists, SteadyClocksAreACase}
+use Rattle.promises.proofs.Pairs.{length-over, levels-over}
 use Rattle.promises.proofs.Demand3.{takes-time, Clocked, clocked-demand, clocked-grounds}
 use Rattle.promises.proofs.Reaches.{cycle-takes, wandering, within-steady, steady-by-lengths}
 
@@ -45,6 +46,7 @@ retimed x starts begins reads =
       ends = x .ends;
       n = x .n;
       Q = x .Q;
+      pair = x .pair;
       rows = x .rows;
       starts = starts;
       begins = begins;
@@ -225,7 +227,7 @@ module _ (x : Scene) (asked : Asked x) (takes : 0 < x .ends .r2) (starts begins 
 
 -- the plan's cycles are the first of its wave
 in-wave : (x : Link) → cyclesOf (scene x) (x .rows) ≤ length (lineWave x)
-in-wave x = rw length-append (omega arith)
+in-wave x = rw (length-over, length-append) (omega arith)
 
 -- times that run on within the ends
 abbrev runStarts : Clocks → ℕ → ℕ
@@ -267,7 +269,7 @@ clocked-by x (steadily w r p) fits = record {
     takes = reads-take (withClocks x (steadily w r p)) fits
 
     sent : Levels (lineWave x)
-    sent = plan-high-levels (x .a) (x .b) (x .highAfter) (x .rows)
+    sent = levels-over (x .pair) _ (plan-high-levels (x .a) (x .b) (x .highAfter) (x .rows))
 clocked-by x (byLengths e p cycles reads) fits = record {
   asked = running-asked (withClocks x (byLengths e p cycles reads)) (fits .asked);
   writer = writer wander;
@@ -289,7 +291,7 @@ clocked-by x (byLengths e p cycles reads) fits = record {
     wander = wandering reach takes
 
     sent : Levels (lineWave x)
-    sent = plan-high-levels (x .a) (x .b) (x .highAfter) (x .rows)
+    sent = levels-over (x .pair) _ (plan-high-levels (x .a) (x .b) (x .highAfter) (x .rows))
 
 -- they run on from the link's own
 on-time : (c : Clocks) (wave : List ℕ) → ClocksFit c wave → (i : ℕ) → i ≤ length wave → runStarts c i ≡ startsBy c i

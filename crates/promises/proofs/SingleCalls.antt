@@ -2,7 +2,7 @@
 use Prim.Native.Nat.{ℕ, _*_}
 use mathlib.Core.Path.{_≡_, refl, sym}
 use mathlib.Core.Bool.{Bool, true, false, _&&_, false≢true}
-use mathlib.Core.List.{[], _∷_}
+use mathlib.Core.List.{List, [], _∷_}
 use denote.Ref.{now}
 use lib.Dec.{eqb, leb, ltb}
 use lib.ListN.{length, take}
@@ -27,9 +27,11 @@ use Rattle.line.specs.Settle.{settle as settling}
 use Rattle.line.specs.Answers.{smoothed, warped, warpedByLengths, settled, timed, lengthsFit}
 use Rattle.counted.specs.Answers.{countedBits}
 use Rattle.board.specs.Rows.{row, broken}
-use Rattle.board.specs.Packed.{number, packed, unpacked}
-use Rattle.board.specs.WellFormed.{runFits, leftFits, foundFits, levelFits, unusedZero, wellFormed}
-use Rattle.board.specs.Answers.{begun, stepped, listened}
+use Rattle.board.specs.Feeding.{reports}
+use Rattle.board.specs.Packed.{number, packed, unpacked, whole, settingsOf, stateOf}
+use Rattle.board.specs.WellFormed.{runFits, runLevelFits, leftFits, foundFits, levelFits, unusedZero, wellFormed}
+use Rattle.board.specs.Answers.{refusing, begun, stepped, levelsOf, toEvent, listened, inLent}
+use Rattle.board.specs.declared.Receiver.{Receiver}
 use Rattle.capture.specs.Writing.{captureOf}
 use Rattle.log.specs.Order.{listing, later}
 use Rattle.log.specs.Answers.{logFits, logged, cleared, listed}
@@ -65,6 +67,16 @@ picked a b g k e answer p h =
         → Picks a b g e (choose t (choose (zeroOrMore (least a b g k e)) (given k) (refused 9 0)) (refused 1 0))
     go true fits = best-fits a b g e fits k h
     go false out = out-of-range out
+
+-- reads up to the first event, of a receiver and of one whose bits are lent
+listening : (x : Receiver) (reads : List ℕ)
+    → let told = reports (settingsOf x) (stateOf x) 0 (levelsOf reads) in
+    Answered (Good.listen x reads) (listened x reads) (toEvent (settingsOf x) (stateOf x) (levelsOf reads) told)
+    (λ number place. (refusing x number place, 0))
+unfolding listened
+listening x reads =
+    within (wellFormed x) 1 0
+    (past (limit entriesMost reads) (past (Good.beforeAnyEvent x reads) (done refl)))
 
 pub answered : Demand1
 unfolding judgement quietJudgement sentMessage sentPlan readPlan encoded decoded smoothed warped warpedByLengths settled
@@ -126,15 +138,15 @@ answered = record {
   fresh = λ k n Q. within (rowSettingsFit k n Q) 1 0 (done refl);
   well-formed = λ x.
       also (unusedZero (x .found) (x .bits))
-      (also (levelFits (x .mode) (x .level))
+      (also (levelFits (x .mode) (x .level) (x .runlevel))
       (also (foundFits (x .mode) (x .found) (x .n))
       (also (leftFits (x .mode) (x .left .0) (x .k .0))
+      (also (runLevelFits (x .run .0) (x .runlevel))
       (also (runFits (x .mode) (x .run .0) (x .q .0))
-      (clause (rowSettingsFit (x .k .0) (x .n) (x .q .0)))))));
+      (clause (rowSettingsFit (x .k .0) (x .n) (x .q .0))))))));
   step = λ x read. within (wellFormed x) 1 0 (within (leb read 1) 2 0 (done refl));
-  listen = λ x reads.
-      within (wellFormed x) 1 0
-      (past (limit entriesMost reads) (past (Good.beforeAnyEvent x reads) (done refl)));
+  listen = listening;
+  listen-lent = λ bare bits room reads. across (λ outcome. inLent room outcome) (listening (whole bare bits) reads);
   held-new = λ bytes. refl;
   held-place = reached-stands;
   held-next = λ x. number-answered (now (x .src)) (x .at);

@@ -3,7 +3,7 @@
 use Prim.Native.Nat.{ℕ, zero, suc, _+_, _*_, _-_, _≤_, _<_}
 use mathlib.Core.Path.{_≡_, refl, subst, sym, ap, _∙_}
 use mathlib.Core.Bool.{true}
-use mathlib.Core.List.{List, [], _∷_, _++_, append-nil, append-assoc}
+use mathlib.Core.List.{List, [], _∷_, _++_, append-assoc}
 use native.Mathlib.Nat.{zero-add, suc-add}
 use native.Mathlib.Omega.{arith}
 use lib.ListN.{length, getD, take, drop, length-append}
@@ -22,8 +22,8 @@ use Rattle.line.proofs.WanderLine.{lengths-line}
 use Rattle.line.proofs.Fronts.{GoesOn, line-front, over-front}
 use Rattle.board.specs.Rows.{fresh, next}
 use Rattle.board.specs.Feeding.{Step, reportsBy}
-use Rattle.promises.specs.Places.{Scene, Clocks, steadily, byLengths, endsOf, readsBy, lineWave, scene, cyclesOf}
-use Rattle.promises.specs.Places.{heard, lastAfter, lastSample}
+use Rattle.promises.specs.Places.{over, Scene, Clocks, steadily, byLengths, endsOf, readsBy, lineWave, scene}
+use Rattle.promises.specs.Places.{cyclesOf, heard, lastAfter, lastSample}
 use Rattle.promises.specs.Reaching.{Reaching, ClocksFit}
 use Rattle.promises.specs.Replaced.{below}
 use Rattle.promises.specs.Demand3.{RowsFit, Asked, Fitting, LongEnough, After}
@@ -31,6 +31,7 @@ use Rattle.promises.specs.Demand3.{receiverSettings}
 use Rattle.promises.specs.StoredPlans.{StoredLink, linkWith, readInto, itself, alone, ownWave, storedReads}
 use Rattle.promises.specs.StoredPlans.{storedFrom, storedLead, EveryStoredPlan, StoredFits}
 use Rattle.promises.specs.StoredPlans.{StoredPlansHold}
+use Rattle.promises.proofs.Pairs.{over-append}
 use Rattle.promises.proofs.Seams.{first-part}
 use Rattle.promises.proofs.Deliveries.{placed-below}
 use Rattle.promises.proofs.Demand3.{in-rows, placed}
@@ -179,19 +180,31 @@ module _ (y : StoredLink) where
   abbrev R : List ℕ
   R = alone y .reads
 
-  own : length (y .trails) ≡ length (y .leads) → plan ++ pad (dropped (y .trails)) ≡ ownWave y
-  own lists = sym (same-wave (y .a) (y .b) (y .n) (y .leads) (y .trails) (y .bits) lists)
+  -- what the pair makes of the plan with so many high cycles after it
+  abbrev followed : ℕ → List ℕ
+  followed high = over (y .pair) (plan ++ pad high)
+
+  own : length (y .trails) ≡ length (y .leads) → followed (dropped (y .trails)) ≡ ownWave y
+  own lists = ap (over (y .pair)) (sym (same-wave (y .a) (y .b) (y .n) (y .leads) (y .trails) (y .bits) lists))
+
+  -- more high cycles go on where fewer end
+  longer : (high more : ℕ) → followed (high + more) ≡ followed high ++ over (y .pair) (pad more)
+  longer high more =
+      ap (λ (l : List ℕ). over (y .pair) (plan ++ l)) (pads-join high more)
+      ∙ ap (over (y .pair)) (sym (append-assoc plan (pad high) (pad more)))
+      ∙ over-append (y .pair) (plan ++ pad high) (pad more)
 
   all : length (y .trails) ≡ length (y .leads) → x .reads ≡ storedReads y
   all lists = ap (λ (l : List ℕ). readsBy (y .clocks) (y .g) l (y .choices)) (own lists)
 
-  goes-on : 0 < endsOf (y .clocks) .r1 → ClocksFit (y .clocks) (plan ++ pad (dropped (y .trails))) → GoesOn R (x .reads)
+  goes-on : 0 < endsOf (y .clocks) .r1 → ClocksFit (y .clocks) (followed (dropped (y .trails))) → GoesOn R (x .reads)
   goes-on takes reach =
-      let (rest, e) = reads-front plan (pad (dropped (y .trails))) (y .clocks) (y .g) (y .choices) takes reach in
-      (rest, e ∙ ap (λ (l : List ℕ). readsBy (y .clocks) (y .g) l (y .choices) ++ rest) plain)
+      let (rest, e) = reads-front (followed 0) (over (y .pair) (pad (dropped (y .trails)))) (y .clocks) (y .g)
+      (y .choices) takes (subst (ClocksFit (y .clocks)) all-cycles reach) in
+      (rest, ap (λ (l : List ℕ). readsBy (y .clocks) (y .g) l (y .choices)) all-cycles ∙ e)
     where
-      plain : plan ≡ plan ++ pad 0
-      plain = sym (append-nil plan)
+      all-cycles : followed (dropped (y .trails)) ≡ followed 0 ++ over (y .pair) (pad (dropped (y .trails)))
+      all-cycles = ap followed (sym (zero-add (dropped (y .trails)))) ∙ longer 0 (dropped (y .trails))
 
   front : length (y .trails) ≡ length (y .leads) → 0 < endsOf (y .clocks) .r1 → ClocksFit (y .clocks) (ownWave y)
       → R ≡ take (length R) (storedReads y)
@@ -218,7 +231,7 @@ module _ (y : StoredLink) where
     fits : (high : ℕ) → ClocksFit (y .clocks) (lineWave (readInto y high)) → Fitting (readInto y high)
     fits high reach = record { asked = plan-asked high; choices = stored .choices; clocks = reach }
 
-    whole-reach : ClocksFit (y .clocks) (plan ++ pad (dropped (y .trails)))
+    whole-reach : ClocksFit (y .clocks) (followed (dropped (y .trails)))
     whole-reach = rw (own (stored .lists)) (stored .clocks)
 
     itself-fits : Fitting (readInto y (dropped (y .trails)))
@@ -229,16 +242,11 @@ module _ (y : StoredLink) where
 
     reached : (high : ℕ) → high ≤ dropped (y .trails) → ClocksFit (y .clocks) (lineWave (readInto y high))
     reached high few =
-        reach-front (plan ++ pad high) (pad (dropped (y .trails) - high)) (y .clocks) takes
-        (subst (λ (l : List ℕ). ClocksFit (y .clocks) l) parts whole-reach)
+        reach-front (followed high) (over (y .pair) (pad (dropped (y .trails) - high))) (y .clocks) takes
+        (subst (ClocksFit (y .clocks)) (ap followed rest ∙ longer high (dropped (y .trails) - high)) whole-reach)
       where
-        again : (n : ℕ) → high + (n - high) ≡ n → pad n ≡ pad high ++ pad (n - high)
-        again n e = ap (λ (m : ℕ). pad m) (sym e) ∙ pads-join high (n - high)
-
-        parts : plan ++ pad (dropped (y .trails)) ≡ (plan ++ pad high) ++ pad (dropped (y .trails) - high)
-        parts =
-            ap (λ (l : List ℕ). plan ++ l) (again (dropped (y .trails)) (omega arith))
-            ∙ sym (append-assoc plan (pad high) (pad (dropped (y .trails) - high)))
+        rest : dropped (y .trails) ≡ high + (dropped (y .trails) - high)
+        rest = omega arith
 
     alone-fits : Fitting (readInto y 0)
     alone-fits = fits 0 (reached 0 (omega arith))

@@ -8,6 +8,7 @@ use native.Mathlib.Decide.{decLe}
 use native.Mathlib.Omega.{arith}
 use lib.ListN.{length, take, drop, replicate}
 use Rattle.measure.specs.Lists.{firstAbove}
+use Rattle.measure.proofs.LevelLaws.{most-append, most-replicate}
 use Rattle.settings.specs.Margins.{m1, m2, m3, m4, m5, accepted, quietAccepted}
 use Rattle.settings.specs.Answers.{quietJudgement}
 use Rattle.sender.specs.Sending.{cells, wave, planWave, rowsOf}
@@ -24,14 +25,15 @@ use Rattle.line.proofs.WanderLine.{lengths-line}
 use Rattle.counted.specs.Counted.{fromMark}
 use Rattle.board.specs.Rows.{row, broken, fresh, next}
 use Rattle.board.specs.Feeding.{Report, reports, reportsBy}
-use Rattle.promises.specs.Places.{lineWave, cyclesOf, placesWhere, numbered, wholly}
+use Rattle.promises.specs.Places.{turnedOver, lineWave, cyclesOf, placesWhere, numbered, wholly}
 use Rattle.promises.specs.Places.{withinLead, heard, markPlace, samplePlace, lastSample, deliveries}
 use Rattle.promises.specs.Replaced.{WhollyAfter, reportsAt, below, above, moved}
 use Rattle.promises.specs.Demand3.{Fitting, Demand3, receiverSettings}
 use Rattle.promises.specs.StoredPlans.{itself, storedFrom, storedLead, StoredFits, AsStored}
 use Rattle.promises.specs.Promised.{good}
 use Rattle.promises.specs.WholeWay.{YesForEach, waveOf, warpedOf, Within}
-use Rattle.promises.specs.Tried.{first, second, p10, p10Read, p10Lent, false-quiet, Tried, stored}
+use Rattle.promises.specs.Tried.{first, second, p10, p10Read, p10Lent, false-high, Tried, p10Crossed}
+use Rattle.promises.specs.Tried.{crossedRead, false-low, TriedCrossed, stored}
 use Rattle.promises.specs.Tried.{TriedStored, slowFirst, slowLink, slow, slowReports, TriedSlow, TriedReady}
 use Rattle.promises.specs.Tried.{wanderFirst, wanderSecond, wanderCycleLengths, wanderReadLengths, wanderLink}
 use Rattle.promises.specs.Tried.{wander, wanderReports, wanderDamaged}
@@ -91,13 +93,72 @@ tried = record {
   samples = refl;
   hears = refl;
   reports = refl;
-  before = demand-3 p10 fitting .before 54 58 false-quiet (omega arith) (omega arith);
+  before = demand-3 p10 fitting .before 54 58 false-high (omega arith) (omega arith);
   after = user-wording p10Read (reports (receiverSettings p10Read) fresh 0) (fitting .asked)
-      (demand-3 p10 fitting) (first ∷ []) second [] refl 54 58 false-quiet (omega arith) (omega arith)
+      (demand-3 p10 fitting) (first ∷ []) second [] refl 54 58 false-high (omega arith) (omega arith)
       wholly-after;
   lent = refl;
   within = within-limits;
   whole-way = whole-way p10Lent within-limits;
+}
+
+crossed-fits : Fitting p10Crossed
+unfolding m1 m2 m3 m4 m5
+crossed-fits = record {
+  asked = record {
+    settles = omega arith;
+    some-bits = omega arith;
+    rows = fitting .asked .rows;
+    m1 = refl;
+    m2 = refl;
+    m3 = refl;
+    m4 = refl;
+  };
+  choices =
+      most-append 1 (0 ∷ 0 ∷ 1 ∷ 1 ∷ 0 ∷ 0 ∷ []) (replicate 9 1)
+      (omega arith, (omega arith, (omega arith, (omega arith, (omega arith, (omega arith, tt))))))
+      (most-replicate 1 9 1 (omega arith));
+  clocks = omega arith;
+}
+
+crossed-after : WhollyAfter crossedRead (cyclesOf crossedRead (first ∷ [])) (second .lead) 58
+unfolding planWave wave cells
+crossed-after i read lo hi here shares = omega (arith, shares .before-the-end)
+
+-- the reads, as runs of a level and of the other
+abbrev p10Runs : (high low : ℕ) → List ℕ
+p10Runs high low =
+    replicate 23 high ++ replicate 5 low ++ replicate 13 high ++ replicate 19 low ++ replicate 21 high
+    ++ replicate 20 low ++ replicate 3 high ++ replicate 13 low
+
+straight-reads : p10Read .reads ≡ p10Runs 1 0
+unfolding overTheLine settle warp warpFrom look dropped smoothFrom planWave wave cells
+straight-reads = refl
+
+crossed-reads : crossedRead .reads ≡ p10Runs 0 1
+unfolding overTheLine settle warp warpFrom look dropped smoothFrom turnedOver planWave wave cells
+crossed-reads = refl
+
+runs-turned : turnedOver (p10Runs 1 0) ≡ p10Runs 0 1
+unfolding turnedOver
+runs-turned = refl
+
+pub tried-crossed : TriedCrossed
+unfolding overTheLine settle warp warpFrom look dropped smoothFrom turnedOver planWave wave cells next reportsBy
+    fromMark placesWhere numbered withinLead heard markPlace samplePlace lastSample deliveries reportsAt moved
+tried-crossed = record {
+  fits = crossed-fits;
+  demand = demand-3 p10Crossed crossed-fits;
+  wholly = crossed-after;
+  turned = crossed-reads ∙ sym (ap turnedOver straight-reads ∙ runs-turned);
+  samples = refl;
+  hears = refl;
+  reports-low = refl;
+  reports-high = refl;
+  before = demand-3 p10Crossed crossed-fits .before 54 58 false-low (omega arith) (omega arith);
+  after = user-wording crossedRead (reports (receiverSettings crossedRead) fresh 0) (crossed-fits .asked)
+      (demand-3 p10Crossed crossed-fits) (first ∷ []) second [] refl 54 58 false-low (omega arith) (omega arith)
+      crossed-after;
 }
 
 stored-fits : StoredFits stored
@@ -136,7 +197,7 @@ tried-stored = record {
   wholly = stored-after;
   hears = refl;
   after = shown .as-it-was (reports (receiverSettings p10Read) fresh 0) (shown .demand 3 (omega arith)) (first ∷ [])
-      (record { lead = 28; bits = 0 ∷ 1 ∷ [] }) [] refl 54 63 false-quiet (omega arith) (omega arith) stored-after;
+      (record { lead = 28; bits = 0 ∷ 1 ∷ [] }) [] refl 54 63 false-high (omega arith) (omega arith) stored-after;
 }
   where
     shown : AsStored stored

@@ -1,5 +1,5 @@
 -- Each useless sender answers or leaves something else at one small input. Each useless receiver reports fewer than two
--- rows over P10's reads as they are, and demand 3 asks two.
+-- rows over P10's reads as they are, on a straight pair or on a crossed one, and demand 3 asks two.
 use mathlib.Core.Path.{_≡_, refl, sym, ap, _∙_}
 use mathlib.Core.Bool.{Bool, true, false}
 use mathlib.Core.List.{List, [], _∷_}
@@ -17,11 +17,11 @@ use Rattle.line.specs.Passes.{overTheLine}
 use Rattle.counted.specs.Counted.{fromMark}
 use Rattle.board.specs.Rows.{next}
 use Rattle.board.specs.Feeding.{Report, reportsBy}
-use Rattle.promises.specs.Places.{placesWhere, numbered, withinLead, heard, markPlace, samplePlace}
+use Rattle.promises.specs.Places.{turnedOver, placesWhere, numbered, withinLead, heard, markPlace, samplePlace}
 use Rattle.promises.specs.Places.{lastSample, deliveries}
 use Rattle.promises.specs.Replaced.{damaged, reportsAt, below}
 use Rattle.promises.specs.Demand3.{Demand3}
-use Rattle.promises.specs.Tried.{p10Read}
+use Rattle.promises.specs.Tried.{p10Read, crossedRead}
 use Rattle.promises.specs.Promised.{Test, good, first, Answered, Fills}
 use Rattle.promises.specs.GoodInput as Good
 use Rattle.promises.specs.Useless.{Sender, Line, ShutOut1, ShutOut}
@@ -34,14 +34,25 @@ too-few hear few demand =
     let two = ap (λ (l : List Report). length l) (demand .before 117 117 [] (omega arith) (omega arith)) in
     omega arith
 
+too-few-crossed : (hear : List ℕ → List Report) → length (below 117 (hear (damaged crossedRead 117 117 []))) < 2
+    → Demand3 crossedRead hear → ⊥
+unfolding overTheLine settle warp warpFrom look dropped smoothFrom turnedOver planWave wave cells fromMark
+    placesWhere numbered withinLead heard markPlace samplePlace lastSample deliveries reportsAt
+too-few-crossed hear few demand =
+    let two = ap (λ (l : List Report). length l) (demand .before 117 117 [] (omega arith) (omega arith)) in
+    omega arith
+
 pub shut-out : ShutOut
-unfolding overTheLine settle warp warpFrom look dropped smoothFrom planWave wave cells next reportsBy
+unfolding overTheLine settle warp warpFrom look dropped smoothFrom turnedOver planWave wave cells next reportsBy
     reportsAt
 shut-out = record {
   refusing = too-few _ (omega arith);
   leaving = too-few _ (omega arith);
   once = too-few _ (omega arith);
   once-is = refl;
+  high = too-few-crossed _ (omega arith);
+  high-is = refl;
+  high-is-not = refl;
 }
 
 -- an answer that is given is no refusal

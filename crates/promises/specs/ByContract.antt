@@ -2,6 +2,7 @@
 -- answers and leaves; the picker's is a relation, which one answer alone fits. A call's arguments stand in their order;
 -- primed, what is left behind a `&mut`.
 use mathlib.Core.Path.{_≡_}
+use mathlib.Core.List.{[], _∷_}
 use contract.Lifetimes.{Lfts}
 use denote.Ref.{now}
 use denote.Triple.Entry.{Args, Res}
@@ -20,9 +21,9 @@ use Rattle.halfcells.specs.Answers.{encoded, encodedSays, decoded, decodedSays}
 use Rattle.line.specs.Answers.{smoothed, smoothedSays, warped, warpedByLengths, settled, readSays}
 use Rattle.counted.specs.Answers.{countedBits, countedSays}
 use Rattle.board.specs.Rows.{row, broken}
-use Rattle.board.specs.Packed.{unpacked}
+use Rattle.board.specs.Packed.{unpacked, whole}
 use Rattle.board.specs.WellFormed.{wellFormed}
-use Rattle.board.specs.Answers.{begun, startSays, stepped, steppedSays, listened, listenedSays}
+use Rattle.board.specs.Answers.{begun, startSays, stepped, steppedSays, listened, listenedSays, inLent, toldSays}
 use Rattle.capture.specs.Capture.{header}
 use Rattle.log.specs.Answers.{logged, loggedSays, cleared, clearedSays, listed, listedSays}
 use Rattle.capture.specs.Answers.{headSays, checked, readBack, checkedSays, written, writtenSays}
@@ -159,6 +160,18 @@ pub record ByContract : Type 0 where
   pub listen : Says Board.Receiver.listen.ended Board.Receiver.listen.Reads.Post
       λ κs (receiver, (reads, _)) x _.
       listened receiver (now reads) ≡ listenedSays x
+  pub bare : Says Board.Receiver.bare.ended Board.Receiver.bare.Reads.Post
+      λ κs (receiver, _) x _.
+      whole x (receiver .bits) ≡ receiver
+  pub well-formed-lent : Says Board.Bare.well_formed.ended Board.Bare.well_formed.Reads.Post
+      λ κs (bare, (bits, _)) x _.
+      x ≡ wellFormed (whole bare (now bits))
+  pub step-lent : Says Board.Bare.step.ended Board.Bare.step.Reads.Post
+      λ κs (bare, (read, (bits, (room, _)))) x (_, (_, (bits′, (room′, _)))).
+      inLent (now room) (listened (whole bare (now bits)) (read ∷ [])) ≡ toldSays x bits′ room′
+  pub listen-lent : Says Board.Bare.listen.ended Board.Bare.listen.Reads.Post
+      λ κs (bare, (reads, (bits, (room, _)))) x (_, (_, (bits′, (room′, _)))).
+      inLent (now room) (listened (whole bare (now bits)) (now reads)) ≡ toldSays x bits′ room′
   -- capture
   pub read-header : Says Capture.read_header.ended Capture.read_header.Reads.Post
       λ κs (bytes, _) x _.

@@ -1,5 +1,6 @@
 -- Rules M: with settings that are accepted, no message is lost between sender and counted receiver, with all clocks
--- that keep to the ends. Steady clocks are a case of it, and source 002's results cases of that.
+-- that keep to the ends, on a straight pair, where it starts high. Steady clocks are a case of it, and source 002's
+-- results cases of that.
 use Prim.Native.Nat.{ℕ, _+_, _*_, _≤_, _<_}
 use mathlib.Core.Path.{_≡_}
 use mathlib.Core.Bool.{true}

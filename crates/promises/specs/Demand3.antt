@@ -1,6 +1,6 @@
 -- Demand 3: a plan's rows are delivered once and in order, and any stretch of reads that is replaced is made good with
--- the next lead quiet that is heard. It holds with all clocks that keep to their ends and reach the wave's end, and
--- steady clocks are a case.
+-- the next lead quiet that is heard. It holds with all clocks that keep to their ends and reach the wave's end, of
+-- which steady clocks are a case, and on a pair that is laid straight or crossed.
 -- The definitions are those that the operations' contracts cite: the sender leaves `planWave` in the lent output, each
 -- pass of the line leaves its list, and the receiver, given one read a call, reports what feeding `next` reports
 -- (Hearing).
@@ -80,8 +80,8 @@ UserWording = (x : Scene) (hear : List ℕ → List Report) → Asked x → Dema
 abbrev pub receiverSettings : Scene → Settings
 receiverSettings x = record { k = x .k; n = x .n; Q = x .Q }
 
--- D3: what is promised of the rules, with steady clocks and with any others that keep to their ends and reach the
--- wave's end
+-- D3: what is promised of the rules, on a straight pair and on a crossed one, with steady clocks and with any others
+-- that keep to their ends and reach the wave's end
 abbrev pub Demand3Holds : Type 0
 Demand3Holds = (x : Link) → Fitting x → Demand3 (scene x) (reports (receiverSettings (scene x)) fresh 0)
 
@@ -119,6 +119,7 @@ withClocks x clocks =
       n = x .n;
       Q = x .Q;
       clocks = clocks;
+      pair = x .pair;
       rows = x .rows;
       highAfter = x .highAfter;
       choices = x .choices;

@@ -38,10 +38,12 @@ use Rattle.counted.specs.Answers.{countedInto, countedBits}
 use Rattle.counted.specs.Continued.{CountingContinues, LaterReadsKeep}
 use Rattle.board.specs.Rows.{Settings, nothing, row, broken, fresh as freshState, next as nextState}
 use Rattle.board.specs.Feeding.{reports as reportsOf}
-use Rattle.board.specs.Packed.{unpacked, settingsOf, stateOf, receiverOf}
+use Rattle.board.specs.Packed.{unpacked, whole, settingsOf, stateOf, receiverOf}
 use Rattle.board.specs.WellFormed.{wellFormed}
 use Rattle.board.specs.EveryStep.{EveryStep}
-use Rattle.board.specs.Answers.{reached, refusing, begun, stepped, levelsOf, toEvent, listened}
+use Rattle.board.specs.Crossed.{SameCrossed}
+use Rattle.board.specs.Answers.{reached, refusing, begun, stepped, levelsOf, toEvent, listened, inLent}
+use Rattle.board.specs.declared.Bare.{Bare}
 use Rattle.board.specs.declared.Receiver.{Receiver}
 use Rattle.capture.specs.Numbers.{numberAt}
 use Rattle.capture.specs.Capture.{header}
@@ -133,6 +135,13 @@ pub record Demand1 : Type 0 where
       → let told = reportsOf (settingsOf x) (stateOf x) 0 (levelsOf reads) in
       Answered (Good.listen x reads) (listened x reads) (toEvent (settingsOf x) (stateOf x) (levelsOf reads) told)
       (λ number place. (refusing x number place, 0))
+  -- the same where bits and a row's bytes are lent, which a refusal leaves as they were; one read is a list of one
+  pub listen-lent : (bare : Bare) (bits room reads : List ℕ)
+      → let x = whole bare bits in
+      let told = reportsOf (settingsOf x) (stateOf x) 0 (levelsOf reads) in
+      Answered (Good.listen x reads) (inLent room (listened x reads))
+      (inLent room (toEvent (settingsOf x) (stateOf x) (levelsOf reads) told))
+      (λ number place. (record { receiver = x; answer = refused number place; row = room }, 0))
   -- the held reader: at the first byte of what is lent, its place `at`, the number there, and past that number. The two
   -- last hold at any place; one past the last byte no caller can have.
   pub held-new : (bytes : RefT (List ℕ)) → begunReader bytes ≡ record { src = bytes; at = 0 }
@@ -203,9 +212,10 @@ pub record Demand2 : Type 0 where
   pub keeps : LaterReadsKeep
   -- a picked sampling count is the best
   pub picks : PickedCounts
-  -- every step gives a well formed state; and the row receiver hears what the rules hear, whatever comes in, one read a
-  -- call or a list a call, in Rust and from C
+  -- every step gives a well formed state; reads turned over bring the same reports; and the row receiver hears what the
+  -- rules hear, whatever comes in, one read a call or a list a call, in Rust and from C
   pub well-formed : EveryStep
+  pub same-crossed : SameCrossed
   pub hears : (g : Settings) → rowSettingsFit (g .k) (g .n) (g .Q) ≡ true → (caller : Caller)
       → Hears g (hearing caller g)
   -- captures both ways
@@ -229,9 +239,10 @@ pub record Demand2 : Type 0 where
   pub writes-rows : Whole
 
 -- D3: each row of a plan is delivered once and in order; and where a stretch of reads is replaced by any others, each
--- row again from the next lead quiet that is heard. It holds with all clocks that keep to their ends and reach the
--- wave's end, of the rules, with the user's own wording and steady clocks as cases and with its grounds, and of every
--- caller: of `step` with one read a call, of `listen` with a list a call, and of both from C.
+-- row again from the next lead quiet that is heard. It holds over a straight pair and over a crossed one, with all
+-- clocks that keep to their ends and reach the wave's end, of the rules, with the user's own wording and steady clocks
+-- as cases and with its grounds, and of every caller: of `step` with one read a call, of `listen` with a list a call,
+-- and of both from C.
 pub record Demand3Met : Type 0 where
   pub of-the-rules : Demand3Holds
   pub in-the-users-words : UserWording

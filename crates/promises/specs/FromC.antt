@@ -102,11 +102,12 @@ pub record Demand1FromC : Type 0 where
       (crossing crossed (listedInto bits output)) (λ number place. ((number, place, 0), output))
   pub time-write : (h m s f : ℕ) (output : List ℕ)
       → FillsFromC (Good.writeTime h m s f output) (wordOf h m s f) output (crossing crossed (writeTime h m s f output))
-  -- the receiver's eight numbers (k, n, Q, mode, run, left, level, found) and its bytes; a refused start is all zeros
+  -- the receiver's nine numbers (k, n, Q, mode, run, run's level, left, level, found) and its bytes; a refused start is
+  -- all zeros
   pub fresh : (k n Q : ℕ)
       → Answered (Good.fresh k n Q) (begunLent (begun k n Q))
-      (0, k ∷ n ∷ Q ∷ 0 ∷ 0 ∷ 0 ∷ 1 ∷ 0 ∷ [], replicate 128 0)
-      (λ number place. (number, replicate 8 0, replicate 128 0))
+      (0, k ∷ n ∷ Q ∷ 0 ∷ 0 ∷ 1 ∷ 0 ∷ 1 ∷ 0 ∷ [], replicate 128 0)
+      (λ number place. (number, replicate 9 0, replicate 128 0))
   -- 1 for a well formed state and 0 for any other
   pub well-formed : (numbers bytes : List ℕ)
       → Answered (setting (numbersFit (named numbers)) ∷ setting (wellFormed (receiverLent (named numbers) bytes)) ∷ [])

@@ -25,7 +25,7 @@ use Rattle.line.specs.Settle.{settle as settling}
 use Rattle.line.specs.Answers.{timed, lengthsFit}
 use Rattle.board.specs.Feeding.{reports}
 use Rattle.board.specs.Packed.{settingsOf, stateOf}
-use Rattle.board.specs.WellFormed.{runFits, leftFits, foundFits, levelFits, unusedZero, wellFormed}
+use Rattle.board.specs.WellFormed.{runFits, runLevelFits, leftFits, foundFits, levelFits, unusedZero, wellFormed}
 use Rattle.board.specs.Answers.{levelsOf, silent}
 use Rattle.board.specs.declared.Receiver.{Receiver}
 use Rattle.capture.specs.Numbers.{Group, value, cut, long, group, further}
@@ -157,14 +157,15 @@ writeTime h m s f output = setting (timeFits h m s f) ∷ room (length (wordOf h
 abbrev pub fresh : (k n Q : ℕ) → List Test
 fresh k n Q = setting (rowSettingsFit k n Q) ∷ []
 
--- B20 to B25, R49: what a well formed state has to pass, clause by clause
+-- B20 to B25, B28, R49: what a well formed state has to pass, clause by clause
 abbrev pub wellFormedBy : (x : Receiver) → List Test
 wellFormedBy x =
     setting (rowSettingsFit (x .k .0) (x .n) (x .q .0))
     ∷ setting (runFits (x .mode) (x .run .0) (x .q .0))
+    ∷ setting (runLevelFits (x .run .0) (x .runlevel))
     ∷ setting (leftFits (x .mode) (x .left .0) (x .k .0))
     ∷ setting (foundFits (x .mode) (x .found) (x .n))
-    ∷ setting (levelFits (x .mode) (x .level))
+    ∷ setting (levelFits (x .mode) (x .level) (x .runlevel))
     ∷ setting (unusedZero (x .found) (x .bits))
     ∷ []
 

@@ -62,8 +62,8 @@ listen x reads = ((listened x reads .0 .answer, listened x reads .0 .receiver), 
 
 -- H9: What a C caller makes of the numbers it is told: number 0 is no refusal; event 1 is a row, whose n bits stand in
 -- the lent bytes, and event 2 a broken one.
-abbrev pub crossedEvent : Reply → Lent → Answer Event
-crossedEvent reply lent =
+abbrev pub eventFromC : Reply → Lent → Answer Event
+eventFromC reply lent =
     choose (eqb (reply .number) 0)
     (given (choose (eqb (reply .event) 1) (row (take (named (lent .numbers) .n) (unpacked 8 (lent .row))))
     (choose (eqb (reply .event) 2) (broken (reply .found)) nothing)))
@@ -72,13 +72,13 @@ crossedEvent reply lent =
 -- H9: and C's two entry points
 abbrev pub stepFromC : Stepping Lent
 stepFromC lent read =
-    (crossedEvent (steppedLent lent read .0) (steppedLent lent read .1), steppedLent lent read .1)
+    (eventFromC (steppedLent lent read .0) (steppedLent lent read .1), steppedLent lent read .1)
 
 -- H9
 abbrev pub listenFromC : Listening Lent
 listenFromC lent reads = (
   (
-    crossedEvent (listenedLent lent reads .0 .0) (listenedLent lent reads .0 .1),
+    eventFromC (listenedLent lent reads .0 .0) (listenedLent lent reads .0 .1),
     listenedLent lent reads .0 .1,
   ),
   listenedLent lent reads .1,

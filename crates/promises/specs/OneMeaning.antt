@@ -90,6 +90,11 @@ pub record OneMeaning : Type 0 where
       One Board.Receiver.well_formed.ended Board.Receiver.well_formed.Reads.Asked Board.Receiver.well_formed.Reads.Post
   pub step : One Board.Receiver.step.ended Board.Receiver.step.Reads.Asked Board.Receiver.step.Reads.Post
   pub listen : One Board.Receiver.listen.ended Board.Receiver.listen.Reads.Asked Board.Receiver.listen.Reads.Post
+  pub bare : One Board.Receiver.bare.ended Board.Receiver.bare.Reads.Asked Board.Receiver.bare.Reads.Post
+  pub well-formed-lent :
+      One Board.Bare.well_formed.ended Board.Bare.well_formed.Reads.Asked Board.Bare.well_formed.Reads.Post
+  pub step-lent : One Board.Bare.step.ended Board.Bare.step.Reads.Asked Board.Bare.step.Reads.Post
+  pub listen-lent : One Board.Bare.listen.ended Board.Bare.listen.Reads.Asked Board.Bare.listen.Reads.Post
   -- capture
   pub read-header : One Capture.read_header.ended Capture.read_header.Reads.Asked Capture.read_header.Reads.Post
   pub check : One Capture.check.ended Capture.check.Reads.Asked Capture.check.Reads.Post

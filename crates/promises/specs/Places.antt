@@ -7,7 +7,7 @@ use lib.ListN.{length, drop}
 use lib.Dec.{eqb, leb}
 use Rattle.measure.specs.Choose.{choose}
 use Rattle.settings.specs.Margins.{Ends, steady}
-use Rattle.sender.specs.Sending.{Row, pad, planWave}
+use Rattle.sender.specs.Sending.{opposite, Row, pad, planWave}
 use Rattle.line.specs.Warp.{cycleStart, readStart}
 use Rattle.line.specs.Wander.{startOf}
 use Rattle.line.specs.Passes.{overTheLine, overTheLineByLengths}
@@ -15,8 +15,28 @@ use Rattle.counted.specs.Counted.{fromMark}
 use Rattle.board.specs.Rows.{row as delivered}
 use Rattle.board.specs.Feeding.{Report}
 
--- D10: a plan as it is read: the settings, the ends that the clocks keep to, the rows, when each writer cycle and each
--- read starts, and the settled reads
+-- D10: how the two wires of a pair are laid (what crosses to C is another matter: `siengulot:Crossing`)
+pub data Pair : Type 0 where
+  straight : Pair
+  crossed : Pair
+
+-- D10: the level that is read in a quiet: high, and low where the wires are crossed
+abbrev pub quietOn : Pair → ℕ
+quietOn straight = 1
+quietOn crossed = 0
+
+-- D10: a wave with every level turned over
+unfoldable pub turnedOver : List ℕ → List ℕ
+turnedOver [] = []
+turnedOver (level ∷ levels) = opposite level ∷ turnedOver levels
+
+-- D10: what a pair makes of a wave
+abbrev pub over : Pair → List ℕ → List ℕ
+over straight wave = wave
+over crossed wave = turnedOver wave
+
+-- D10: a plan as it is read: the settings, the ends that the clocks keep to, how the pair is laid, the rows, when each
+-- writer cycle and each read starts, and the settled reads
 pub record Scene : Type 0 where
   pub a : ℕ
   pub b : ℕ
@@ -25,6 +45,7 @@ pub record Scene : Type 0 where
   pub ends : Ends
   pub n : ℕ
   pub Q : ℕ
+  pub pair : Pair
   pub rows : List Row
   pub starts : ℕ → ℕ
   pub begins : ℕ → ℕ
@@ -57,8 +78,8 @@ readsBy (steadily w r p) g wave choices = overTheLine g w r p wave choices
 readsBy (byLengths e p cycleLengths readLengths) g wave choices =
     overTheLineByLengths g p cycleLengths readLengths wave choices
 
--- D10: the settings of a link, its clocks, the plan sent over it, how many high cycles come after the plan, and what
--- the line chooses for unknown reads
+-- D10: the settings of a link, its clocks, how its pair is laid, the plan sent over it, how many high cycles are sent
+-- after the plan (low ones, over a crossed pair), and what the line chooses for unknown reads
 pub record Link : Type 0 where
   pub a : ℕ
   pub b : ℕ
@@ -67,13 +88,14 @@ pub record Link : Type 0 where
   pub n : ℕ
   pub Q : ℕ
   pub clocks : Clocks
+  pub pair : Pair
   pub rows : List Row
   pub highAfter : ℕ
   pub choices : List ℕ
 
--- D10: what goes over the line: the plan's wave, and so many high cycles after it
+-- D10: what goes over the line: what the pair makes of the plan's wave, and of so many high cycles after it
 abbrev pub lineWave : Link → List ℕ
-lineWave x = planWave (x .a) (x .b) (x .rows) ++ pad (x .highAfter)
+lineWave x = over (x .pair) (planWave (x .a) (x .b) (x .rows) ++ pad (x .highAfter))
 
 -- D10: its plan as it is read
 abbrev pub scene : Link → Scene
@@ -86,6 +108,7 @@ scene x =
       ends = endsOf (x .clocks);
       n = x .n;
       Q = x .Q;
+      pair = x .pair;
       rows = x .rows;
       starts = startsBy (x .clocks);
       begins = beginsBy (x .clocks);
@@ -147,9 +170,9 @@ samplePlace k zero level place reads = place
 samplePlace k (suc n) level place reads =
     fromSample (samplePlace k n) (markPlace level place reads + k) (drop k (fromMark level reads))
 
--- D15: the n-th sample by that rule, started high at the read after this one
+-- D15: the n-th sample by that rule, started at the level of a quiet with the read after this one
 abbrev pub lastAfter : (x : Scene) (read : ℕ) → ℕ
-lastAfter x read = samplePlace (x .k) (x .n) 1 (suc read) (drop (suc read) (x .reads))
+lastAfter x read = samplePlace (x .k) (x .n) (quietOn (x .pair)) (suc read) (drop (suc read) (x .reads))
 
 -- D15: a row's last sample: the one after its whole lead has been heard
 unfoldable pub lastSample : (x : Scene) (cycle : ℕ) (row : Row) → ℕ

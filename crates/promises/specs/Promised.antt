@@ -99,6 +99,7 @@ unstarted =
       q = record { 0 = 0 };
       mode = Hunting;
       run = record { 0 = 0 };
+      runlevel = 0;
       left = record { 0 = 0 };
       level = 0;
       found = 0;

@@ -45,7 +45,7 @@ pub record Ready (x : Scene) (hear : List ℕ → List Report) : Type 0 where
   pub within-code : EachRow (x .a) (x .b) (WithinCode x) 0 (x .rows) (hear (x .reads))
   pub settled : EachRow (x .a) (x .b) (WithinSettledCode x) 0 (x .rows) (hear (x .reads))
 
--- D25, D26: what is promised of the rules, for every g, with steady clocks and with any others that keep to their ends
--- and reach the wave's end
+-- D25, D26: what is promised of the rules, for every g, on a straight pair and on a crossed one, with steady clocks and
+-- with any others that keep to their ends and reach the wave's end
 abbrev pub ReadyHolds : Type 0
 ReadyHolds = (x : Link) → Fitting x → Ready (scene x) (reports (receiverSettings (scene x)) fresh 0)

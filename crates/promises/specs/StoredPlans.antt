@@ -11,13 +11,13 @@ use Rattle.stored.specs.Stored.{StoredRow, storedWave, storedRowsOf, joined, dr
 use Rattle.measure.specs.Levels.{Levels}
 use Rattle.board.specs.Rows.{fresh}
 use Rattle.board.specs.Feeding.{Report, reports}
-use Rattle.promises.specs.Places.{Scene, Clocks, endsOf, readsBy, Link, lineWave, scene, cyclesOf, lastFrom}
-use Rattle.promises.specs.Places.{heard, lastAfter, lastSample}
+use Rattle.promises.specs.Places.{Pair, over, Scene, Clocks, endsOf, readsBy, Link, lineWave, scene, cyclesOf}
+use Rattle.promises.specs.Places.{lastFrom, heard, lastAfter, lastSample}
 use Rattle.promises.specs.Reaching.{ClocksFit}
 use Rattle.promises.specs.Demand3.{Asked, Fitting, After, Demand3, receiverSettings}
 
--- D21: a stored plan on its link: the settings, the clocks, the plan's three lists, and what the line chooses for
--- unknown reads
+-- D21: a stored plan on its link: the settings, the clocks, how the pair is laid, the plan's three lists, and what the
+-- line chooses for unknown reads
 pub record StoredLink : Type 0 where
   pub a : ℕ
   pub b : ℕ
@@ -26,6 +26,7 @@ pub record StoredLink : Type 0 where
   pub n : ℕ
   pub Q : ℕ
   pub clocks : Clocks
+  pub pair : Pair
   pub leads : List ℕ
   pub trails : List ℕ
   pub bits : List ℕ
@@ -42,6 +43,7 @@ linkWith y leads highAfter =
       n = y .n;
       Q = y .Q;
       clocks = y .clocks;
+      pair = y .pair;
       rows = rowsOf (y .n) leads (y .bits);
       highAfter = highAfter;
       choices = y .choices;
@@ -63,9 +65,9 @@ alone y = scene (readInto y 0)
 abbrev pub storedRows : StoredLink → List StoredRow
 storedRows y = storedRowsOf (y .n) (y .leads) (y .trails) (y .bits)
 
--- D21: the stored plan's own wave, and its reads
+-- D21: what the pair makes of the stored plan's own wave, and its reads
 abbrev pub ownWave : StoredLink → List ℕ
-ownWave y = storedWave (y .a) (y .b) (storedRows y)
+ownWave y = over (y .pair) (storedWave (y .a) (y .b) (storedRows y))
 
 -- D21
 abbrev pub storedReads : StoredLink → List ℕ

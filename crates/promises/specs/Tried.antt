@@ -1,6 +1,6 @@
 -- Demand 3 tried at P10's settings: two rows, and reads between their last samples replaced by a false quiet with a
--- false mark after it; tried of the same rows stored with a trail pad; tried on a line with a settling count of 2,
--- where rows also come as soon and as late as they can; and tried with clocks that wander.
+-- false mark after it; tried of the same rows over a crossed pair; of the same rows stored with a trail pad; on a line
+-- with a settling count of 2, where rows also come as soon and as late as they can; and with clocks that wander.
 use Prim.Native.Nat.{ℕ, zero, suc, _+_, _-_}
 use mathlib.Core.Path.{_≡_}
 use mathlib.Core.List.{List, [], _∷_, _++_}
@@ -9,7 +9,8 @@ use Rattle.settings.specs.Margins.{ends}
 use Rattle.sender.specs.Sending.{Row}
 use Rattle.board.specs.Rows.{Event, row, broken, fresh}
 use Rattle.board.specs.Feeding.{Report, reports as reportsOf}
-use Rattle.promises.specs.Places.{Scene, steadily, byLengths, Link, scene, cyclesOf, heard, deliveries}
+use Rattle.promises.specs.Places.{straight, crossed, turnedOver, Scene, steadily, byLengths, Link, scene}
+use Rattle.promises.specs.Places.{cyclesOf, heard, deliveries}
 use Rattle.promises.specs.Replaced.{WhollyAfter, damaged, below, above}
 use Rattle.promises.specs.Demand3.{Fitting, Demand3, receiverSettings}
 use Rattle.promises.specs.Ready.{Ready}
@@ -35,6 +36,7 @@ p10 = record {
   n = 2;
   Q = 21;
   clocks = steadily 100 100 40;
+  pair = straight;
   rows = first ∷ second ∷ [];
   highAfter = 0;
   choices = 1 ∷ 0 ∷ 0 ∷ 1 ∷ 1 ∷ 0 ∷ [];
@@ -66,12 +68,12 @@ p10Lent = record {
 }
 
 -- D11: Q high reads, then a mark
-abbrev pub false-quiet : List ℕ
-false-quiet = replicate 21 1 ++ replicate 3 0
+abbrev pub false-high : List ℕ
+false-high = replicate 21 1 ++ replicate 3 0
 
 -- reads 54 up to 58 replaced; read 58 is the first that shares time with the second row's lead
 abbrev pub damagedReports : List Report
-damagedReports = reportsOf (receiverSettings p10Read) fresh 0 (damaged p10Read 54 58 false-quiet)
+damagedReports = reportsOf (receiverSettings p10Read) fresh 0 (damaged p10Read 54 58 false-high)
 
 -- D16: a report
 abbrev pub at : (place : ℕ) (event : Event) → Report
@@ -96,6 +98,53 @@ pub record Tried : Type 0 where
   pub within : Within p10Lent
   pub whole-way : WholeWay p10Lent
 
+-- D10: P10's plan over a crossed pair. Unknown reads fall the other way, one more of them where the first lead begins,
+-- so every read is turned over.
+abbrev pub p10Crossed : Link
+p10Crossed = record {
+  a = p10 .a;
+  b = p10 .b;
+  g = p10 .g;
+  k = p10 .k;
+  n = p10 .n;
+  Q = p10 .Q;
+  clocks = p10 .clocks;
+  pair = crossed;
+  rows = p10 .rows;
+  highAfter = 0;
+  choices = 0 ∷ 0 ∷ 1 ∷ 1 ∷ 0 ∷ 0 ∷ replicate 9 1;
+}
+
+-- D10
+abbrev pub crossedRead : Scene
+crossedRead = scene p10Crossed
+
+-- D11: Q low reads, then a mark
+abbrev pub false-low : List ℕ
+false-low = replicate 21 0 ++ replicate 3 1
+
+-- D3: what is reported where reads 54 up to 58 are replaced
+abbrev pub crossedReports : (junk : List ℕ) → List Report
+crossedReports junk = reportsOf (receiverSettings crossedRead) fresh 0 (damaged crossedRead 54 58 junk)
+
+-- D3: a crossed pair
+pub record TriedCrossed : Type 0 where
+  pub fits : Fitting p10Crossed
+  pub demand : Demand3 crossedRead (reportsOf (receiverSettings crossedRead) fresh 0)
+  pub wholly : WhollyAfter crossedRead (cyclesOf crossedRead (first ∷ [])) (second .lead) 58
+  pub turned : crossedRead .reads ≡ turnedOver (p10Read .reads)
+  -- the last samples and the read with which the second lead quiet, low now, has been heard are those of P10
+  pub samples : deliveries crossedRead 0 (first ∷ second ∷ [])
+      ≡ at 51 (row (1 ∷ 0 ∷ [])) ∷ at 111 (row (0 ∷ 1 ∷ [])) ∷ []
+  pub hears : heard crossedRead (cyclesOf crossedRead (first ∷ [])) (second .lead) ≡ 80
+  -- and so are the reports, of a false quiet at either level
+  pub reports-low : crossedReports false-low
+      ≡ at 51 (row (1 ∷ 0 ∷ [])) ∷ at 100 (broken 1) ∷ at 131 (row (0 ∷ 1 ∷ [])) ∷ []
+  pub reports-high : crossedReports false-high
+      ≡ at 51 (row (1 ∷ 0 ∷ [])) ∷ at 100 (broken 1) ∷ at 131 (row (0 ∷ 1 ∷ [])) ∷ []
+  pub before : below 54 (crossedReports false-low) ≡ at 51 (row (1 ∷ 0 ∷ [])) ∷ []
+  pub after : above 100 (crossedReports false-low) ≡ at 131 (row (0 ∷ 1 ∷ [])) ∷ []
+
 -- D23: the same two rows as they may be stored, with a trail pad of five cycles and one of three, which is dropped
 abbrev pub stored : StoredLink
 stored = record {
@@ -106,6 +155,7 @@ stored = record {
   n = 2;
   Q = 21;
   clocks = p10 .clocks;
+  pair = straight;
   leads = 23 ∷ 23 ∷ [];
   trails = 5 ∷ 3 ∷ [];
   bits = 1 ∷ 0 ∷ 0 ∷ 1 ∷ [];
@@ -121,7 +171,7 @@ pub record TriedStored : Type 0 where
   -- the read with which these have been heard, which the stretch moves to 54 + 24 + (85 - 63)
   pub hears : heard (itself stored) (storedFrom stored 1) (storedLead stored 1) ≡ 85
   -- so the user's wording says nothing of the second row, and the last 23 cycles still bring it
-  pub after : above 100 (reportsOf (receiverSettings p10Read) fresh 0 (damaged (itself stored) 54 63 false-quiet))
+  pub after : above 100 (reportsOf (receiverSettings p10Read) fresh 0 (damaged (itself stored) 54 63 false-high))
       ≡ at 131 (row (0 ∷ 1 ∷ [])) ∷ []
 
 -- D3
@@ -139,6 +189,7 @@ slowLink g lead = record {
   n = 2;
   Q = 15;
   clocks = steadily 2 2 1;
+  pair = straight;
   rows = slowFirst ∷ record { lead = lead; bits = 0 ∷ 1 ∷ [] } ∷ [];
   highAfter = 0;
   choices = [];
@@ -220,6 +271,7 @@ wanderLink = record {
   n = 2;
   Q = 16;
   clocks = byLengths (ends 9 10 9 10) 8 wanderCycleLengths wanderReadLengths;
+  pair = straight;
   rows = wanderFirst ∷ wanderSecond ∷ [];
   highAfter = 0;
   choices = [];

@@ -10,14 +10,14 @@ use Rattle.measure.specs.Lists.{onto}
 use Rattle.measure.specs.Refusals.{Answer, given, refused, refusedAfter}
 use Rattle.sender.specs.Sending.{wave}
 use Rattle.sender.specs.Answers.{sentMessage}
-use Rattle.board.specs.Rows.{Settings, State, Event, nothing, row, broken, Moved, fresh, next}
+use Rattle.board.specs.Rows.{Settings, runOf, State, Event, nothing, row, broken, Moved, fresh, listening, next}
 use Rattle.board.specs.Feeding.{Step, reportsBy}
 use Rattle.board.specs.declared.Mode.{Mode}
 use Rattle.board.specs.declared.Mode.the-variants.{Hunting, Ready, Counting, Waiting}
 use Rattle.promises.specs.Promised.{Test, Answered, Fills}
 use Rattle.promises.specs.GoodInput as Good
 use Rattle.promises.specs.Demand3.{Demand3, receiverSettings}
-use Rattle.promises.specs.Tried.{p10Read}
+use Rattle.promises.specs.Tried.{p10Read, at, crossedRead}
 
 -- D34: What could be put in the place of `send`, and demand 1's line for it.
 abbrev pub Sender : Type 0
@@ -92,7 +92,7 @@ leavesState g s read = record { state = s; event = next g s read .event }
 -- D34: One that delivers a first row and hunts ever after. That it has delivered it remembers by a read left in
 -- hunting, which the rules never leave.
 abbrev pub delivered : State
-delivered = record { mode = Hunting; left = 1; level = 1; run = 0; bits = [] }
+delivered = record { mode = Hunting; left = 1; level = 1; run = runOf 0 1; bits = [] }
 
 -- D34
 abbrev pub hasDelivered : Mode → ℕ → Bool
@@ -113,10 +113,19 @@ deliversOnce g s read =
     choose (hasDelivered (s .mode) (s .left)) (record { state = s; event = nothing })
     (remembering (next g s read) (next g s read .event))
 
--- D34: demand 3 is false of each; the last one does deliver the first row
+-- D34: One that is ready after high alone: a low read makes no run, and the next high one begins it.
+abbrev pub readyAfterHigh : Settings → Step
+readyAfterHigh g s read = choose (eqb read 1) (next g s read) (listening (s .mode) g s (runOf 0 1) read)
+
+-- D34: demand 3 is false of each; the third does deliver the first row. The last is refuted by the wave that is turned
+-- over: where the pair is straight it delivers both rows, and where it is crossed none.
 pub record ShutOut : Type 0 where
   pub refusing : Demand3 p10Read (reportsBy refusesAll fresh 0) → ⊥
   pub leaving : Demand3 p10Read (reportsBy (leavesState (receiverSettings p10Read)) fresh 0) → ⊥
   pub once : Demand3 p10Read (reportsBy (deliversOnce (receiverSettings p10Read)) fresh 0) → ⊥
   pub once-is : reportsBy (deliversOnce (receiverSettings p10Read)) fresh 0 (p10Read .reads)
-      ≡ record { place = 51; event = row (1 ∷ 0 ∷ []) } ∷ []
+      ≡ at 51 (row (1 ∷ 0 ∷ [])) ∷ []
+  pub high : Demand3 crossedRead (reportsBy (readyAfterHigh (receiverSettings crossedRead)) fresh 0) → ⊥
+  pub high-is : reportsBy (readyAfterHigh (receiverSettings p10Read)) fresh 0 (p10Read .reads)
+      ≡ at 51 (row (1 ∷ 0 ∷ [])) ∷ at 111 (row (0 ∷ 1 ∷ [])) ∷ []
+  pub high-is-not : reportsBy (readyAfterHigh (receiverSettings crossedRead)) fresh 0 (crossedRead .reads) ≡ []

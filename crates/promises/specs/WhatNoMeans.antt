@@ -1,4 +1,5 @@
--- Rules M, on what a refusal of settings leaves open. What it does say: the margins are exact to one time unit.
+-- Rules M, on what a refusal of settings leaves open. What it does say: the margins are exact to one time unit. All of
+-- it is about the counted receiver, started high on a straight pair.
 use Prim.Native.Nat.{ℕ, zero, suc, _≤_, _<_}
 use mathlib.Core.Path.{_≡_}
 use mathlib.Core.Logic.{_≢_}

@@ -1,5 +1,7 @@
 -- The whole way, call by call: a plan that is lent as lists is judged, sent, taken through the three passes and heard,
--- and each call is given what the one before left. What comes out is what demand 3 speaks of.
+-- and each call is given what the one before left. What comes out is what demand 3 speaks of. No operation crosses the
+-- wires, so the pair is straight here; over a crossed one each call is as demand 1 has it, and demand 3 of every caller
+-- speaks of the reads.
 use Prim.Native.Nat.{ℕ, _≤_, _<_}
 use mathlib.Core.Path.{_≡_}
 use mathlib.Core.Bool.{true}
@@ -15,7 +17,7 @@ use Rattle.line.specs.Smooth.{smooth}
 use Rattle.line.specs.Warp.{warp}
 use Rattle.line.specs.Answers.{smoothed, warped, settled}
 use Rattle.measure.specs.Levels.{Levels}
-use Rattle.promises.specs.Places.{Scene, steadily, Link, scene, deliveries}
+use Rattle.promises.specs.Places.{straight, Scene, steadily, Link, scene, deliveries}
 use Rattle.promises.specs.Demand3.{Asked, Fitting, receiverSettings, Demand3}
 use Rattle.promises.specs.Promised.{good}
 use Rattle.promises.specs.GoodInput as Good
@@ -80,6 +82,7 @@ linkOf y =
       n = y .n;
       Q = y .Q;
       clocks = steadily (y .w) (y .r) (y .p);
+      pair = straight;
       rows = rowsOf (y .n) (y .leads) (y .bits);
       highAfter = 0;
       choices = y .choices;

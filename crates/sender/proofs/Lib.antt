@@ -5,4 +5,5 @@ pub mod Cells
 pub mod Plans
 pub mod Waves
 pub mod PlanWaves
+pub mod TurnedOver
 pub mod PlanRows

@@ -1,7 +1,7 @@
 -- A plan's wave as stretches: each row's lead, and then the row's cells from high.
 use mathlib.Core.Path.{_≡_, refl, subst, _∙_}
 use mathlib.Core.List.{List, [], _∷_, _++_, append-nil}
-use Prim.Native.Nat.{ℕ, suc, _+_, _*_}
+use Prim.Native.Nat.{ℕ, _+_, _*_}
 use native.Mathlib.Nat.{zero-add}
 use native.Mathlib.Omega.{arith}
 use lib.ListN.{length, getD, replicate, length-append, length-replicate}
@@ -22,13 +22,13 @@ abbrev pub size : (d : ℕ) → List Row → ℕ
 size d [] = 0
 size d (row ∷ rows) = row .lead + length (row .bits) * d + size d rows
 
--- the wave W carries the rows from cycle c on
-abbrev pub CarriesRows : (a b : ℕ) (W : ℕ → ℕ) (c : ℕ) → List Row → Type 0
-CarriesRows a b W c [] = Unit {0}
-CarriesRows a b W c (row ∷ rows) =
-    Stretch W c (row .lead) 1
-    × Carries a b W (c + row .lead) 1 (row .bits)
-    × CarriesRows a b W (c + row .lead + length (row .bits) * (a + b)) rows
+-- the wave W carries the rows from cycle c on, each from the level v, which its lead has too
+abbrev pub CarriesRows : (a b : ℕ) (W : ℕ → ℕ) (v c : ℕ) → List Row → Type 0
+CarriesRows a b W v c [] = Unit {0}
+CarriesRows a b W v c (row ∷ rows) =
+    Stretch W c (row .lead) v
+    × Carries a b W (c + row .lead) v (row .bits)
+    × CarriesRows a b W v (c + row .lead + length (row .bits) * (a + b)) rows
 
 pub length-rows : (a b : ℕ) (rows : List Row) → length (planWave a b rows) ≡ size (a + b) rows
 unfolding planWave
@@ -52,13 +52,6 @@ plan-levels a b (row ∷ rows) =
     most-append 1 (wave a b (row .lead) (row .bits)) (planWave a b rows) (wave-levels a b (row .lead) (row .bits))
     (plan-levels a b rows)
 
--- the code subcell of the last cell
-pub last-code : (a b : ℕ) (W : ℕ → ℕ) (xs : List ℕ) (x c v : ℕ) → Carries a b W c v (x ∷ xs)
-    → (d : ℕ) × (d + b ≡ c + suc (length xs) * (a + b)) × Stretch W d b (final v (x ∷ xs))
-last-code a b W [] x c v h = (c + a, omega arith, h .1)
-last-code a b W (y ∷ ys) x c v h = let (d, e, r) =
-    last-code a b W ys y (c + (a + b)) (codeLevel v x) (h .2) in (d, omega arith, r)
-
 -- no row has no cycles; and a row's parts before the rows after it
 pub plan-none : (a b : ℕ) → planWave a b [] ≡ []
 unfolding planWave
@@ -70,7 +63,7 @@ unfolding planWave
 plan-parts a b row rows = wave-followed a b (row .lead) (row .bits) (planWave a b rows)
 
 module _ (a b : ℕ) (W : ℕ → ℕ) where
-  carries-from : (rows : List Row) (c : ℕ) → Stands W c (planWave a b rows) → CarriesRows a b W c rows
+  carries-from : (rows : List Row) (c : ℕ) → Stands W c (planWave a b rows) → CarriesRows a b W 1 c rows
   carries-from [] c h = tt
   carries-from (row ∷ rows) c h = (
     stands-stretch W c p 1 (stands-left W c (replicate p 1) (C ++ rest) whole),
@@ -110,7 +103,7 @@ module _ (a b after : ℕ) (rows : List Row) where
   whole i p = rw zero-add
 
   -- it carries its rows
-  pub plan-carries : CarriesRows a b W 0 rows
+  pub plan-carries : CarriesRows a b W 1 0 rows
   plan-carries = carries-from a b W rows 0 (stands-left W 0 (planWave a b rows) (pad after) whole)
 
   -- and is high after them

@@ -2,3 +2,4 @@ pub mod Across
 pub mod Levels
 pub mod Recovered
 pub mod Brought
+pub mod CallAfterCall

@@ -5,7 +5,7 @@ use mathlib.Core.Bool.{true}
 use Prim.Native.Nat.{_≤_}
 use lib.Dec.{leb}
 use borrow.Author.Tests.{le-leb, leb-true}
-use Rattle.measure.proofs.Both.{both}
+use Rattle.measure.proofs.Both.{both-3}
 use Rattle.board.specs.declared.Mode.{Mode}
 use Rattle.board.specs.declared.Mode.the-variants.{Hunting, Ready, Counting, Waiting}
 use Rattle.board.specs.declared.Receiver.{Receiver}
@@ -27,9 +27,15 @@ pub receiver-recovered : (x : Receiver) → receiverLent (named (numbersOf x)) (
 unfolding receiverLent
 receiver-recovered x = rw (mode-recovered (x .mode))
 
-pub its-numbers-fit : (x : Receiver) → x .level ≤ 255 → numbersFit (named (numbersOf x)) ≡ true
-its-numbers-fit x byte = simp (mode-named (x .mode), le-leb (x .level) 255 byte)
+pub its-numbers-fit : (x : Receiver) → x .runlevel ≤ 255 → x .level ≤ 255 → numbersFit (named (numbersOf x)) ≡ true
+its-numbers-fit x run byte =
+    simp (mode-named (x .mode), le-leb (x .runlevel) 255 run, le-leb (x .level) 255 byte)
 
--- numbers that make a receiver keep a byte for its level
+-- numbers that make a receiver keep a byte for each level
+pub run-level-byte : (x : Named) → numbersFit x ≡ true → x .runlevel ≤ 255
+run-level-byte x fit =
+    leb-true (x .runlevel) 255 (both-3 (leb (x .mode) 3) (leb (x .runlevel) 255) (leb (x .level) 255) fit .1)
+
 pub level-byte : (x : Named) → numbersFit x ≡ true → x .level ≤ 255
-level-byte x fit = leb-true (x .level) 255 (both (leb (x .mode) 3) (leb (x .level) 255) fit .1)
+level-byte x fit =
+    leb-true (x .level) 255 (both-3 (leb (x .mode) 3) (leb (x .runlevel) 255) (leb (x .level) 255) fit .2)

@@ -32,6 +32,7 @@ pub record Named : Type 0 where
   pub Q : ℕ
   pub mode : ℕ
   pub run : ℕ
+  pub runlevel : ℕ
   pub left : ℕ
   pub level : ℕ
   pub found : ℕ
@@ -45,9 +46,10 @@ named numbers =
       Q = getD numbers 2 0;
       mode = getD numbers 3 0;
       run = getD numbers 4 0;
-      left = getD numbers 5 0;
-      level = getD numbers 6 0;
-      found = getD numbers 7 0;
+      runlevel = getD numbers 5 0;
+      left = getD numbers 6 0;
+      level = getD numbers 7 0;
+      found = getD numbers 8 0;
     }
 
 -- H7: the numbers that a receiver crosses as, in that order
@@ -58,15 +60,16 @@ numbersOf x =
     ∷ x .q .0
     ∷ modeNumber (x .mode)
     ∷ x .run .0
+    ∷ x .runlevel
     ∷ x .left .0
     ∷ x .level
     ∷ x .found
     ∷ []
 
--- H8: Numbers make a receiver where the mode's is that of a mode and the level is a byte. Other numbers are a state
+-- H8: Numbers make a receiver where the mode's is that of a mode and both levels are bytes. Other numbers are a state
 -- that is not well formed.
 abbrev pub numbersFit : Named → Bool
-numbersFit x = leb (x .mode) 3 && leb (x .level) 255
+numbersFit x = leb (x .mode) 3 && leb (x .runlevel) 255 && leb (x .level) 255
 
 -- H7: the receiver that numbers and bytes make
 unfoldable pub receiverLent : Named → (bytes : List ℕ) → Receiver
@@ -77,6 +80,7 @@ receiverLent x bytes =
       q = record { 0 = x .Q };
       mode = modeOf (x .mode);
       run = record { 0 = x .run };
+      runlevel = x .runlevel;
       left = record { 0 = x .left };
       level = x .level;
       found = x .found;
@@ -118,6 +122,17 @@ answered lent next bits (refusedAfter number place count) =
 -- H9
 abbrev pub brought : Lent → Outcome → Reply × Lent
 brought lent outcome = answered lent (outcome .receiver) (outcome .row) (outcome .answer)
+
+-- H9: what crosses of an answer, and the numbers afterwards, where the bits and the row's bytes are in place
+abbrev pub handed : (numbers : List ℕ) → Receiver → Answer Event → Reply × List ℕ
+handed numbers next (given nothing) = (record { number = 0; place = 0; event = 0; found = 0 }, numbersOf next)
+handed numbers next (given (row delivered)) = (record { number = 0; place = 0; event = 1; found = 0 }, numbersOf next)
+handed numbers next (given (broken found)) =
+    (record { number = 0; place = 0; event = 2; found = found }, numbersOf next)
+handed numbers next (refused number place) =
+    (record { number = number; place = place; event = 0; found = 0 }, numbers)
+handed numbers next (refusedAfter number place count) =
+    (record { number = number; place = place; event = 0; found = 0 }, numbers)
 
 -- H8: refusal 1 of numbers that make no receiver
 abbrev pub noReceiver : Reply

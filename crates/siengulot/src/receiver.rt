@@ -1,13 +1,17 @@
 // The row receiver: starting, one read, and reads up to the first event, on a receiver that C lends.
 ghost use mathlib.Core.Path.{_≡_};
+ghost use mathlib.Core.List.{List};
+ghost use Prim.Native.Nat.{ℕ};
+ghost use Rattle.board.specs.Packed.{whole};
 ghost use Rattle.board.specs.Answers.{begun, eventSays};
-ghost use Rattle.siengulot.specs.Receivers.{answered, noReceiver, steppedLent, listenedLent, wellFormedLent};
+ghost use Rattle.siengulot.specs.Receivers.{handed, noReceiver, steppedLent, listenedLent, wellFormedLent};
 ghost use Rattle.siengulot.specs.Receivers.{begunLent};
 use crate::answers::flag;
 use crate::state::NUMBERS;
+use crate::state::bare_lent;
 use crate::state::numbers_fit;
 use crate::state::put_back;
-use crate::state::receiver_lent;
+use board::Bare;
 use board::Event;
 use board::Receiver;
 use board::Start;
@@ -21,43 +25,38 @@ const ROW: usize = 1;
 
 const BROKEN: usize = 2;
 
-// Hands over what reads brought: the next receiver, the event, and a row's bits where one is delivered. A refusal
-// leaves the receiver and the row's bytes as they are lent.
+// Hands over what reads brought, where bits and row are in place already: the next numbers and the event. A refusal
+// leaves the numbers as they are lent.
 fn hand_over(
-    next: Receiver,
+    next: Bare,
     came: Event,
-    bits: [u8; 128],
     numbers: &mut [usize; NUMBERS],
-    bytes: &mut [u8; 128],
-    row: &mut [u8; 128],
     event: &mut usize,
     found: &mut usize,
     place: &mut usize,
 ) -> usize
-    ensures { λ x. ⌜ answered
-        (record { numbers = now (numbers .entry); bytes = now (bytes .entry); row = now (row .entry) }) next bits
-        (eventSays (next .n) bits came)
+    ensures { λ x. ⌜ ((bits row : List ℕ)
+        → handed (now (numbers .entry)) (whole next bits) (eventSays (next .n) row came)
         ≡ (
           record { number = x; place = now (place .exit); event = now (event .exit); found = now (found .exit) },
-          record { numbers = now (numbers .exit); bytes = now (bytes .exit); row = now (row .exit) },
-        ) ⌝ }
+          now (numbers .exit),
+        )) ⌝ }
 {
     *event = NOTHING;
     *found = 0;
     *place = 0;
     match came {
         Event::Nothing => {
-            put_back(next, numbers, bytes);
+            put_back(next, numbers);
             0
         }
         Event::Row => {
-            put_back(next, numbers, bytes);
-            *row = bits;
+            put_back(next, numbers);
             *event = ROW;
             0
         }
         Event::Broken(dropped) => {
-            put_back(next, numbers, bytes);
+            put_back(next, numbers);
             *event = BROKEN;
             *found = dropped;
             0
@@ -95,7 +94,9 @@ pub extern "C" fn siengulot_fresh(
     let started = Receiver::fresh(ReadCycles(k), n, ReadCycles(q));
     let next = started.receiver;
     let start = started.start;
-    put_back(next, numbers, bytes);
+    put_back(next.bare(), numbers);
+    let bits = next.bits;
+    *bytes = bits;
     match start {
         Start::Fresh => 0,
         Start::Refused(refusal) => measure::number(refusal),
@@ -110,8 +111,8 @@ pub extern "C" fn siengulot_well_formed(numbers: &[usize; NUMBERS], bytes: &[u8;
     if !numbers_fit(numbers) {
         return 0;
     }
-    let receiver = receiver_lent(numbers, bytes);
-    flag(receiver.well_formed())
+    let bare = bare_lent(numbers);
+    flag(bare.well_formed(bytes))
 }
 
 // Gives a receiver one read, and in `event` what it brings: 0 nothing, 1 a row, whose bits stand in `row`, 2 a broken
@@ -138,12 +139,11 @@ pub extern "C" fn siengulot_step(
     if !numbers_fit(numbers) {
         return no_receiver(event, found, place);
     }
-    let receiver = receiver_lent(numbers, bytes);
-    let stepped = receiver.step(read);
-    let next = stepped.receiver;
-    let came = stepped.event;
-    let bits = stepped.row;
-    hand_over(next, came, bits, numbers, bytes, row, event, found, place)
+    let bare = bare_lent(numbers);
+    let told = bare.step(read, bytes, row);
+    let next = told.bare;
+    let came = told.event;
+    hand_over(next, came, numbers, event, found, place)
 }
 
 // Gives a receiver reads up to and with the first that brings an event, or all: `event`, `row` and `found` as above,
@@ -176,11 +176,10 @@ pub extern "C" fn siengulot_listen(
         *used = 0;
         return no_receiver(event, found, place);
     }
-    let receiver = receiver_lent(numbers, bytes);
-    let listened = receiver.listen(reads);
-    *used = listened.used.0;
-    let next = listened.receiver;
-    let came = listened.event;
-    let bits = listened.row;
-    hand_over(next, came, bits, numbers, bytes, row, event, found, place)
+    let bare = bare_lent(numbers);
+    let told = bare.listen(reads, bytes, row);
+    *used = told.used.0;
+    let next = told.bare;
+    let came = told.event;
+    hand_over(next, came, numbers, event, found, place)
 }

@@ -1,9 +1,12 @@
-// A receiver as C lends it: its numbers, each at a place of its own, and the 128 bytes of its bits.
+// A receiver's numbers as C lends them, each at a place of its own. Its bits stay where they are lent.
 ghost use mathlib.Core.Path.{_≡_};
 ghost use mathlib.Core.Bool.{true};
+ghost use mathlib.Core.List.{List};
+ghost use Prim.Native.Nat.{ℕ};
+ghost use Rattle.board.specs.Packed.{whole};
 ghost use Rattle.siengulot.specs.Receivers.{modeNumber, modeOf, named, numbersOf, numbersFit, receiverLent};
+use board::Bare;
 use board::Mode;
-use board::Receiver;
 use measure::ReadCycles;
 
 // Where each number stands: `enum siengulot_number` of the header.
@@ -17,14 +20,16 @@ const MODE: usize = 3;
 
 const RUN: usize = 4;
 
-const LEFT: usize = 5;
+const RUN_LEVEL: usize = 5;
 
-const LEVEL: usize = 6;
+const LEFT: usize = 6;
 
-const FOUND: usize = 7;
+const LEVEL: usize = 7;
+
+const FOUND: usize = 8;
 
 // How many numbers there are.
-pub const NUMBERS: usize = 8;
+pub const NUMBERS: usize = 9;
 
 // The greatest number of a mode, and the greatest byte.
 const MODE_MOST: usize = 3;
@@ -66,42 +71,46 @@ pub fn numbers_fit(numbers: &[usize; NUMBERS]) -> bool
     if MODE_MOST < numbers[MODE] {
         return false;
     }
+    if BYTE_MOST < numbers[RUN_LEVEL] {
+        return false;
+    }
     numbers[LEVEL] <= BYTE_MOST
 }
 
-// Gives the receiver that numbers and bytes make.
-pub fn receiver_lent(numbers: &[usize; NUMBERS], bytes: &[u8; 128]) -> Receiver
+// Gives the receiver that numbers make, without its bits.
+pub fn bare_lent(numbers: &[usize; NUMBERS]) -> Bare
     requires { ⌜ numbersFit (named (now numbers)) ≡ true ⌝ }
-    ensures { λ x. ⌜ receiverLent (named (now (numbers .entry))) (now (bytes .entry)) ≡ x ⌝ }
+    ensures { λ x. ⌜ ((bits : List ℕ) → receiverLent (named (now (numbers .entry))) bits ≡ whole x bits) ⌝ }
 {
     let k = numbers[K];
     let n = numbers[N];
     let q = numbers[Q];
     let mode = mode_of(numbers[MODE]);
     let run = numbers[RUN];
+    let runlevel = numbers[RUN_LEVEL] as u8;
     let left = numbers[LEFT];
     let level = numbers[LEVEL] as u8;
     let found = numbers[FOUND];
-    let bits = *bytes;
-    Receiver {
+    Bare {
         k: ReadCycles(k),
         n: n,
         q: ReadCycles(q),
         mode: mode,
         run: ReadCycles(run),
+        runlevel: runlevel,
         left: ReadCycles(left),
         level: level,
         found: found,
-        bits: bits,
     }
 }
 
-// Puts a receiver back where it is lent: its numbers in their order, and its bytes.
-pub fn put_back(next: Receiver, numbers: &mut [usize; NUMBERS], bytes: &mut [u8; 128])
-    ensures { λ _. ⌜ (numbersOf next ≡ now (numbers .exit)) × (next .bits ≡ now (bytes .exit)) ⌝ }
+// Puts a receiver's numbers back where they are lent, in their order.
+pub fn put_back(next: Bare, numbers: &mut [usize; NUMBERS])
+    ensures { λ _. ⌜ ((bits : List ℕ) → numbersOf (whole next bits) ≡ now (numbers .exit)) ⌝ }
 {
     let held = next.mode;
     let mode = mode_number(held);
+    let runlevel = next.runlevel as usize;
     let level = next.level as usize;
     *numbers = [
         next.k.0,
@@ -109,10 +118,9 @@ pub fn put_back(next: Receiver, numbers: &mut [usize; NUMBERS], bytes: &mut [u8;
         next.q.0,
         mode,
         next.run.0,
+        runlevel,
         next.left.0,
         level,
         next.found,
     ];
-    let bits = next.bits;
-    *bytes = bits;
 }

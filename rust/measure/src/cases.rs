@@ -251,10 +251,13 @@ pub fn all() -> Vec<Case> {
         }),
         case("time code written", "call", "1.2", [1_000, 10_000], time_write),
         case("fresh", "call", "1.5", SIZES, fresh),
-        case("well formed", "call", "1.5", SIZES, well_formed),
-        case("step, rows", "read", "1.5", SIZES, step),
+        case("well formed", "call", "1.2", SIZES, well_formed),
+        case("step, rows", "read", "1.2", SIZES, step),
         case("listen, quiet", "read", "1.0", SIZES, |size| {
             listen(K, N, Q, vec![1; size])
+        }),
+        case("listen, quiet, low", "read", "1.0", SIZES, |size| {
+            listen(K, N, Q, vec![0; size])
         }),
         case("listen, rows", "read", "1.0", SIZES, |size| {
             listen(K, N, Q, inputs::rows(size))
@@ -270,11 +273,11 @@ pub fn all() -> Vec<Case> {
             |size| listen(2, 80, 8, inputs::random(size, 9)),
         ),
         case(
-            "listen, k 1 n 1 Q 2, a row every 4 reads",
+            "listen, k 1 n 1 Q 3, a row every 4 reads",
             "read",
             "–",
             SIZES,
-            |size| listen(1, 1, 2, inputs::repeated(&[1, 1, 0, 0], size)),
+            |size| listen(1, 1, 3, inputs::repeated(&[1, 1, 1, 0], size)),
         ),
         case(
             "listen, k 1 n 1,024 Q 3, a row every 2,051 reads",

@@ -166,14 +166,17 @@ pub struct RowModel {
     k: usize,
     n: usize,
     q: usize,
-    run: usize,
+    /// The level of the latest reads, and how many they are, up to Q.
+    run: (u8, usize),
     doing: Doing,
 }
 
 #[derive(Clone, Debug)]
 enum Doing {
     Hunting,
-    Ready,
+    Ready {
+        level: u8,
+    },
     Counting {
         left: usize,
         mark: u8,
@@ -191,7 +194,7 @@ impl RowModel {
             k,
             n,
             q,
-            run: 0,
+            run: (1, 0),
             doing: Doing::Hunting,
         }
     }
@@ -199,18 +202,20 @@ impl RowModel {
     /// The next model and the event of this read.
     pub fn read(self, read: u8) -> (RowModel, Option<Event>) {
         let RowModel { k, n, q, run, .. } = self;
-        let run = if read == 1 { (run + 1).min(q) } else { 0 };
-        let (doing, event) = if run == q {
+        let before = if read == run.0 { run.1 } else { 0 };
+        let run = (read, (before + 1).min(q));
+        let (doing, event) = if run.1 == q {
+            let ready = Doing::Ready { level: read };
             match self.doing {
-                Doing::Hunting | Doing::Ready => (Doing::Ready, None),
+                Doing::Hunting | Doing::Ready { .. } => (ready, None),
                 Doing::Counting { bits, .. } | Doing::Waiting { bits, .. } => {
-                    (Doing::Ready, Some(Event::Broken(bits.len())))
+                    (ready, Some(Event::Broken(bits.len())))
                 }
             }
         } else {
             match self.doing {
-                Doing::Ready if read == 0 => {
-                    let (left, mark, bits) = (k, 0, Vec::new());
+                Doing::Ready { level } if read != level => {
+                    let (left, mark, bits) = (k, read, Vec::new());
                     (Doing::Counting { left, mark, bits }, None)
                 }
                 Doing::Waiting { level, bits } if read != level => {
@@ -250,7 +255,7 @@ impl RowModel {
     pub fn receiver(&self) -> Receiver {
         let (mode, left, level, bits): (_, _, _, &[u8]) = match &self.doing {
             Doing::Hunting => (Mode::Hunting, 0, 1, &[]),
-            Doing::Ready => (Mode::Ready, 0, 1, &[]),
+            Doing::Ready { level } => (Mode::Ready, 0, *level, &[]),
             Doing::Counting { left, mark, bits } => (Mode::Counting, *left, *mark, bits),
             Doing::Waiting { level, bits } => (Mode::Waiting, 0, *level, bits),
         };
@@ -259,7 +264,8 @@ impl RowModel {
             n: self.n,
             q: self.q,
             mode,
-            run: self.run,
+            run: self.run.1,
+            run_level: self.run.0,
             left,
             level,
             found: bits.len(),

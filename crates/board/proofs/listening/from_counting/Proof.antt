@@ -12,14 +12,14 @@ use Rattle.board.specs.declared.Mode.the-variants.{Counting}
 use Rattle.board.specs.declared.Receiver.{Receiver}
 use Rattle.board.specs.declared.listening.Sought.{Sought}
 use Rattle.board.specs.declared.listening.Sought.the-variants.{Found}
-use Rattle.board.specs.Rows.{Settings, State, waiting, collected, marked}
+use Rattle.board.specs.Rows.{Settings, runOf, State, waiting, collected, marked}
 use Rattle.board.specs.Packed.{kept, stateOf}
 use Rattle.board.specs.Answers.{Outcome}
 use Rattle.board.specs.Listening.{settingsFrom, keeping, Keeps, heardFrom, soughtSays, Lands}
 use Rattle.board.proofs.PackedBits.{Binary}
 use Rattle.board.proofs.RowRules.{Ranged, Fitting, bit-most}
-use Rattle.board.proofs.KeepingLaws.{bitsIn, kept-valid, kept-length, kept-bytes, counting-kept, counting-fits}
-use Rattle.board.proofs.KeepingLaws.{kept-room, kept-more, more-length, more-binary}
+use Rattle.board.proofs.KeepingLaws.{runIn, bitsIn, kept-valid, kept-length, kept-bytes, counting-kept}
+use Rattle.board.proofs.KeepingLaws.{counting-fits, kept-room, kept-more, more-length, more-binary}
 use Rattle.board.proofs.CellLaws.{row-full, row-on, Marked, mark-keeps, mark-heard}
 use Rattle.board.proofs.listening.from_counting.Statement.{statement}
 use Rattle.board.proofs.listening.from_counting.Tie as tie
@@ -55,7 +55,7 @@ abbrev with-bit : tie.At-loop Inv-loop μ-loop → ℕ → List ℕ
 with-bit h read = so-far h ++ bitOf (h .loop .numbers .level) read ∷ []
 
 fits : (h : tie.At-loop Inv-loop μ-loop)
-    → Fitting Counting (g (start h)) (h .loop .numbers .run) (h .loop .numbers .left) (h .loop .numbers .found)
+    → Fitting Counting (g (start h)) (runIn (h .loop .numbers)) (h .loop .numbers .left) (h .loop .numbers .found)
     (h .loop .numbers .level)
 fits h = counting-fits (g (start h)) (h .loop .numbers) (h .loop .bits) (h .loop .inv .2) (h .loop .inv .1)
 
@@ -165,7 +165,7 @@ returns-2 c = λ x.
 -- on to the mark
 
 to-mark-requires : tie.Need-to-mark-requires Inv-loop μ-loop
-to-mark-requires c κs = let p = c .before .before in (landed p .1, landed p .2)
+to-mark-requires c κs = let p = c .before .before in (landed p .1, landed p .3)
 
 abbrev put-of : tie.After-to-mark Inv-loop μ-loop → tie.After-put Inv-loop μ-loop
 put-of c = c .before .before .before
@@ -173,7 +173,7 @@ put-of c = c .before .before .before
 abbrev mark-says : tie.After-put Inv-loop μ-loop → Receiver → Sought → Outcome × ℕ
 mark-says p x sought =
     soughtSays x (g (start (head p)))
-    (λ then level. marked (g (start (head p))) (waiting (read p) (run p) (more p)) then level) (more p)
+    (λ then level. marked (g (start (head p))) (waiting (read p) (runOf (run p) (read p)) (more p)) then level) (more p)
     (now (start (head p) .args .reads)) sought
 
 waited : (c : tie.After-to-mark Inv-loop μ-loop) (x : Receiver)
@@ -214,8 +214,9 @@ at-mark m =
     let p = put-before m in
     record {
       range = range (head p);
-      below = mark-landed m .2;
-      level = mark-landed m .3;
+      some = mark-landed m .2;
+      below = mark-landed m .3;
+      level = mark-landed m .4;
       fewer = omega (arith, fits (head p) .3, m .before .before .before .if1 .left);
       binary = more-bits p;
       size = more-found p;

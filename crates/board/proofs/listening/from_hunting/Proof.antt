@@ -7,7 +7,7 @@ use native.Mathlib.Omega.{arith}
 use denote.Ref.{now}
 use lib.ListN.{length, getD, drop}
 use Rattle.board.specs.declared.Receiver.{Receiver}
-use Rattle.board.specs.Rows.{Settings, hunting}
+use Rattle.board.specs.Rows.{Settings, runOf, hunting}
 use Rattle.board.specs.Packed.{kept}
 use Rattle.board.specs.Listening.{settingsFrom, longer, heardFrom}
 use Rattle.board.proofs.RowRules.{Ranged}
@@ -17,14 +17,14 @@ use Rattle.board.proofs.listening.from_hunting.Statement.{statement}
 use Rattle.board.proofs.listening.from_hunting.Tie as tie
 
 abbrev Inv-loop : tie.InvT-loop
-Inv-loop reads bits₀ run k n q i₀ high₀ bits i high =
-    (i ≤ length reads) × (high < q) × (kept [] ≡ bits)
+Inv-loop reads bits₀ run runlevel k n q i₀ equal₀ level₀ bits i equal level =
+    (i ≤ length reads) × (equal < q) × (kept [] ≡ bits)
     × ((x : Receiver)
-    → heardFrom x (settingsFrom k n q) (hunting run) 0 reads
-    ≡ heardFrom x (settingsFrom k n q) (hunting high) i (drop i reads))
+    → heardFrom x (settingsFrom k n q) (hunting (runOf run runlevel)) 0 reads
+    ≡ heardFrom x (settingsFrom k n q) (hunting (runOf equal level)) i (drop i reads))
 
 abbrev μ-loop : tie.MeasureT-loop
-μ-loop reads bits₀ run k n q i₀ high₀ bits i high = length reads - i
+μ-loop reads bits₀ run runlevel k n q i₀ equal₀ level₀ bits i equal level = length reads - i
 
 abbrev g : tie.Start Inv-loop μ-loop → Settings
 g c = settingsFrom (c .args .k) (c .args .n) (c .args .q)
@@ -55,8 +55,12 @@ longer-requires c κs =
 
 from-ready-requires : tie.Need-from-ready-requires Inv-loop μ-loop
 from-ready-requires c κs =
-    let s = c .before .before .before .before .before .before .before .before in
-    (s .pre .0, c .before .before .before .before .before .before .loop .inv .2, omega arith)
+    let s = c .before .before .before .before .before .before .before .before in (
+      s .pre .0,
+      c .before .before .before .before .before .before .loop .inv .2,
+      omega arith,
+      c .before .before .before .if1 .left,
+    )
 
 returns-2 : tie.Need-returns-2 Inv-loop μ-loop
 returns-2 c = λ x.
@@ -66,7 +70,7 @@ returns-2 c = λ x.
     ∙ heard-move x (g s) _ _ (l .i) (now (s .args .reads))
     (c .before .before .before .before .before .before .loop-test .taken)
     (c .before .before .before .before .if1 .left)
-    (next-quiet (g s) (hunting (l .high)) _ (l .inv .1)
+    (next-quiet (g s) (hunting (runOf (l .equal) (l .level))) _ (l .inv .1)
     (c .before .before .before .longer .ensures ∙ c .before .before .if2 .taken))
     ∙ c .from-ready .ensures x
 
@@ -79,15 +83,15 @@ loop-again c =
     let l = c .before .before .before .before .before .loop in
     let read = getD (now (s .args .reads)) (l .i) 0 in
     let e = c .before .longer .ensures in
-    let on : longer (l .high) read ≡ s .args .q → ⊥ = λ d. c .if2 .left (sym e ∙ d) in
+    let on : longer (l .equal) (l .level) read ≡ s .args .q → ⊥ = λ d. c .if2 .left (sym e ∙ d) in
     rw (← e) (
       omega arith,
-      omega (arith, longer-most (s .args .q) (l .high) read (l .inv .1), on),
+      omega (arith, longer-most (s .args .q) (runOf (l .equal) (l .level)) read (l .inv .1), on),
       l .inv .2,
       λ x. l .inv .3 x
           ∙ heard-move x (g s) _ _ (l .i) (now (s .args .reads)) (c .before .before .before .before .loop-test .taken)
           (c .before .before .if1 .left)
-          (next-on (g s) (hunting (l .high)) read (l .inv .1) on),
+          (next-on (g s) (hunting (runOf (l .equal) (l .level))) read (l .inv .1) on),
     )
 
 returns-3 : tie.Need-returns-3 Inv-loop μ-loop

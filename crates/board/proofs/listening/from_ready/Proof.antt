@@ -1,6 +1,6 @@
--- `from_ready` meets its contract: a high read leaves ready as it is, and a low one is the mark from which counting
--- goes on.
-use Prim.Native.Nat.{_-_, _≤_}
+-- `from_ready` meets its contract: a read of the quiet's level leaves ready as it is, and another is the mark, from
+-- which counting goes on.
+use Prim.Native.Nat.{ℕ, _-_, _≤_}
 use mathlib.Core.Path.{_≡_, refl, _∙_}
 use mathlib.Core.List.{[]}
 use native.Mathlib.Omega.{arith}
@@ -13,20 +13,20 @@ use Rattle.board.specs.Listening.{settingsFrom, heardFrom}
 use Rattle.board.proofs.PackedBits.{binary-none}
 use Rattle.board.proofs.RowRules.{Ranged}
 use Rattle.board.proofs.Standing.{ranged-of}
-use Rattle.board.proofs.ListeningLaws.{heard-end, heard-bad, heard-move, ready-high, ready-low}
+use Rattle.board.proofs.ListeningLaws.{heard-end, heard-bad, heard-move, ready-on, ready-mark}
 use Rattle.board.proofs.CellLaws.{Marked, mark-keeps, mark-heard}
 use Rattle.board.proofs.listening.from_ready.Statement.{statement}
 use Rattle.board.proofs.listening.from_ready.Tie as tie
 
 abbrev Inv-loop : tie.InvT-loop
-Inv-loop reads from bits₀ k n q i₀ bits i =
+Inv-loop reads from bits₀ quiet k n q i₀ bits i =
     (i ≤ length reads) × (kept [] ≡ bits)
     × ((x : Receiver)
-    → heardFrom x (settingsFrom k n q) (ready q) from (drop from reads)
-    ≡ heardFrom x (settingsFrom k n q) (ready q) i (drop i reads))
+    → heardFrom x (settingsFrom k n q) (ready q quiet) from (drop from reads)
+    ≡ heardFrom x (settingsFrom k n q) (ready q quiet) i (drop i reads))
 
 abbrev μ-loop : tie.MeasureT-loop
-μ-loop reads from bits₀ k n q i₀ bits i = length reads - i
+μ-loop reads from bits₀ quiet k n q i₀ bits i = length reads - i
 
 abbrev g : tie.Start Inv-loop μ-loop → Settings
 g c = settingsFrom (c .args .k) (c .args .n) (c .args .q)
@@ -34,13 +34,15 @@ g c = settingsFrom (c .args .k) (c .args .n) (c .args .q)
 range : (c : tie.Start Inv-loop μ-loop) → Ranged (g c)
 range c = ranged-of (g c) (c .pre .0)
 
-mark : (c : tie.At-loop Inv-loop μ-loop) → Marked (g (c .before .before)) 0 0 0 [] (c .loop .bits)
-mark c =
+mark : (c : tie.At-loop Inv-loop μ-loop) (read : ℕ) → read ≤ 1
+    → Marked (g (c .before .before)) 1 read 0 [] (c .loop .bits)
+mark c read level =
     let r = range (c .before .before) in
     record {
       range = r;
+      some = omega arith;
       below = omega (arith, r .Q-least);
-      level = omega arith;
+      level = level;
       fewer = omega (arith, r .n-least);
       binary = binary-none;
       size = refl;
@@ -55,41 +57,47 @@ shared-slice-read-read c = omega arith
 
 returns : tie.Need-returns Inv-loop μ-loop
 returns c = λ x.
-    let s = c .before .before .before .before .before in
-    let l = c .before .before .before .loop in
+    let s = c .before .before .before .before .before .before in
+    let l = c .before .before .before .before .loop in
     l .inv .2 x
-    ∙ heard-bad x (g s) _ (l .i) (now (s .args .reads)) (c .before .before .loop-test .taken) (c .if1 .taken)
+    ∙ heard-bad x (g s) _ (l .i) (now (s .args .reads)) (c .before .before .before .loop-test .taken) (c .if2 .taken)
 
-add-i : tie.Need-add-i Inv-loop μ-loop
-add-i c = omega arith
+add-from-counting : tie.Need-add-from-counting Inv-loop μ-loop
+add-from-counting c = omega arith
 
 from-counting-requires : tie.Need-from-counting-requires Inv-loop μ-loop
-from-counting-requires c κs = (mark-keeps (mark (c .before .before .before .before .before)), (refl, omega arith))
+from-counting-requires c κs =
+    let l = c .before .before .before .before .before in
+    (mark-keeps (mark l _ (c .before .if2 .left)), (refl, omega arith))
 
 returns-2 : tie.Need-returns-2 Inv-loop μ-loop
 returns-2 c = λ x.
     let s = c .before .before .before .before .before .before .before .before in
     let l = c .before .before .before .before .before .before in
+    let level = c .before .before .if2 .left in
     l .loop .inv .2 x
     ∙ heard-move x (g s) _ _ (l .loop .i) (now (s .args .reads))
-    (c .before .before .before .before .before .loop-test .taken) (c .before .before .before .if1 .left)
-    (ready-low (g s) _ (omega (arith, range s .Q-least)) (c .before .before .if2 .taken))
-    ∙ mark-heard (mark l) x _ _
+    (c .before .before .before .before .before .loop-test .taken) level
+    (ready-mark (g s) (s .args .quiet) _ (range s .Q-least) (c .before .before .before .if1 .taken))
+    ∙ mark-heard (mark l _ level) x _ _
     ∙ c .from-counting .ensures x
+
+add-i : tie.Need-add-i Inv-loop μ-loop
+add-i c = omega arith
 
 loop-less : tie.Need-loop-less Inv-loop μ-loop
 loop-less c = omega arith
 
 loop-again : tie.Need-loop-again Inv-loop μ-loop
 loop-again c =
-    let s = c .before .before .before .before .before .before in
-    let l = c .before .before .before .before .loop in (
+    let s = c .before .before .before .before .before in
+    let l = c .before .before .before .loop in (
       omega arith,
       l .inv .1,
       λ x. l .inv .2 x
-          ∙ heard-move x (g s) _ _ (l .i) (now (s .args .reads)) (c .before .before .before .loop-test .taken)
-          (c .before .if1 .left)
-          (ready-high (g s) _ (omega (arith, c .before .if1 .left, c .if2 .left))),
+          ∙ heard-move x (g s) _ _ (l .i) (now (s .args .reads)) (c .before .before .loop-test .taken)
+          (omega (arith, c .if1 .left, s .pre .3))
+          (ready-on (g s) (s .args .quiet) _ (c .if1 .left)),
     )
 
 returns-3 : tie.Need-returns-3 Inv-loop μ-loop
@@ -107,9 +115,10 @@ from-ready-spec =
     loop-holds
     shared-slice-read-read
     returns
-    add-i
+    add-from-counting
     from-counting-requires
     returns-2
+    add-i
     loop-less
     loop-again
     returns-3)

@@ -15,7 +15,8 @@ use Rattle.board.specs.Packed.{stateOf}
 use Rattle.board.specs.Answers.{Outcome}
 use Rattle.board.specs.Listening.{settingsFrom, keeping, heardFrom, soughtSays, Lands}
 use Rattle.board.proofs.RowRules.{Ranged, Fitting}
-use Rattle.board.proofs.KeepingLaws.{bitsIn, kept-valid, kept-length, kept-bytes, waiting-fits, waiting-kept}
+use Rattle.board.proofs.KeepingLaws.{runIn, bitsIn, kept-valid, kept-length, kept-bytes, waiting-fits}
+use Rattle.board.proofs.KeepingLaws.{waiting-kept}
 use Rattle.board.proofs.CellLaws.{Marked, mark-keeps, mark-heard}
 use Rattle.board.proofs.listening.from_waiting.Statement.{statement}
 use Rattle.board.proofs.listening.from_waiting.Tie as tie
@@ -24,7 +25,8 @@ abbrev g : tie.Start → Settings
 g c = settingsFrom (c .args .k) (c .args .n) (c .args .q)
 
 fits : (c : tie.Start)
-    → Fitting Waiting (g c) (c .args .start .run) (c .args .start .left) (c .args .start .found) (c .args .start .level)
+    → Fitting Waiting (g c) (runIn (c .args .start)) (c .args .start .left) (c .args .start .found)
+    (c .args .start .level)
 fits c = waiting-fits (g c) (c .args .start) (now (c .args .bits)) (c .pre .0) (c .pre .1)
 
 range : (c : tie.Start) → Ranged (g c)
@@ -39,7 +41,7 @@ so-far s = bitsIn (s .args .start) (now (s .args .bits))
 abbrev mark-says : tie.Start → Receiver → Sought → Outcome × ℕ
 mark-says s x sought =
     soughtSays x (g s)
-    (λ run read. marked (g s) (waiting (s .args .start .level) (s .args .start .run) (so-far s)) run read)
+    (λ run read. marked (g s) (waiting (s .args .start .level) (runIn (s .args .start)) (so-far s)) run read)
     (so-far s) (now (s .args .reads)) sought
 
 waited : (c : tie.After-to-mark) (x : Receiver)
@@ -73,8 +75,9 @@ at-mark m =
     let b = now (s .args .bits) in
     record {
       range = range s;
-      below = landed m .2;
-      level = landed m .3;
+      some = landed m .2;
+      below = landed m .3;
+      level = landed m .4;
       fewer = fits s .2;
       binary = kept-valid (g s) n b (s .pre .0) .binary;
       size = kept-length (g s) n b (s .pre .0);

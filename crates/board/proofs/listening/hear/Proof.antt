@@ -8,7 +8,7 @@ use Rattle.measure.specs.Ranges.{rowSettingsFit}
 use Rattle.board.specs.Rows.{Settings, State}
 use Rattle.board.specs.Listening.{settingsFrom, heardFrom}
 use Rattle.board.proofs.Standing.{of-ranged}
-use Rattle.board.proofs.KeepingLaws.{kept-valid, hunting-kept, ready-kept}
+use Rattle.board.proofs.KeepingLaws.{kept-valid, kept-level, hunting-kept, ready-kept}
 use Rattle.board.proofs.listening.hear.Statement.{statement}
 use Rattle.board.proofs.listening.hear.Tie as tie
 
@@ -34,7 +34,7 @@ from-ready-requires : tie.Need-from-ready-requires
 from-ready-requires c κs =
     let s = c .before .before .before .before in
     let h = ready-kept (g s) (s .args .start) (now (s .args .bits)) (s .pre) (c .before .enum-told2 .given .1) in
-    (range s, h .1, omega arith)
+    (range s, h .1, omega arith, kept-level (g s) (s .args .start) (now (s .args .bits)) (s .pre))
 
 enum-told-3 : tie.Need-enum-told-3
 enum-told-3 c = search needs

@@ -3,7 +3,7 @@ use Prim.Native.Nat.{_-_}
 use mathlib.Core.Path.{refl}
 use native.Mathlib.Omega.{arith}
 use lib.ListN.{length}
-use Rattle.board.specs.Rows.{waiting}
+use Rattle.board.specs.Rows.{runOf, waiting}
 use Rattle.board.specs.Listening.{settingsFrom}
 use Rattle.board.proofs.ListeningLaws.{next-quiet, waiting-on, waiting-mark}
 use Rattle.board.proofs.SearchLaws.{Searched, search-starts, search-ends, search-bad, search-quiet, search-finds}
@@ -12,11 +12,12 @@ use Rattle.board.proofs.listening.to_mark.Statement.{statement}
 use Rattle.board.proofs.listening.to_mark.Tie as tie
 
 abbrev Inv-loop : tie.InvT-loop
-Inv-loop reads from q level found run₀ i₀ run i =
-    Searched q from reads (λ bits. waiting level run₀ bits) i run (λ bits. waiting level run bits)
+Inv-loop reads from q level found run₀ runlevel₀ i₀ run runlevel i =
+    Searched q from reads (λ bits. waiting level (runOf run₀ runlevel₀) bits) i (runOf run runlevel)
+    (λ bits. waiting level (runOf run runlevel) bits)
 
 abbrev μ-loop : tie.MeasureT-loop
-μ-loop reads from q level found run₀ i₀ run i = length reads - i
+μ-loop reads from q level found run₀ runlevel₀ i₀ run runlevel i = length reads - i
 
 loop-holds : tie.Need-loop-holds Inv-loop μ-loop
 loop-holds c = search-starts (omega arith) (omega arith)

@@ -3,7 +3,7 @@ use Prim.Native.Nat.{_-_, _≤_}
 use mathlib.Core.Path.{refl}
 use native.Mathlib.Omega.{arith}
 use lib.ListN.{length}
-use Rattle.board.specs.Rows.{counting}
+use Rattle.board.specs.Rows.{runOf, counting}
 use Rattle.board.specs.Listening.{settingsFrom}
 use Rattle.board.proofs.ListeningLaws.{next-quiet, counting-on, counting-sample}
 use Rattle.board.proofs.SearchLaws.{Searched, search-starts, search-ends, search-bad, search-quiet, search-finds}
@@ -12,12 +12,13 @@ use Rattle.board.proofs.listening.to_sample.Statement.{statement}
 use Rattle.board.proofs.listening.to_sample.Tie as tie
 
 abbrev Inv-loop : tie.InvT-loop
-Inv-loop reads from q level found run₀ left₀ i₀ run left i =
+Inv-loop reads from q level found run₀ runlevel₀ left₀ i₀ run runlevel left i =
     (1 ≤ left)
-    × Searched q from reads (λ bits. counting left₀ level run₀ bits) i run (λ bits. counting left level run bits)
+    × Searched q from reads (λ bits. counting left₀ level (runOf run₀ runlevel₀) bits) i (runOf run runlevel)
+    (λ bits. counting left level (runOf run runlevel) bits)
 
 abbrev μ-loop : tie.MeasureT-loop
-μ-loop reads from q level found run₀ left₀ i₀ run left i = length reads - i
+μ-loop reads from q level found run₀ runlevel₀ left₀ i₀ run runlevel left i = length reads - i
 
 loop-holds : tie.Need-loop-holds Inv-loop μ-loop
 loop-holds c = (omega arith, search-starts (omega arith) (omega arith))
@@ -49,7 +50,7 @@ returns-3 c =
     search-finds (c .before .before .before .before .before .before .loop .inv .1)
     (c .before .before .before .before .before .loop-test .taken) (c .before .before .before .if1 .left)
     (c .before .before .longer .ensures) (c .before .if2 .left)
-    (λ below short k n bits. counting-sample (settingsFrom k n _) _ _ _ bits _ below short (c .if3 .taken))
+    (λ below short k n bits. counting-sample (settingsFrom k n _) _ _ bits _ below _ short (c .if3 .taken))
 
 loop-less : tie.Need-loop-less Inv-loop μ-loop
 loop-less c = omega arith
@@ -62,7 +63,7 @@ loop-again c =
       search-goes-on (l .inv .1) (c .before .before .before .before .before .loop-test .taken)
           (c .before .before .before .if1 .left) (c .before .before .longer .ensures)
           (λ run bits. counting (l .left - 1) (start .level) run bits) (c .before .if2 .left)
-          (λ below short k n bits. counting-on (settingsFrom k n _) _ _ _ bits _ below short (c .if3 .left)),
+          (λ below short k n bits. counting-on (settingsFrom k n _) _ _ bits _ below _ short (c .if3 .left)),
     )
 
 returns-4 : tie.Need-returns-4 Inv-loop μ-loop

@@ -32,16 +32,16 @@ number-requires : tie.Need-number-requires
 number-requires c κs = search needs
 
 returns : tie.Need-returns
-returns c = rw (c .before .before .before .enum-told .given .1, c .put-back .ensures .0, c .put-back .ensures .1)
+returns c = λ bits row. rw (c .before .before .enum-told .given .1, c .put-back .ensures bits)
 
 returns-2 : tie.Need-returns-2
-returns-2 c = rw (c .before .before .before .enum-told2 .given .1, c .put-back2 .ensures .0, c .put-back2 .ensures .1)
+returns-2 c = λ bits row. rw (c .before .before .enum-told2 .given .1, c .put-back2 .ensures bits)
 
 returns-3 : tie.Need-returns-3
-returns-3 c = rw (c .before .before .before .before .came .given .1, c .put-back3 .ensures .0, c .put-back3 .ensures .1)
+returns-3 c = λ bits row. rw (c .before .before .before .came .given .1, c .put-back3 .ensures bits)
 
 returns-4 : tie.Need-returns-4
-returns-4 c = rw (c .before .before .before .came2 .given .1, c .number .ensures, c .before .place .ensures)
+returns-4 c = λ bits row. rw (c .before .before .before .came2 .given .1, c .number .ensures, c .before .place .ensures)
 
 pub hand-over-spec : {M : Type 1} → statement M
 hand-over-spec =

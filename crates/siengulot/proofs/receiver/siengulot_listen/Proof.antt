@@ -16,8 +16,8 @@ returns : tie.Need-returns
 returns c = let tested = c .before .before .before .before in
     listen-refused _ (failed (tested .before .numbers-fit .ensures) (tested .if1 .taken)) _ (c .no-receiver .ensures)
 
-receiver-lent-requires : tie.Need-receiver-lent-requires
-receiver-lent-requires c κs = passed (c .before .before .before .numbers-fit .ensures) (c .before .before .if1 .left)
+bare-lent-requires : tie.Need-bare-lent-requires
+bare-lent-requires c κs = passed (c .before .before .numbers-fit .ensures) (c .before .if1 .left)
 
 listen-requires : tie.Need-listen-requires
 listen-requires c κs = search needs
@@ -27,10 +27,12 @@ hand-over-requires c κs = search needs
 
 returns-2 : tie.Need-returns-2
 returns-2 c =
-    let heard = c .before .before .before .before .before .before .before .before .before in
-    let tested = heard .before .before .before .before in
-    listen-brought _ (passed (tested .before .numbers-fit .ensures) (tested .if1 .left))
-    (heard .before .receiver-lent .ensures) _ (heard .listen .ensures) (c .hand-over .ensures)
+    let heard = c .before .before .before .before .before .before in
+    let lent = heard .before .before .before in
+    let tested = lent .before .before in
+    listen-brought _ (lent .bare-lent .result) (heard .listen .result)
+    (passed (tested .before .numbers-fit .ensures) (tested .if1 .left)) (lent .bare-lent .ensures)
+    (c .hand-over .ensures) _ (heard .listen .ensures)
 
 pub siengulot-listen-spec : {M : Type 1} → statement M
 siengulot-listen-spec =
@@ -39,7 +41,7 @@ siengulot-listen-spec =
     numbers-fit-requires
     no-receiver-requires
     returns
-    receiver-lent-requires
+    bare-lent-requires
     listen-requires
     hand-over-requires
     returns-2)

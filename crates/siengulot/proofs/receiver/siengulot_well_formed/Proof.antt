@@ -11,8 +11,8 @@ numbers-fit-requires c κs = search needs
 returns : tie.Need-returns
 returns c = ill-formed _ _ (failed (c .before .numbers-fit .ensures) (c .if1 .taken))
 
-receiver-lent-requires : tie.Need-receiver-lent-requires
-receiver-lent-requires c κs = passed (c .before .numbers-fit .ensures) (c .if1 .left)
+bare-lent-requires : tie.Need-bare-lent-requires
+bare-lent-requires c κs = passed (c .before .numbers-fit .ensures) (c .if1 .left)
 
 well-formed-requires : tie.Need-well-formed-requires
 well-formed-requires c κs = search needs
@@ -24,7 +24,7 @@ returns-2 : tie.Need-returns-2
 returns-2 c =
     let tested = c .before .before .before in
     well-formed-brought _ _ (passed (tested .before .numbers-fit .ensures) (tested .if1 .left))
-    (c .before .before .receiver-lent .ensures) (c .before .well-formed .ensures) (c .flag .ensures)
+    (c .before .before .bare-lent .ensures _) (c .before .well-formed .ensures) (c .flag .ensures)
 
 pub siengulot-well-formed-spec : {M : Type 1} → statement M
 siengulot-well-formed-spec =
@@ -32,7 +32,7 @@ siengulot-well-formed-spec =
     (tie.spec
     numbers-fit-requires
     returns
-    receiver-lent-requires
+    bare-lent-requires
     well-formed-requires
     flag-requires
     returns-2)
