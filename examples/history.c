@@ -5,7 +5,7 @@
  *     history K N Q [PLACE..] < reads
  *
  * Standard input is that of feed.c: a character for each read, 0 or 1, with line ends and spaces passed over. Each line is that of the rows program,
- * and the last says how many records are in use.
+ * and the last says how many records are in use, and how many of them are broken.
  */
 #include <siengulot.h>
 #include <stdio.h>
@@ -62,7 +62,7 @@ static size_t print_log(const siengulot_bay_log *log)
         putchar('\n');
     }
     if (refusal == SIENGULOT_NO_REFUSAL) {
-        printf("in use %zu\n", count);
+        printf("in use %zu broken %zu\n", count, log->broken_count);
     }
     return refusal;
 }

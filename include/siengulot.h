@@ -7,10 +7,12 @@
  *
  * - It returns the number of its refusal, and 0 where it refuses nothing (enum siengulot_refusal). siengulot_well_formed alone returns a yes or no,
  *   siengulot_row_bit a bit, and siengulot_bay_log_row where a row's bits stand.
- * - Faults are looked for in the order 1, 3, 2, 11, 4 and then 5 or 10, or 1 and then 9 or 12, and the first that is there is returned. A capture has an order of its own, said with
+ * - Faults are looked for in the order 1, 3, 2, 11, 4 and then 5 or 10, or 1 and then 9, or 1, 13 and 12, and the first that is there is returned. A capture has an order of its own, said with
  *   siengulot_capture_check.
  * - Each single number that is lent (k, place, count, dropped, accepted, event, found, used, taken) is written with every answer, a refusal included. `place`
- *   is 0 but for refusals 2, 5, 6, 7, 8, 10 and 11, for a row that siengulot_read_plan refuses with 1, and for siengulot_counted without a refusal.
+ *   is 0 but for refusals 2, 5, 6, 7, 8, 10 and 11, for a row that siengulot_read_plan or a board that the survey refuses with 1, and for
+ *   siengulot_counted without a refusal.
+ *   A log's `broken_count` is part of the log, and a refusal leaves it.
  * - A result stands at the front of its lent output, and the rest of the output is untouched. With every refusal but 5 and 10 the whole output is untouched;
  *   siengulot_fresh alone writes zeros where it refuses.
  * - Levels and bits are bytes, 0 or 1. An unknown level is 2. Only words of half cells have a level in each bit.
@@ -50,6 +52,8 @@ enum {
     SIENGULOT_ROWS_MOST = 1024,       /* rows of a plan */
     SIENGULOT_ENTRIES_MOST = 1048576, /* entries of a wave, of reads, of choices, of lengths, bits of time code */
     SIENGULOT_CAPTURE_MOST = 1048583, /* bytes of a capture */
+    SIENGULOT_BOARDS_MOST = 4096,     /* boards of a region */
+    SIENGULOT_LINES_MOST = 76,        /* bytes of the lines of a survey */
     SIENGULOT_WORDS_MOST = 128,       /* bytes of a message that goes out as words of half cells, and such words */
     SIENGULOT_LOG_RECORDS = 64        /* records of a log */
 };
@@ -61,7 +65,8 @@ enum { SIENGULOT_LOW = 0, SIENGULOT_HIGH = 1, SIENGULOT_UNKNOWN = 2 };
 enum siengulot_refusal {
     SIENGULOT_NO_REFUSAL = 0,
     SIENGULOT_SETTING = 1, /* a setting, a length, a level in force or a time to be written out of range, a least length above its greatest, a plan
-                              whose lists do not fit, a row of a stored plan whose lead becomes too long, a receiver that is not well formed, a bit
+                              whose lists do not fit, a row of a stored plan whose lead becomes too long, a region whose lists do not fit or a board
+                              of it with a setting out of range, a receiver that is not well formed, a bit
                               count above 1,024 or a record's place above 63 */
     SIENGULOT_ENTRY = 2,   /* an entry that is not of the kind taken; `place` is where the first such entry stands */
     SIENGULOT_LIMIT = 3,   /* too long a list, lent or to be given */
@@ -73,7 +78,8 @@ enum siengulot_refusal {
     SIENGULOT_NO_COUNT = 9, /* no sampling count has three margins of zero or more */
     SIENGULOT_BAD_WORD = 10, /* a word of time code with units above 9, or with a time out of range */
     SIENGULOT_NO_EDGE = 11,  /* a cell of words of half cells has no edge at its start; `place` is the first such cell */
-    SIENGULOT_NOT_LATER = 12 /* a read number that is not above those of all records in use */
+    SIENGULOT_NOT_LATER = 12, /* a read number that is not above those of all records in use */
+    SIENGULOT_MISCOUNTED = 13 /* a log's `broken_count` is not the number of its broken records */
 };
 
 /*
@@ -484,6 +490,8 @@ static inline unsigned siengulot_row_bit(const uint8_t row[SIENGULOT_ROW_BYTES],
  * anything else: in memory that is all zeros, as static memory is, no free mark is set, and the log is 64 records in use. Record i has entry i of
  * each list, and of the bits the 128 bytes from 128 * i on. It is free if its free mark is not 0, and in use otherwise; of two records in use the
  * older is the one with the lower read number, or at the lower place where these are equal. What a free record holds besides is not looked at.
+ * Beside the lists stands how many records in use have a broken mark that is not 0. Read it whenever you like, and leave writing it to the functions:
+ * after refusal 13, to siengulot_bay_log_recount.
  * A place is good until the next event is logged, which may overwrite its record, or until it is cleared.
  */
 
@@ -497,36 +505,41 @@ typedef struct siengulot_bay_log {
     size_t counts[SIENGULOT_LOG_RECORDS];        /* how many bits it has, or had when it broke off */
     uint8_t broken_marks[SIENGULOT_LOG_RECORDS]; /* 1 for a broken row, else 0 */
     uint8_t free_marks[SIENGULOT_LOG_RECORDS];   /* 1 for a free record, in which all else is 0, and 0 for one in use */
+    size_t broken_count;                         /* how many records are broken, free ones left out */
 } siengulot_bay_log;
 
 /*
- * The entry points. They take a log as its lists; the inline functions below them take a siengulot_bay_log.
+ * The entry points. They take a log as its lists and its count; the inline functions below them take a siengulot_bay_log.
  */
 
 /*
  * Logs an event: the read number, the bits in `row`, how many bits there are, and in `broken` 0 for a row, or 1 to 255 for a broken one. What stands in
  * the `row` of a broken one makes no difference, but it has to point to 128 bytes all the same, and never into `bits`: copy a row of this log first.
- * Takes the lowest free record, or the oldest where none is free. Gives in `taken` the record's place. No other record is touched.
+ * Takes the lowest free record, or the oldest where none is free. Gives in `taken` the record's place. No other record is touched. `broken_count` goes
+ * down by one where a broken record is overwritten, and up by one for a broken row.
  * Refuses with
  *   1  a count above 1,024, of a broken row too;
+ *   13 a `broken_count` that is not the number of broken records: something else wrote to the log, or a call was cut off by a reset;
  *   12 a read number that is not above those of all records in use. An empty log takes any: where a count of reads starts again, make the log empty, or
  *      count on from its greatest number.
  * Leaves with a refusal the log as it was, and 0 in `taken`.
  */
 size_t siengulot_log_event(uint64_t number, const uint8_t row[SIENGULOT_ROW_BYTES], size_t count, uint8_t broken,
                            uint64_t numbers[SIENGULOT_LOG_RECORDS], uint8_t bits[SIENGULOT_LOG_BYTES], size_t counts[SIENGULOT_LOG_RECORDS],
-                           uint8_t broken_marks[SIENGULOT_LOG_RECORDS], uint8_t free_marks[SIENGULOT_LOG_RECORDS], size_t *taken);
+                           uint8_t broken_marks[SIENGULOT_LOG_RECORDS], uint8_t free_marks[SIENGULOT_LOG_RECORDS], size_t *broken_count,
+                           size_t *taken);
 
 /*
  * Clears the record at a place, which is its place in the log and not where it stands in a listing: it is free then, and all else in it is 0. A free
- * record stays as it is. No other record is touched.
+ * record stays as it is. No other record is touched. `broken_count` goes down by one where the record was broken.
  * Refuses with
- *   1  a place above 63.
+ *   1  a place above 63;
+ *   13 a `broken_count` that is not the number of broken records, also where the record is free.
  * Leaves with a refusal the log as it was.
  */
 size_t siengulot_log_clear(size_t place, uint64_t numbers[SIENGULOT_LOG_RECORDS], uint8_t bits[SIENGULOT_LOG_BYTES],
                            size_t counts[SIENGULOT_LOG_RECORDS], uint8_t broken_marks[SIENGULOT_LOG_RECORDS],
-                           uint8_t free_marks[SIENGULOT_LOG_RECORDS]);
+                           uint8_t free_marks[SIENGULOT_LOG_RECORDS], size_t *broken_count);
 
 /*
  * Lists the records in use, the oldest first. Gives their places at the front of `places`, and in `count` how many they are, which is 64 at most.
@@ -537,7 +550,7 @@ size_t siengulot_log_clear(size_t place, uint64_t numbers[SIENGULOT_LOG_RECORDS]
 size_t siengulot_log_list(const uint64_t numbers[SIENGULOT_LOG_RECORDS], const uint8_t free_marks[SIENGULOT_LOG_RECORDS], size_t *places,
                           size_t places_length, size_t *count);
 
-/* Makes a log empty: every record is free, and all else is 0. To be called before a log is first used. */
+/* Makes a log empty: every record is free, and all else is 0, the count too. To be called before a log is first used. */
 static inline void siengulot_bay_log_empty(siengulot_bay_log *log)
 {
     for (size_t i = 0; i < SIENGULOT_LOG_RECORDS; i++) {
@@ -549,19 +562,30 @@ static inline void siengulot_bay_log_empty(siengulot_bay_log *log)
     for (size_t i = 0; i < SIENGULOT_LOG_BYTES; i++) {
         log->bits[i] = 0;
     }
+    log->broken_count = 0;
+}
+
+/* Counts a log's broken records anew, after refusal 13 or where a log was kept from before there was a count. No record is touched. */
+static inline void siengulot_bay_log_recount(siengulot_bay_log *log)
+{
+    log->broken_count = 0;
+    for (size_t i = 0; i < SIENGULOT_LOG_RECORDS; i++) {
+        log->broken_count += log->free_marks[i] == 0 && log->broken_marks[i] != 0;
+    }
 }
 
 /* Logs a row or a broken row, as siengulot_log_event does. */
 static inline size_t siengulot_bay_log_event(siengulot_bay_log *log, uint64_t number, const uint8_t row[SIENGULOT_ROW_BYTES], size_t count,
                                              uint8_t broken, size_t *taken)
 {
-    return siengulot_log_event(number, row, count, broken, log->numbers, log->bits, log->counts, log->broken_marks, log->free_marks, taken);
+    return siengulot_log_event(number, row, count, broken, log->numbers, log->bits, log->counts, log->broken_marks, log->free_marks, &log->broken_count,
+                               taken);
 }
 
 /* Clears a record, as siengulot_log_clear does. */
 static inline size_t siengulot_bay_log_clear(siengulot_bay_log *log, size_t place)
 {
-    return siengulot_log_clear(place, log->numbers, log->bits, log->counts, log->broken_marks, log->free_marks);
+    return siengulot_log_clear(place, log->numbers, log->bits, log->counts, log->broken_marks, log->free_marks, &log->broken_count);
 }
 
 /* Lists the records in use into 64 places, as siengulot_log_list does. With this room it refuses nothing. */
@@ -624,6 +648,44 @@ size_t siengulot_capture_read(const uint8_t *bytes, size_t bytes_length, uint8_t
  */
 size_t siengulot_capture_write(size_t k, size_t n, size_t q, const uint8_t *reads, size_t reads_length, uint8_t *out, size_t out_length,
                                size_t *place, size_t *count);
+
+/*
+ * The survey of a region
+ *
+ * A region is any number of boards, or none, each with settings of its own. They come as six lists, of a, b, g, k, w and r, and entry i of each is
+ * that of board i.
+ */
+
+/*
+ * The survey, for steady clocks. Gives in `count` how many boards there are, in `accepted` how many of them siengulot_judge accepts, in margins[0] to
+ * margins[2] the smallest M1, M2 and M3 of the region, in time units, and in `places` for each of the three the first board that has it, counted from
+ * 0. With no boards nothing is smallest: `count` is 0, and `margins` and `places` are left as they were.
+ * Refuses with
+ *   1  lists of unequal length, at place 0; and then
+ *   1  a board with a setting out of range, at `place`, the first of all boards, also of more than 4,096;
+ *   3  more than 4,096 boards.
+ * Leaves with a refusal `margins` and `places` as they were, and 0 in `count` and `accepted`.
+ */
+size_t siengulot_survey(const size_t *a, size_t a_length, const size_t *b, size_t b_length, const size_t *g, size_t g_length, const size_t *k,
+                        size_t k_length, const size_t *w, size_t w_length, const size_t *r, size_t r_length, int64_t margins[3],
+                        size_t places[3], size_t *accepted, size_t *place, size_t *count);
+
+/*
+ * The same as text. Gives at the front of `out` four lines, each with a line feed, and in `count` how many bytes they have, SIENGULOT_LINES_MOST at
+ * most:
+ *   accepted N
+ *   M1 V at P
+ *   M2 V at P
+ *   M3 V at P
+ * V is the smallest of the margin, with a minus sign where it is below 0, and P the first board that has it. With no boards N is 0, and V and P are -.
+ * Refuses with
+ *   1, 3  what siengulot_survey refuses; and last
+ *   4  `out` shorter than the lines.
+ * Leaves with a refusal `out` as it was, and 0 in `count`.
+ */
+size_t siengulot_survey_lines(const size_t *a, size_t a_length, const size_t *b, size_t b_length, const size_t *g, size_t g_length, const size_t *k,
+                              size_t k_length, const size_t *w, size_t w_length, const size_t *r, size_t r_length, uint8_t *out, size_t out_length,
+                              size_t *place, size_t *count);
 
 #ifdef __cplusplus
 }

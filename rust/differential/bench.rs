@@ -10,7 +10,7 @@ use siengulot_plain::capture::{self, Reader, Summary};
 use siengulot_plain::log::{self, Event as Shown, Log};
 use siengulot_plain::settings::RECORDS;
 use siengulot_plain::settings::{self, Verdict};
-use siengulot_plain::{counted, halfcells, line, sender, stored, timecode, Refusal};
+use siengulot_plain::{counted, halfcells, line, sender, stored, survey, timecode, Refusal};
 use std::collections::BTreeMap;
 
 /// The longest result there is, and some more: a capture's bytes.
@@ -84,6 +84,7 @@ pub struct Lists {
     pub counts: [usize; RECORDS],
     pub broken: [u8; RECORDS],
     pub free: [u8; RECORDS],
+    pub broken_count: usize,
 }
 
 impl Lists {
@@ -94,7 +95,12 @@ impl Lists {
             counts: [0; RECORDS],
             broken: [0; RECORDS],
             free: [1; RECORDS],
+            broken_count: 0,
         }
+    }
+
+    pub fn is_broken(&self, place: usize) -> bool {
+        self.broken[place] != 0 && self.free[place] == 0
     }
 
     /// Does something with the log that the lists are.
@@ -106,6 +112,7 @@ impl Lists {
             counts: &mut self.counts,
             broken: &mut self.broken,
             free: &mut self.free,
+            broken_count: &mut self.broken_count,
         });
         self.numbers = numbers.map(|number| number as usize);
         answer
@@ -119,6 +126,7 @@ struct LogAt {
     counts: Numbers,
     broken: Bytes,
     free: Bytes,
+    broken_count: Numbers,
 }
 
 impl LogAt {
@@ -129,6 +137,7 @@ impl LogAt {
             counts: lent.numbers("counts", RECORDS, rng),
             broken: lent.room("broken", RECORDS, rng),
             free: lent.room("free", RECORDS, rng),
+            broken_count: lent.number("broken count", rng),
         };
         at.write(lent, lists);
         at
@@ -140,6 +149,7 @@ impl LogAt {
         lent.set(self.counts, &lists.counts);
         lent.write(self.broken, &lists.broken);
         lent.write(self.free, &lists.free);
+        lent.set(self.broken_count, &[lists.broken_count]);
     }
 }
 
@@ -217,23 +227,26 @@ pub struct Bench {
     /// How often each operation met each thing that is worth counting.
     pub met: BTreeMap<(&'static str, &'static str), u64>,
     /// The operation that is tried alone, if one is; of the others the plain side answers only.
+    /// Regions have random numbers of their own, so that what the others are tried on stays as it was.
+    regions: Rng,
     only: Option<String>,
-    edges: [Edge; 3],
+    edges: [Edge; 6],
     scratch: Vec<u8>,
 }
 
-const REFUSALS: [&str; 13] = [
-    "0", "1", "2", "3", "4", "5", "6", "7", "8", "9", "10", "11", "12",
+const REFUSALS: [&str; 14] = [
+    "0", "1", "2", "3", "4", "5", "6", "7", "8", "9", "10", "11", "12", "13",
 ];
 
 impl Bench {
     pub fn new(seed: u64, only: Option<String>) -> Bench {
         Bench {
             rng: Rng::new(seed),
+            regions: Rng::new(seed + 1),
             cases: 0,
             met: BTreeMap::new(),
             only,
-            edges: [Edge::new(), Edge::new(), Edge::new()],
+            edges: [0; 6].map(|_| Edge::new()),
             scratch: vec![0; LONGEST],
         }
     }
@@ -618,6 +631,138 @@ impl Bench {
         }
     }
 
+    /// Takes the other random numbers: those for regions, or those for everything else.
+    pub fn turn_to_regions_or_back(&mut self) {
+        std::mem::swap(&mut self.rng, &mut self.regions);
+    }
+
+    /// Lends the lists of a region.
+    fn lend_region(&mut self, lists: [&[usize]; 6]) -> [*const usize; 6] {
+        let mut at = [std::ptr::null(); 6];
+        for ((at, list), edge) in at.iter_mut().zip(lists).zip(&mut self.edges) {
+            *at = edge.lend(list, &mut self.rng);
+        }
+        at
+    }
+
+    pub fn survey(&mut self, region: &[Vec<usize>; 6]) {
+        if !self.tries("survey") {
+            return;
+        }
+        let lists = [0, 1, 2, 3, 4, 5].map(|list| region[list].as_slice());
+        let mut lent = Lent::new();
+        let margins = lent.numbers("margins", 3, &mut self.rng);
+        let places = lent.numbers("places", 3, &mut self.rng);
+        let accepted = lent.number("accepted", &mut self.rng);
+        let place = lent.number("place", &mut self.rng);
+        let count = lent.number("count", &mut self.rng);
+        let mut expected = lent.clone();
+        let answer = survey::survey(lists);
+        let boards = answer.map(|found| found.map_or(0, |_| lists[0].len()));
+        let number = told(&mut expected, place, count, boards);
+        let found = answer.ok().flatten();
+        expected.set(accepted, &[found.map_or(0, |found| found.accepted)]);
+        if let Some(found) = found {
+            expected.set(margins, &found.smallest.map(|(margin, _)| margin as usize));
+            expected.set(places, &found.smallest.map(|(_, place)| place));
+        }
+        let at = self.lend_region(lists);
+        let got = unsafe {
+            siengulot_survey(
+                at[0],
+                lists[0].len(),
+                at[1],
+                lists[1].len(),
+                at[2],
+                lists[2].len(),
+                at[3],
+                lists[3].len(),
+                at[4],
+                lists[4].len(),
+                at[5],
+                lists[5].len(),
+                lent.pointer(margins),
+                lent.pointer(places),
+                lent.pointer(accepted),
+                lent.pointer(place),
+                lent.pointer(count),
+            )
+        };
+        self.compare("survey", (got, &lent), (number, &expected), || {
+            format!("{:?}", lists)
+        });
+        match answer {
+            Ok(None) => self.meets("survey", "no boards"),
+            Err(refusal) if refusal.number == 1 && refusal.place > 0 => {
+                self.meets("survey", "1 at a board")
+            }
+            Err(_) => {}
+            Ok(Some(found)) => {
+                let [(m1, first), ..] = found.smallest;
+                let m1_of = |i: usize| {
+                    let [a, b, g, k, w, r] = lists.map(|list| list[i]);
+                    settings::judge(a, b, g, k, w as u64, r as u64)
+                        .map(|verdict| verdict.margins[0])
+                };
+                if (first + 1..lists[0].len()).any(|i| m1_of(i) == Ok(m1)) {
+                    self.meets("survey", "equals");
+                }
+                if found.smallest.iter().any(|&(margin, _)| margin == 0) {
+                    self.meets("survey", "a margin of 0");
+                }
+                if lists[0].len() == survey::MAX_BOARDS {
+                    self.meets("survey", "4,096 boards");
+                }
+            }
+        }
+    }
+
+    pub fn survey_lines(&mut self, region: &[Vec<usize>; 6], room: Room) {
+        if !self.tries("survey_lines") {
+            return;
+        }
+        let lists = [0, 1, 2, 3, 4, 5].map(|list| region[list].as_slice());
+        let result = survey::survey_lines(lists, &mut self.scratch);
+        let room = room.of(result.unwrap_or(0));
+        let (mut lent, out, [place, count]) = self.lend(room);
+        let mut expected = lent.clone();
+        let answer = survey::survey_lines(lists, expected.part(out));
+        let number = told(&mut expected, place, count, answer);
+        let at = self.lend_region(lists);
+        let got = unsafe {
+            siengulot_survey_lines(
+                at[0],
+                lists[0].len(),
+                at[1],
+                lists[1].len(),
+                at[2],
+                lists[2].len(),
+                at[3],
+                lists[3].len(),
+                at[4],
+                lists[4].len(),
+                at[5],
+                lists[5].len(),
+                lent.bytes_pointer(out),
+                room,
+                lent.pointer(place),
+                lent.pointer(count),
+            )
+        };
+        self.compare("survey_lines", (got, &lent), (number, &expected), || {
+            format!("{:?} room {}", lists, room)
+        });
+        if answer.is_ok() {
+            match survey::survey(lists) {
+                Ok(Some(found)) if found.smallest.iter().any(|&(margin, _)| margin < 0) => {
+                    self.meets("survey_lines", "a margin below 0")
+                }
+                Ok(None) => self.meets("survey_lines", "no boards"),
+                _ => {}
+            }
+        }
+    }
+
     pub fn smooth(&mut self, g: usize, wave: &[u8], room: Room) {
         if !self.tries("smooth") {
             return;
@@ -981,11 +1126,15 @@ impl Bench {
                 lent.pointer(at.counts),
                 lent.bytes_pointer(at.broken),
                 lent.bytes_pointer(at.free),
+                lent.pointer(at.broken_count),
                 lent.pointer(taken),
             )
         };
         self.compare("log_event", (got, &lent), (number, &expected), || {
-            format!("{:?} {:?} {:?}", event, lists.numbers, lists.free)
+            format!(
+                "{:?} {:?} {:?} {:?} {}",
+                event, lists.numbers, lists.broken, lists.free, lists.broken_count
+            )
         });
         if let Ok(place) = answer {
             let later = &lists.numbers[place + 1..];
@@ -1000,11 +1149,17 @@ impl Bench {
             if event.broken != 0 {
                 self.meets("log_event", "a broken row");
             }
+            if lists.is_broken(place) {
+                self.meets("log_event", "a broken row overwritten");
+            }
         }
         let in_use = (0..RECORDS).filter(|&place| lists.free[place] == 0);
         let greatest = in_use.map(|place| lists.numbers[place] as u64).max();
         if number == 12 && greatest == Some(event.number) {
             self.meets("log_event", "12 for an equal number");
+        }
+        if number == 13 && greatest >= Some(event.number) {
+            self.meets("log_event", "13 before 12");
         }
         after
     }
@@ -1029,18 +1184,27 @@ impl Bench {
                 lent.pointer(at.counts),
                 lent.bytes_pointer(at.broken),
                 lent.bytes_pointer(at.free),
+                lent.pointer(at.broken_count),
             )
         };
         self.compare("log_clear", (got, &lent), (number, &expected), || {
-            format!("{} {:?}", place, lists.free)
+            format!(
+                "{} {:?} {:?} {}",
+                place, lists.broken, lists.free, lists.broken_count
+            )
         });
         if answer.is_ok() {
-            let kind = if lists.free[place] == 0 {
+            let kind = if lists.is_broken(place) {
+                "broken"
+            } else if lists.free[place] == 0 {
                 "in use"
             } else {
                 "free"
             };
             self.meets("log_clear", kind);
+        }
+        if number == 13 && lists.free[place] != 0 {
+            self.meets("log_clear", "13 for a free record");
         }
         after
     }

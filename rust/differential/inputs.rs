@@ -5,7 +5,7 @@ use crate::numbers::{at, numbers_of, NUMBERS};
 use siengulot_plain::board::{Mode, Receiver, ROW_BYTES};
 use siengulot_plain::halfcells;
 use siengulot_plain::settings::{
-    MAX_BITS, MAX_CYCLE, MAX_G, MAX_K, MAX_LIST, MAX_PAD, MAX_QUIET, MAX_ROWS, MAX_SUBCELL,
+    judge, MAX_BITS, MAX_CYCLE, MAX_G, MAX_K, MAX_LIST, MAX_PAD, MAX_QUIET, MAX_ROWS, MAX_SUBCELL,
     MAX_WORDS, MIN_QUIET, RECORDS,
 };
 
@@ -99,7 +99,7 @@ impl Rng {
     }
 
     /// A log, such as calls make or not: read numbers that are near one another, some of them equal, and marks of all
-    /// kinds.
+    /// kinds. Now and then its count is not true.
     pub fn log(&mut self) -> Lists {
         let mut lists = Lists::empty();
         let first = self.pick(&[0, 1, 1 << 40, usize::MAX - 500]);
@@ -119,6 +119,17 @@ impl Rng {
             lists.broken[place] = self.mark();
             lists.free[place] = if full { 0 } else { self.mark() };
         }
+        let count = (0..RECORDS)
+            .filter(|&place| lists.is_broken(place))
+            .count();
+        lists.broken_count = match self.below(40) {
+            0 => self.next() as usize,
+            1 => self.below(RECORDS + 2),
+            2 => count.wrapping_sub(1),
+            3 => count + 1,
+            4 => lists.broken.iter().filter(|&&mark| mark != 0).count(),
+            _ => count,
+        };
         lists
     }
 
@@ -487,6 +498,45 @@ impl Rng {
             trails.pop();
         }
         (leads, trails)
+    }
+
+    /// The lists of a region of so many boards, all in range: each board one of a few, so that margins are often equal.
+    pub fn boards(&mut self, count: usize) -> [Vec<usize>; 6] {
+        let few: Vec<[usize; 6]> = (0..1 + self.below(4))
+            .map(|_| loop {
+                let [a, b, g, k, w, r, ..] = self.judged();
+                if judge(a, b, g, k, w as u64, r as u64).is_ok() {
+                    break [a, b, g, k, w, r];
+                }
+            })
+            .collect();
+        let mut lists: [Vec<usize>; 6] = Default::default();
+        for _ in 0..count {
+            let board = self.pick(&few);
+            for (list, setting) in lists.iter_mut().zip(board) {
+                list.push(setting);
+            }
+        }
+        lists
+    }
+
+    /// The lists of a region, now and then with a setting out of range or of unequal length.
+    pub fn region(&mut self) -> [Vec<usize>; 6] {
+        let count = self.pick(&[0, 1, 2, 3, 7, 20]);
+        let mut lists = self.boards(count);
+        if count > 0 && self.one_in(3) {
+            for _ in 0..1 + self.below(2) {
+                let (list, place) = (self.below(6), self.below(count));
+                lists[list][place] = self.pick(&[0, 65, 256, 512, 65_536, usize::MAX]);
+            }
+        }
+        if self.one_in(8) {
+            let list = self.below(6);
+            if lists[list].pop().is_none() || self.one_in(2) {
+                lists[list].extend([1, 1]);
+            }
+        }
+        lists
     }
 
     /// The lists of a plan: leads and bits.

@@ -133,6 +133,7 @@ extern "C" {
         counts: *mut usize,
         broken_marks: *mut u8,
         free_marks: *mut u8,
+        broken_count: *mut usize,
         taken: *mut usize,
     ) -> usize;
 
@@ -143,6 +144,7 @@ extern "C" {
         counts: *mut usize,
         broken_marks: *mut u8,
         free_marks: *mut u8,
+        broken_count: *mut usize,
     ) -> usize;
 
     pub fn siengulot_log_list(
@@ -290,6 +292,45 @@ extern "C" {
         minutes: usize,
         seconds: usize,
         frames: usize,
+        out: *mut u8,
+        out_length: usize,
+        place: *mut usize,
+        count: *mut usize,
+    ) -> usize;
+
+    pub fn siengulot_survey(
+        a: *const usize,
+        a_length: usize,
+        b: *const usize,
+        b_length: usize,
+        g: *const usize,
+        g_length: usize,
+        k: *const usize,
+        k_length: usize,
+        w: *const usize,
+        w_length: usize,
+        r: *const usize,
+        r_length: usize,
+        margins: *mut usize,
+        places: *mut usize,
+        accepted: *mut usize,
+        place: *mut usize,
+        count: *mut usize,
+    ) -> usize;
+
+    pub fn siengulot_survey_lines(
+        a: *const usize,
+        a_length: usize,
+        b: *const usize,
+        b_length: usize,
+        g: *const usize,
+        g_length: usize,
+        k: *const usize,
+        k_length: usize,
+        w: *const usize,
+        w_length: usize,
+        r: *const usize,
+        r_length: usize,
         out: *mut u8,
         out_length: usize,
         place: *mut usize,

@@ -16,6 +16,7 @@ use siengulot_plain::board::ROW_BYTES;
 use siengulot_plain::halfcells;
 use siengulot_plain::log::Event;
 use siengulot_plain::settings::{MAX_BITS, MAX_CAPTURE, MAX_LIST, MAX_ROWS, RECORDS};
+use siengulot_plain::survey::MAX_BOARDS;
 use std::time::{Duration, Instant};
 
 /// Rounds of every operation, some of them several times, that are done however long they take.
@@ -34,7 +35,7 @@ const COUNTS: [&str; 4] = [
 ];
 
 /// What each operation has to meet: the numbers it returns (of `well_formed`, 0 for no and 1 for yes), and cases that are easy to miss.
-const MUST: [(&str, &[&str], &[&str]); 28] = [
+const MUST: [(&str, &[&str], &[&str]); 30] = [
     ("judge", &["0", "1"], &["yes", "no", "a margin of 0"]),
     ("judge_quiet", &["0", "1"], &["yes", "no", "a margin of 0"]),
     ("judge_ends", &["0", "1"], &["yes", "no", "a margin of 0"]),
@@ -135,17 +136,39 @@ const MUST: [(&str, &[&str], &[&str]); 28] = [
     ("time_write", &["0", "1", "4"], &[]),
     (
         "log_event",
-        &["0", "1", "12"],
+        &["0", "1", "12", "13"],
         &[
             "a free record",
             "the oldest",
             "the oldest of equals",
             "a broken row",
+            "a broken row overwritten",
             "12 for an equal number",
+            "13 before 12",
         ],
     ),
-    ("log_clear", &["0", "1"], &["in use", "free"]),
+    (
+        "log_clear",
+        &["0", "1", "13"],
+        &["in use", "broken", "free", "13 for a free record"],
+    ),
     ("log_list", &["0", "4"], &["none in use", "all in use"]),
+    (
+        "survey",
+        &["0", "1", "3"],
+        &[
+            "no boards",
+            "1 at a board",
+            "equals",
+            "a margin of 0",
+            "4,096 boards",
+        ],
+    ),
+    (
+        "survey_lines",
+        &["0", "1", "3", "4"],
+        &["no boards", "a margin below 0"],
+    ),
 ];
 
 fn main() {
@@ -178,6 +201,7 @@ fn main() {
             short_captures(&mut bench);
             longest_lists(&mut bench);
             vast(&mut bench);
+            longest_regions(&mut bench);
         }
         if rounds % 100 == 0 && bench.tries_all() {
             hallway(&mut bench);
@@ -433,11 +457,32 @@ fn log_calls(bench: &mut Bench, lists: &Lists, calls: usize) {
             lists = bench.log_clear(&lists, place);
         }
     }
+
+    bench.turn_to_regions_or_back();
+    let region = bench.rng.region();
+    bench.survey(&region);
+    let room = Room::random(&mut bench.rng);
+    bench.survey_lines(&region, room);
+    bench.turn_to_regions_or_back();
 }
 
 /// An output that just holds the result, and one that just does not.
 const FULL: Room = Room::More(0);
 const SHORT: Room = Room::Less(1);
+
+/// Regions of as many boards as there may be, and of more, the last of them out of range.
+fn longest_regions(bench: &mut Bench) {
+    bench.turn_to_regions_or_back();
+    for boards in [MAX_BOARDS, MAX_BOARDS + 1, MAX_BOARDS + 9] {
+        let mut region = bench.rng.boards(boards);
+        for room in [FULL, SHORT] {
+            bench.survey(&region);
+            bench.survey_lines(&region, room);
+            region[3][boards - 1] = 512;
+        }
+    }
+    bench.turn_to_regions_or_back();
+}
 
 /// As many reads as a list may have, and one more.
 fn greatest_counts(bench: &mut Bench) {

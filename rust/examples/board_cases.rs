@@ -144,11 +144,12 @@ struct Lists {
     counts: Vec<usize>,
     broken: Vec<u8>,
     free: Vec<u8>,
+    broken_count: usize,
 }
 
 impl Lists {
-    /// So many records, with these read numbers, of which 0 stands for a free record.
-    fn of(mut numbers: Vec<usize>, records: usize) -> Lists {
+    /// So many records, with these read numbers, of which 0 stands for a free record, and a count.
+    fn of(mut numbers: Vec<usize>, records: usize, broken_count: usize) -> Lists {
         numbers.resize(records, 0);
         Lists {
             numbers: numbers.iter().map(|&number| number as u64).collect(),
@@ -156,6 +157,7 @@ impl Lists {
             counts: vec![7; RECORDS],
             broken: vec![2; RECORDS],
             free: numbers.iter().map(|&number| u8::from(number == 0)).collect(),
+            broken_count,
         }
     }
 
@@ -166,30 +168,33 @@ impl Lists {
             counts: &mut self.counts,
             broken: &mut self.broken,
             free: &mut self.free,
+            broken_count: &mut self.broken_count,
         }
     }
 
     fn record(&self, place: usize) -> String {
         format!(
-            " number {} count {} broken {} free {} byte {}",
+            " number {} count {} broken {} free {} byte {} stored {}",
             self.numbers[place],
             self.counts[place],
             self.broken[place],
             self.free[place],
-            self.bits[place * ROW_BYTES]
+            self.bits[place * ROW_BYTES],
+            self.broken_count
         )
     }
 }
 
 fn log_event(case: &Case, bits: &[u8]) -> String {
-    let [number, count, broken, records] = case.numbers(["number", "count", "broken", "records"]);
+    let [number, count, broken, records, stored] =
+        case.numbers(["number", "count", "broken", "records", "stored"]);
     let event = log::Event {
         number: number as u64,
         bits,
         count,
         broken: u8::try_from(broken).unwrap(),
     };
-    let mut lists = Lists::of(case.number_list(1), records);
+    let mut lists = Lists::of(case.number_list(1), records, stored);
     match log::log_event(event, &mut lists.log()) {
         Ok(place) => format!(" at {}{}", place, lists.record(place)),
         Err(refusal) => refused(refusal),
@@ -197,8 +202,8 @@ fn log_event(case: &Case, bits: &[u8]) -> String {
 }
 
 fn log_clear(case: &Case) -> String {
-    let [place, records] = case.numbers(["place", "records"]);
-    let mut lists = Lists::of(case.number_list(0), records);
+    let [place, records, stored] = case.numbers(["place", "records", "stored"]);
+    let mut lists = Lists::of(case.number_list(0), records, stored);
     match log::clear(place, &mut lists.log()) {
         Ok(()) => lists.record(place),
         Err(refusal) => refused(refusal),
@@ -207,7 +212,7 @@ fn log_clear(case: &Case) -> String {
 
 fn log_list(case: &Case) -> String {
     let [room, records] = case.numbers(["room", "records"]);
-    let lists = Lists::of(case.number_list(0), records);
+    let lists = Lists::of(case.number_list(0), records, 0);
     let mut places = vec![99; room];
     let (mut told, _) = made(log::list(&lists.numbers, &lists.free, &mut places));
     told += " places";

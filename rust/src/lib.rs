@@ -1,4 +1,4 @@
-//! Software for a biphase mark link: judging settings, sending, a model of the line,
+//! Software for a biphase mark link: judging settings, surveying regions, sending, a model of the line,
 //! two receivers, the capture file, time code, what the rows program prints, and the log of a bay.
 //!
 //! The rules are those of docs/RULES.md. Every module follows one of its sections, named at the top
@@ -25,6 +25,7 @@ pub mod rows;
 pub mod sender;
 pub mod settings;
 pub mod stored;
+pub mod survey;
 pub mod timecode;
 
 pub use refusal::Refusal;

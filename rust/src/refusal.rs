@@ -5,9 +5,9 @@ use std::fmt;
 /// Why an operation refused: the number from the rules' table and the place of the fault.
 #[derive(Clone, Copy, Debug, PartialEq, Eq, Hash)]
 pub struct Refusal {
-    /// 1 to 12, as in the table of refusal numbers.
+    /// 1 to 13, as in the table of refusal numbers.
     pub number: u8,
-    /// Place of the bad entry or row, or of the bad number's first byte; 0 where none is kept.
+    /// Place of the bad entry, row or board, or of the bad number's first byte; 0 where none is kept.
     pub place: usize,
 }
 
@@ -22,6 +22,8 @@ impl Refusal {
     pub(crate) const NO_COUNT: Refusal = Refusal::new(9, 0);
     /// A read number is not above all in use.
     pub(crate) const NOT_LATER: Refusal = Refusal::new(12, 0);
+    /// A log's stored count is not that of its broken records.
+    pub(crate) const MISCOUNTED: Refusal = Refusal::new(13, 0);
 
     pub(crate) const fn new(number: u8, place: usize) -> Refusal {
         Refusal { number, place }
@@ -29,6 +31,11 @@ impl Refusal {
 
     /// A row of a stored plan gets too long a lead pad.
     pub(crate) const fn row(place: usize) -> Refusal {
+        Refusal::new(1, place)
+    }
+
+    /// A board of a region has a setting out of range.
+    pub(crate) const fn board(place: usize) -> Refusal {
         Refusal::new(1, place)
     }
 

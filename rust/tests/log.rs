@@ -15,6 +15,7 @@ struct Lists {
     counts: Vec<usize>,
     broken: Vec<u8>,
     free: Vec<u8>,
+    broken_count: usize,
 }
 
 impl Lists {
@@ -25,6 +26,7 @@ impl Lists {
             counts: vec![0; RECORDS],
             broken: vec![0; RECORDS],
             free: vec![1; RECORDS],
+            broken_count: 0,
         }
     }
 
@@ -35,6 +37,7 @@ impl Lists {
             counts: &mut self.counts,
             broken: &mut self.broken,
             free: &mut self.free,
+            broken_count: &mut self.broken_count,
         }
     }
 
@@ -49,6 +52,12 @@ impl Lists {
             },
             &mut self.log(),
         )
+    }
+
+    fn broken_records(&self) -> usize {
+        (0..RECORDS)
+            .filter(|&place| self.free[place] == 0 && self.broken[place] > 0)
+            .count()
     }
 
     fn listed(&self) -> Vec<usize> {
@@ -116,6 +125,56 @@ fn a_broken_event_has_no_bits() {
     assert_eq!(lists.bits[..BYTES], [0; BYTES]);
     assert_eq!(lists.bits[BYTES..], [0xff; 63 * BYTES]);
     assert_eq!([lists.broken[0], lists.free[0]], [1, 0]);
+    assert_eq!(lists.broken_count, 1);
+}
+
+#[test]
+fn the_count_goes_down_and_up() {
+    let mut lists = Lists::empty();
+    // Every third event is broken: 0, 3 and so on to 63.
+    for number in 0..64 {
+        lists.add(number).expect("room");
+    }
+    assert_eq!(lists.broken_count, 22);
+    // A broken one overwritten by a row, a row by a row, a row by a broken one.
+    for (number, count) in [(64, 21), (65, 21), (66, 22)] {
+        lists.add(number).expect("room");
+        assert_eq!(lists.broken_count, count);
+    }
+    // A row cleared, a broken one cleared, and the same place again, which is free now.
+    for (place, count) in [(4, 22), (6, 21), (6, 21)] {
+        assert_eq!(clear(place, &mut lists.log()), Ok(()));
+        assert_eq!(lists.broken_count, count);
+    }
+    // A free record is not broken, whatever its mark is.
+    lists.broken[6] = 1;
+    assert_eq!(clear(9, &mut lists.log()), Ok(()));
+    assert_eq!(lists.broken_count, 20);
+    assert_eq!(lists.add(67), Ok(4));
+    assert_eq!(lists.add(70), Ok(6));
+    assert_eq!(lists.broken_count, 20);
+}
+
+#[test]
+fn a_count_that_is_not_true_is_refused() {
+    let mut lists = Lists::empty();
+    for number in 1..10 {
+        lists.add(number).expect("room");
+    }
+    assert_eq!(lists.broken_count, 3);
+    for count in [0, 2, 4, 64, 65, usize::MAX] {
+        lists.broken_count = count;
+        let before = lists.clone();
+        assert_eq!(lists.add(20), Err(refusal(13)));
+        // Before 12, after 1, and for a free record as for one in use.
+        assert_eq!(lists.add(9), Err(refusal(13)));
+        assert_eq!(clear(0, &mut lists.log()), Err(refusal(13)));
+        assert_eq!(clear(63, &mut lists.log()), Err(refusal(13)));
+        assert_eq!(clear(64, &mut lists.log()), Err(refusal(1)));
+        assert_eq!(lists, before);
+        // Listing does not ask.
+        assert_eq!(lists.shown(), (1..10).collect::<Vec<_>>());
+    }
 }
 
 #[test]
@@ -206,6 +265,7 @@ fn any_sequence_of_calls_shows_what_is_kept() {
                     kept.push((place, number));
                 }
             }
+            assert_eq!(lists.broken_count, lists.broken_records());
             let places: Vec<_> = kept.iter().map(|&(place, _)| place).collect();
             assert_eq!(lists.listed(), places);
             for &(place, number) in &kept {

@@ -137,7 +137,7 @@ static void logging(void)
     expect(memcmp(&raw, &wrapped, sizeof raw) == 0 && raw.free_marks[63] == 1 && raw.bits[8191] == 0, "two empty logs differ");
     expect(siengulot_bay_log_list(&wrapped, places, &listed) == 0 && listed == 0, "an empty log lists a record");
     for (uint64_t number = 5; number < 70; number++) {
-        expect(siengulot_log_event(number, row, 1024, 0, raw.numbers, raw.bits, raw.counts, raw.broken_marks, raw.free_marks, &taken) == 0, "a row is refused");
+        expect(siengulot_log_event(number, row, 1024, 0, raw.numbers, raw.bits, raw.counts, raw.broken_marks, raw.free_marks, &raw.broken_count, &taken) == 0, "a row is refused");
         expect(siengulot_bay_log_event(&wrapped, number, row, 1024, 0, &taken_too) == 0, "a row is refused, inline");
         expect(taken == (number - 5) % 64 && taken_too == taken, "the place taken");
     }
@@ -146,7 +146,7 @@ static void logging(void)
     expect(places[0] == 1 && places[62] == 63 && places[63] == 0, "the listing");
     expect(siengulot_bay_log_row(&wrapped, 3)[127] == 0xA5 && wrapped.counts[3] == 1024 && wrapped.numbers[0] == 69, "a record");
 
-    expect(siengulot_log_event(69, row, 9, 0, raw.numbers, raw.bits, raw.counts, raw.broken_marks, raw.free_marks, &taken) == SIENGULOT_NOT_LATER, "an equal read number is taken");
+    expect(siengulot_log_event(69, row, 9, 0, raw.numbers, raw.bits, raw.counts, raw.broken_marks, raw.free_marks, &raw.broken_count, &taken) == SIENGULOT_NOT_LATER, "an equal read number is taken");
     expect(siengulot_bay_log_event(&wrapped, 70, row, SIENGULOT_BITS_MOST + 1, 0, &taken_too) == SIENGULOT_SETTING, "1,025 bits are taken");
     expect(taken == 0 && taken_too == 0, "a place though it refuses");
     expect(siengulot_bay_log_clear(&wrapped, 64) == SIENGULOT_SETTING, "place 64 is cleared");
@@ -154,13 +154,23 @@ static void logging(void)
     expect(siengulot_log_list(raw.numbers, raw.free_marks, places, 63, &taken) == SIENGULOT_ROOM && taken == 0 && places[0] == 99, "64 places in 63");
     expect(memcmp(&raw, &wrapped, sizeof raw) == 0, "a refusal changes a log");
 
-    expect(siengulot_log_clear(7, raw.numbers, raw.bits, raw.counts, raw.broken_marks, raw.free_marks) == 0, "clearing is refused");
+    expect(siengulot_log_clear(7, raw.numbers, raw.bits, raw.counts, raw.broken_marks, raw.free_marks, &raw.broken_count) == 0, "clearing is refused");
     expect(siengulot_bay_log_clear(&wrapped, 7) == 0 && memcmp(&raw, &wrapped, sizeof raw) == 0, "the two logs differ once cleared");
     expect(raw.free_marks[7] == 1 && raw.numbers[7] == 0 && raw.counts[7] == 0 && raw.bits[7 * 128] == 0 && raw.bits[8 * 128] == 0xA5, "a cleared record");
     expect(siengulot_bay_log_event(&wrapped, 70, row, 3, 200, &taken) == 0 && taken == 7, "a cleared record is not taken");
     expect(wrapped.broken_marks[7] == 1 && wrapped.free_marks[7] == 0 && siengulot_bay_log_row(&wrapped, 7)[0] == 0, "a broken row");
+    expect(raw.broken_count == 0 && wrapped.broken_count == 1, "the count of broken rows");
     expect(siengulot_bay_log_list(&wrapped, places, &listed) == 0 && listed == 64, "the listing's length after clearing");
     expect(places[63] == 7 && places[0] == 1, "the listing after clearing");
+
+    wrapped.broken_count = 65;
+    expect(siengulot_bay_log_event(&wrapped, 70, row, 3, 1, &taken) == SIENGULOT_MISCOUNTED && taken == 0, "a wrong count is taken");
+    expect(siengulot_bay_log_clear(&wrapped, 7) == SIENGULOT_MISCOUNTED && wrapped.broken_count == 65, "a record is cleared with a wrong count");
+    expect(siengulot_bay_log_list(&wrapped, places, &listed) == 0 && listed == 64, "listing asks for the count");
+    wrapped.free_marks[9] = wrapped.broken_marks[9] = 1;
+    siengulot_bay_log_recount(&wrapped);
+    expect(wrapped.broken_count == 1, "the count of broken rows, counted anew");
+    expect(siengulot_bay_log_clear(&wrapped, 7) == 0 && wrapped.broken_count == 0, "the count of broken rows after clearing");
 }
 
 static void sending(void)
@@ -424,6 +434,43 @@ static void receiving(void)
     same(&raw, &wrapped, "a refused fresh receiver is not all 0");
 }
 
+/* The example of the rules: four boards of P8. */
+static void surveying(void)
+{
+    static const size_t a[] = {5, 5, 5, 5}, b[] = {13, 13, 13, 13}, g[] = {1, 1, 1, 1}, k[] = {10, 10, 10, 10};
+    static const size_t w[] = {100, 100, 100, 100}, r[] = {141, 142, 67, 142}, bad[] = {10, 0, 512, 10};
+    static const char lines[] = "accepted 2\nM1 116 at 1\nM2 3 at 2\nM3 -4 at 1\n", dashes[] = "accepted 0\nM1 - at -\nM2 - at -\nM3 - at -\n";
+    int64_t margins[3] = {7, 7, 7};
+    size_t places[3] = {7, 7, 7}, accepted = 9;
+
+    lend();
+    expect_answer("a survey of no boards", siengulot_survey(a, 0, b, 0, g, 0, k, 0, w, 0, r, 0, margins, places, &accepted, &place, &count), 0, 0, 0);
+    expect(accepted == 0, "of no boards some are accepted");
+    accepted = 9;
+    lend();
+    expect_answer("a survey of unequal lists", siengulot_survey(a, 4, b, 4, g, 4, k, 4, w, 4, r, 3, margins, places, &accepted, &place, &count),
+                  SIENGULOT_SETTING, 0, 0);
+    lend();
+    expect_answer("a survey of a bad board", siengulot_survey(a, 4, b, 4, g, 4, bad, 4, w, 4, r, 4, margins, places, &accepted, &place, &count),
+                  SIENGULOT_SETTING, 1, 0);
+    expect(margins[0] == 7 && margins[2] == 7 && places[0] == 7 && places[2] == 7 && accepted == 0, "a survey writes margins though it gives none");
+    lend();
+    expect_answer("a survey", siengulot_survey(a, 4, b, 4, g, 4, k, 4, w, 4, r, 4, margins, places, &accepted, &place, &count), 0, 0, 4);
+    expect(margins[0] == 116 && margins[1] == 3 && margins[2] == -4 && accepted == 2, "the smallest margins");
+    expect(places[0] == 1 && places[1] == 2 && places[2] == 1, "the boards that have them");
+    lend();
+    expect_answer("a survey's lines", siengulot_survey_lines(a, 4, b, 4, g, 4, k, 4, w, 4, r, 4, out, ROOM, &place, &count), 0, 0, sizeof lines - 1);
+    expect(memcmp(out, lines, sizeof lines - 1) == 0 && out[sizeof lines - 1] == GUARD, "the lines");
+    lend();
+    expect_answer("the lines of no boards", siengulot_survey_lines(a, 0, b, 0, g, 0, k, 0, w, 0, r, 0, out, ROOM, &place, &count), 0, 0,
+                  sizeof dashes - 1);
+    expect(memcmp(out, dashes, sizeof dashes - 1) == 0 && out[sizeof dashes - 1] == GUARD, "the lines of no boards");
+    lend();
+    expect_answer("lines with too little room", siengulot_survey_lines(a, 4, b, 4, g, 4, k, 4, w, 4, r, 4, out, sizeof lines - 2, &place, &count),
+                  SIENGULOT_ROOM, 0, 0);
+    expect_out("lines are written though they are refused", "");
+}
+
 int main(void)
 {
     judging();
@@ -437,5 +484,6 @@ int main(void)
     timing();
     captures();
     receiving();
+    surveying();
     return faults > 0;
 }

@@ -92,18 +92,21 @@ CALL(decode_limit, 3, siengulot_decode(words, 129, out, sizeof out, &place, &cou
 CALL(decode_room, 4, siengulot_decode(words, 128, out, 127, &place, &count))
 
 /* A log with two free records, and one with none, each call with a later read number or another place. */
-static siengulot_bay_log two_free = {{0}, {0}, {0}, {0}, {1, 1}}, none_free;
+static siengulot_bay_log two_free = {{0}, {0}, {0}, {0}, {1, 1}, 0}, none_free;
 static uint64_t turned[SIENGULOT_LOG_RECORDS], later = 7;
-static size_t places[SIENGULOT_LOG_RECORDS], taken, next;
-#define LOG(log) log.numbers, log.bits, log.counts, log.broken_marks, log.free_marks
+static size_t places[SIENGULOT_LOG_RECORDS], taken, next, wrong = 65;
+#define LISTS(log) log.numbers, log.bits, log.counts, log.broken_marks, log.free_marks
+#define LOG(log) LISTS(log), &log.broken_count
 CALL(log_free, 0, siengulot_log_event(later++, high, 1024, 0, LOG(two_free), &taken))
 CALL(log_oldest, 0, siengulot_log_event(later++, high, 1024, 0, LOG(none_free), &taken))
 CALL(log_broken, 0, siengulot_log_event(later++, high, 1024, 1, LOG(none_free), &taken))
 CALL(log_not_later, 12, siengulot_log_event(0, high, 1024, 0, LOG(none_free), &taken))
 CALL(log_count, 1, siengulot_log_event(7, high, 1025, 0, LOG(none_free), &taken))
+CALL(log_miscounted, 13, siengulot_log_event(later++, high, 1024, 1, LISTS(none_free), &wrong, &taken))
 CALL(clear_used, 0, siengulot_log_clear(next++, LOG(none_free)))
 CALL(clear_free, 0, siengulot_log_clear(0, LOG(two_free)))
 CALL(clear_place, 1, siengulot_log_clear(64, LOG(none_free)))
+CALL(clear_miscounted, 13, siengulot_log_clear(0, LISTS(none_free), &wrong))
 CALL(list_equal, 0, siengulot_log_list(none_free.numbers, none_free.free_marks, places, 64, &count))
 CALL(list_turned, 0, siengulot_log_list(turned, none_free.free_marks, places, 64, &count))
 CALL(list_room, 4, siengulot_log_list(turned, none_free.free_marks, places, 63, &count))
@@ -199,6 +202,24 @@ CALL(read_most, 0, siengulot_capture_read(bytes, sizeof bytes, out, sizeof out, 
 CALL(read_room, 4, siengulot_capture_read(bytes, sizeof bytes, out, 9, summary, &place))
 CALL(read_cut, 6, siengulot_capture_read(bytes, 1, out, sizeof out, summary, &place))
 
+/* Boards whose settings are all 1, and one whose a is out of range. */
+#define BOARDS(n) shortest, n, shortest, n, shortest, n, shortest, n, shortest, n, shortest, n
+#define BAD_BOARDS longest, 9, shortest, 9, shortest, 9, shortest, 9, shortest, 9, shortest, 9
+#define UNEQUAL shortest, 9, shortest, 9, shortest, 9, shortest, 9, shortest, 9, shortest, 8
+#define SURVEY(lists) siengulot_survey(lists, margins, places, &accepted, &place, &count)
+#define SURVEY_LINES(lists, room) siengulot_survey_lines(lists, out, room, &place, &count)
+CALL(survey_most, 0, SURVEY(BOARDS(SIENGULOT_BOARDS_MOST)))
+CALL(survey_none, 0, SURVEY(BOARDS(0)))
+CALL(survey_unequal, 1, SURVEY(UNEQUAL))
+CALL(survey_setting, 1, SURVEY(BAD_BOARDS))
+CALL(survey_limit, 3, SURVEY(BOARDS(SIENGULOT_BOARDS_MOST + 1)))
+CALL(lines_most, 0, SURVEY_LINES(BOARDS(SIENGULOT_BOARDS_MOST), sizeof out))
+CALL(lines_none, 0, SURVEY_LINES(BOARDS(0), sizeof out))
+CALL(lines_unequal, 1, SURVEY_LINES(UNEQUAL, sizeof out))
+CALL(lines_setting, 1, SURVEY_LINES(BAD_BOARDS, sizeof out))
+CALL(lines_limit, 3, SURVEY_LINES(BOARDS(SIENGULOT_BOARDS_MOST + 1), sizeof out))
+CALL(lines_room, 4, SURVEY_LINES(BOARDS(9), 9))
+
 /* The calls of an entry point, in order. */
 typedef void called(void);
 static const struct {
@@ -234,12 +255,14 @@ static const struct {
     {"siengulot_step", {step_high, step_low, step_row, step_broken, step_setting, step_entry}},
     {"siengulot_listen",
      {listen_high, listen_turns, listen_row, listen_broken, listen_mixed, listen_setting, listen_entry, listen_limit}},
-    {"siengulot_log_event", {log_free, log_oldest, log_broken, log_not_later, log_count}},
-    {"siengulot_log_clear", {clear_used, clear_free, clear_place}},
+    {"siengulot_log_event", {log_free, log_oldest, log_broken, log_not_later, log_count, log_miscounted}},
+    {"siengulot_log_clear", {clear_used, clear_free, clear_place, clear_miscounted}},
     {"siengulot_log_list", {list_equal, list_turned, list_room}},
     {"siengulot_capture_write", {write_most, write_high, write_setting, write_entry, write_limit, write_room}},
     {"siengulot_capture_check", {check_most, check_cut, check_form, check_range}},
     {"siengulot_capture_read", {read_most, read_room, read_cut}},
+    {"siengulot_survey", {survey_most, survey_none, survey_unequal, survey_setting, survey_limit}},
+    {"siengulot_survey_lines", {lines_most, lines_none, lines_unequal, lines_setting, lines_limit, lines_room}},
 };
 
 static void stop(const char *why)

@@ -96,7 +96,7 @@ fn byte(name: &[u8], bytes: &[u8], place: usize) {
 }
 
 // The record at a place, if there is one: its read number, bit count, broken mark and free mark, and the first of its
-// bytes.
+// bytes; and the count that is stored then.
 fn record(
     place: usize,
     numbers: &[u64],
@@ -104,6 +104,7 @@ fn record(
     counts: &[usize],
     broken: &[u8],
     free: &[u8],
+    stored: usize,
 ) {
     if RECORDS <= place {
         return;
@@ -113,6 +114,7 @@ fn record(
     byte(b" broken ", broken, place);
     byte(b" free ", free, place);
     byte(b" byte ", bits, 128 * place);
+    show::named(b" stored ", stored);
 }
 
 fn event_in(
@@ -127,6 +129,7 @@ fn event_in(
 ) {
     let from = 0;
     let size = n.n3;
+    let mut stored = n.n4;
     made(text, numbers, free);
     if numbers.len() < size {
         return;
@@ -144,8 +147,9 @@ fn event_in(
         counts,
         broken,
         &mut free[from..size],
+        &mut stored,
     );
-    record(logged(answer), numbers, bits, counts, broken, free);
+    record(logged(answer), numbers, bits, counts, broken, free, stored);
 }
 
 fn clear_in(
@@ -159,6 +163,7 @@ fn clear_in(
 ) {
     let from = 0;
     let size = n.n1;
+    let mut stored = n.n2;
     made(text, numbers, free);
     if numbers.len() < size {
         return;
@@ -173,8 +178,17 @@ fn clear_in(
         counts,
         broken,
         &mut free[from..size],
+        &mut stored,
     );
-    record(cleared(answer, n.n0), numbers, bits, counts, broken, free);
+    record(
+        cleared(answer, n.n0),
+        numbers,
+        bits,
+        counts,
+        broken,
+        free,
+        stored,
+    );
 }
 
 fn list_in(n: Numbers, text: &[u8], numbers: &mut [u64], free: &mut [u8], places: &mut [usize]) {
@@ -200,7 +214,7 @@ fn list_in(n: Numbers, text: &[u8], numbers: &mut [u64], free: &mut [u8], places
     show::numbers(&places[from..room]);
 }
 
-// number count broken records, the event's bits, and the read numbers of the log
+// number count broken records stored, the event's bits, and the read numbers of the log
 fn log_event(n: Numbers, case: &[u8], row: &[u8]) -> usize {
     let mut numbers = [0u64; MOST];
     let mut bits = [5u8; ALL_BYTES];
@@ -221,7 +235,7 @@ fn log_event(n: Numbers, case: &[u8], row: &[u8]) -> usize {
     0
 }
 
-// place records, and the read numbers of the log
+// place records stored, and the read numbers of the log
 fn log_clear(n: Numbers, case: &[u8]) -> usize {
     let mut numbers = [0u64; MOST];
     let mut bits = [5u8; ALL_BYTES];

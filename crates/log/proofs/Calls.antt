@@ -19,15 +19,16 @@ use Rattle.measure.specs.Refusals.{Answer, given, refused, ranged}
 use Rattle.measure.proofs.Above.{above-none}
 use Rattle.measure.proofs.Both.{both}
 use Rattle.log.specs.Records.{Log, Record, recordAt, put, isFree, marked, noBits, eventRecord, freeRecord}
-use Rattle.log.specs.Records.{emptyLog}
+use Rattle.log.specs.Records.{brokenRecords, emptyLog}
 use Rattle.log.specs.Order.{older, inOrder, takes, later}
-use Rattle.log.specs.Answers.{logFits, logged, cleared, listed}
+use Rattle.log.specs.Answers.{logFits, countHolds, logged, cleared, listed}
 use Rattle.log.specs.Sequence.{Call, logs, clears, lists, Kept, added, without, State, ran}
 use Rattle.log.specs.Sequence.{eventFits, newer, after, keeps, atFirst, Shows, AnySequence}
 use Rattle.log.proofs.Older.{older-differs}
 use Rattle.log.proofs.InOrder.{Each, each-at, each-map, Sorted, each-in-order, in-order-free, in-order-below}
 use Rattle.log.proofs.InOrder.{in-order-each, sorted-in-order}
 use Rattle.log.proofs.Sized.{Sized}
+use Rattle.log.proofs.Count.{among-none}
 use Rattle.log.proofs.Changed.{leftOut, OneApart, order-freed, order-newest}
 use Rattle.log.proofs.PutLaws.{put-sized, put-here, put-there}
 use Rattle.log.proofs.InUse.{later-all, all-later, above-found, listed-full, listed-fewer}
@@ -45,6 +46,7 @@ pub record Good (log : Log) (kept : List Kept) : Type 0 where
   pub places : inOrder (log .numbers) (log .free) logRecords ≡ placesOf kept
   pub held : Held log kept
   pub freed : (place : ℕ) → place < logRecords → 0 < getD (log .free) place 0 → recordAt log place ≡ freeRecord
+  pub count : log .brokenCount ≡ brokenRecords (log .broken) (log .free)
 
 -- what is kept without a place, seen by its places and by its records
 module _ (q : ℕ) where
@@ -196,6 +198,7 @@ module _ (log : Log) (kept : List Kept) (good : Good log kept) (q : ℕ) (there 
             λ e. let unused-here : 0 < getD (put log q new .free) q 0 = rw e at unused in omega (arith, mark-here) in
             put-there log q new (good .sized) there whole place apart
             ∙ good .freed place h (rw (getD-set-other (log .free) q place (new .free) 0 apart) at unused);
+        count = refl;
       }
 
 -- a record that was cleared is kept no longer
@@ -218,6 +221,7 @@ good-freed log kept good q there =
           (λ apart.
           put-there log q freeRecord (good .sized) there whole place apart
           ∙ good .freed place h (rw (getD-set-other (log .free) q place 1 0 apart) at unused));
+      count = refl;
     }
 
 fits-sized : (log : Log) → Sized log → logFits log ≡ true
@@ -271,6 +275,9 @@ module _ (log : Log) (kept : List Kept) (good : Good log kept) where
       (in-order-each (λ place. getD (log .numbers) place 0 < number) (log .numbers) (log .free) logRecords
       (rw (good .places) (newer-each log number kept (good .held) e))))
 
+  count-holds : countHolds log ≡ true
+  count-holds = eq-eqb (log .brokenCount) (brokenRecords (log .broken) (log .free)) (good .count)
+
   -- what logging does, said of what is kept
   logged-kept : (number : ℕ) (bits : List ℕ) (count broken : ℕ)
       → logged number bits count broken log
@@ -281,14 +288,14 @@ module _ (log : Log) (kept : List Kept) (good : Good log kept) where
       )
       (refused 12 0, log))
   unfolding logged
-  logged-kept number bits count broken = rw (fits-sized log (good .sized), later-newer number)
+  logged-kept number bits count broken = rw (fits-sized log (good .sized), count-holds, later-newer number)
 
   -- and what clearing does
   cleared-kept : (place : ℕ)
       → cleared place log
       ≡ ranged (ltb place logRecords) log (given tt, choose (isFree log place) log (put log place freeRecord))
   unfolding cleared
-  cleared-kept place = rw (fits-sized log (good .sized))
+  cleared-kept place = rw (fits-sized log (good .sized), count-holds)
 
   pub good-logs : (number : ℕ) (bits : List ℕ) (count broken : ℕ)
       → Good (after (logs number bits count broken) log) (keeps (logs number bits count broken) log kept)
@@ -407,6 +414,8 @@ good-empty = record {
         getD-replicate {A = ℕ} logRecords place 1 0 h,
         empty-bits place h,
       );
+  count = sym (among-none (replicate logRecords 0) (replicate logRecords 1) logRecords
+      (λ place h. omega (arith, getD-replicate {A = ℕ} logRecords place 1 0 h)));
 }
 
 pub good-ran : (calls : List Call) (state : State) → Good (state .log) (state .kept)
@@ -437,6 +446,7 @@ good-shows state good =
           );
       records = held-records (state .log) (state .kept) (good .held);
       free = λ place h unused. good .freed place h (ltb-true 0 (getD (state .log .free) place 0) unused);
+      count = good .count;
       logging = λ number bits count broken. answer-logs (state .log) (state .kept) good number bits count broken;
       clearing = λ place. answer-clears (state .log) (state .kept) good place;
     }

@@ -2,6 +2,7 @@ pub mod Older
 pub mod InOrder
 pub mod Shifted
 pub mod Sized
+pub mod Count
 pub mod Listing
 pub mod Changed
 pub mod PutLaws

@@ -8,7 +8,7 @@ use lib.Dec.{leb, ltb, eqb}
 use Rattle.measure.specs.Choose.{choose}
 use Rattle.measure.specs.Ranges.{logRecords, recordBytes, bitsMost}
 use Rattle.measure.specs.Refusals.{Answer, given, refused, denied, ranged, lent}
-use Rattle.log.specs.Records.{Log, isFree, put, eventRecord, freeRecord}
+use Rattle.log.specs.Records.{Log, isFree, brokenRecords, put, eventRecord, freeRecord}
 use Rattle.log.specs.Order.{listing, takes, later}
 use Rattle.log.specs.declared.Logged.{Logged}
 use Rattle.log.specs.declared.Logged.the-variants.{At, Refused}
@@ -24,23 +24,30 @@ logFits log =
     && eqb (length (log .counts)) logRecords && eqb (length (log .broken)) logRecords
     && eqb (length (log .free)) logRecords
 
--- R80: Logging an event: refusal 1 for lists of another length and for a bit count above 1,024; 12 for a read number
--- that is not above all in use. It answers the place taken.
+-- R13: the stored count is that of the broken records
+abbrev pub countHolds : Log → Bool
+countHolds log = eqb (log .brokenCount) (brokenRecords (log .broken) (log .free))
+
+-- R80: Logging an event: refusal 1 for lists of another length and for a bit count above 1,024; 13 for a stored count
+-- that is not that of the broken records; 12 for a read number that is not above all in use. It tells the place taken.
 unfoldable pub logged : (number : ℕ) (bits : List ℕ) (count broken : ℕ) → Log → Answer ℕ × Log
 logged number bits count broken log =
     ranged (logFits log && eqb (length bits) recordBytes && leb count bitsMost) log
-    (choose (later (log .numbers) (log .free) number logRecords) (
+    (choose (countHolds log) (choose (later (log .numbers) (log .free) number logRecords) (
       given (takes (log .numbers) (log .free)),
       put log (takes (log .numbers) (log .free)) (eventRecord number bits count broken),
     )
     (refused 12 0, log))
+    (refused 13 0, log))
 
--- R81: Clearing the record at a place: refusal 1 for lists of another length and for a place above 63. A free record
--- stays as it is.
+-- R81: Clearing the record at a place: refusal 1 for lists of another length and for a place above 63; 13 for a stored
+-- count that is not that of the broken records, also where the record is free. A free record stays as it is.
 unfoldable pub cleared : (place : ℕ) → Log → Answer (Unit {0}) × Log
 cleared place log =
     ranged (logFits log && ltb place logRecords) log
+    (choose (countHolds log)
     (given tt, choose (isFree log place) log (put log place freeRecord))
+    (refused 13 0, log))
 
 -- R82: Listing: refusal 1 for lists of another length; 4. It answers how many records are in use, and their places
 -- stand at the output's front.

@@ -1,6 +1,7 @@
--- Rules K: a log of 64 records, which the caller lends as five lists; a record of it, and a record put into it.
-use Prim.Native.Nat.{ℕ, _*_}
-use mathlib.Core.Bool.{Bool}
+-- Rules K: a log of 64 records, which the caller lends as five lists and a count; a record of it, how many of them are
+-- broken, and a record put into it.
+use Prim.Native.Nat.{ℕ, zero, suc, _+_, _*_}
+use mathlib.Core.Bool.{Bool, not, _&&_}
 use mathlib.Core.List.{List}
 use lib.ListN.{take, drop, getD, set, replicate}
 use lib.Seq.{sets}
@@ -8,13 +9,14 @@ use lib.Dec.{ltb}
 use Rattle.measure.specs.Choose.{choose}
 use Rattle.measure.specs.Ranges.{logRecords, recordBytes}
 
--- K1: a log: the five lists that the caller lends
+-- K1, K7: a log: the five lists that the caller lends, and beside them how many records are broken
 pub record Log : Type 0 where
   pub numbers : List ℕ
   pub bits : List ℕ
   pub counts : List ℕ
   pub broken : List ℕ
   pub free : List ℕ
+  pub brokenCount : ℕ
 
 -- K1: one record: the read number of a row, its bits in 128 bytes, how many bits it has, and two marks
 pub record Record : Type 0 where
@@ -34,7 +36,25 @@ recordAt log place = record {
   free = getD (log .free) place 0;
 }
 
--- K10, K11: a record put at a place, and nothing else touched
+-- K2: a mark is set if it is not 0
+abbrev pub marked : (mark : ℕ) → Bool
+marked mark = ltb 0 mark
+
+-- K7: what a record adds to the count of broken records: 1 if its broken mark is set and it is not free
+abbrev pub adds : (broken free : ℕ) → ℕ
+adds broken free = choose (marked broken && not (marked free)) 1 0
+
+-- K7: how many of the first so many records are broken
+unfoldable pub brokenAmong : (broken free : List ℕ) → ℕ → ℕ
+brokenAmong broken free zero = 0
+brokenAmong broken free (suc place) =
+    brokenAmong broken free place + adds (getD broken place 0) (getD free place 0)
+
+-- K7: how many records are broken
+abbrev pub brokenRecords : (broken free : List ℕ) → ℕ
+brokenRecords broken free = brokenAmong broken free logRecords
+
+-- K10, K11: a record put at a place, and no other touched; the count is that of the broken records then
 abbrev pub put : Log → ℕ → Record → Log
 put log place new = record {
   numbers = set (log .numbers) place (new .number);
@@ -42,11 +62,8 @@ put log place new = record {
   counts = set (log .counts) place (new .count);
   broken = set (log .broken) place (new .broken);
   free = set (log .free) place (new .free);
+  brokenCount = brokenRecords (set (log .broken) place (new .broken)) (set (log .free) place (new .free));
 }
-
--- K2: a mark is set if it is not 0
-abbrev pub marked : (mark : ℕ) → Bool
-marked mark = ltb 0 mark
 
 -- K3: the record at a place is free
 abbrev pub isFree : Log → ℕ → Bool
@@ -70,7 +87,7 @@ eventRecord number bits count broken = record {
 abbrev pub freeRecord : Record
 freeRecord = record { number = 0; bits = noBits; count = 0; broken = 0; free = 1 }
 
--- K5: an empty log: 64 such records
+-- K5: an empty log: 64 such records, none of which is broken
 abbrev pub emptyLog : Log
 emptyLog = record {
   numbers = replicate logRecords 0;
@@ -78,4 +95,5 @@ emptyLog = record {
   counts = replicate logRecords 0;
   broken = replicate logRecords 0;
   free = replicate logRecords 1;
+  brokenCount = 0;
 }

@@ -10,7 +10,7 @@ use Rattle.measure.specs.Choose.{choose}
 use Rattle.measure.specs.Ranges.{logRecords, recordBytes, bitsMost}
 use Rattle.measure.specs.Lists.{onto}
 use Rattle.measure.specs.Refusals.{given, refused}
-use Rattle.log.specs.Records.{Log, Record, recordAt, isFree, eventRecord, freeRecord, emptyLog}
+use Rattle.log.specs.Records.{Log, Record, recordAt, isFree, brokenRecords, eventRecord, freeRecord, emptyLog}
 use Rattle.log.specs.Order.{takes}
 use Rattle.log.specs.Answers.{logged, cleared, listed}
 
@@ -78,8 +78,9 @@ abbrev pub atFirst : State
 atFirst = record { log = emptyLog; kept = [] }
 
 -- K20: The log shows what is kept: listing it gives the places of all that is kept, in order, and the records there are
--- those of the events. In a free record all else is 0. And the next call is answered by what is kept: an event is
--- refused exactly if it is not kept, and a clearing exactly if its place is none of the 64.
+-- those of the events. In a free record all else is 0. The stored count is that of the broken records. And the next
+-- call is answered by what is kept: an event is refused exactly if it is not kept, and a clearing exactly if its place
+-- is none of the 64, and neither ever with 13.
 pub record Shows (state : State) : Type 0 where
   pub listing : (output : List ℕ) → length (state .kept) ≤ length output
       → listed (state .log .numbers) (state .log .free) output
@@ -87,6 +88,7 @@ pub record Shows (state : State) : Type 0 where
   pub records : map (λ one. recordAt (state .log) (one .place)) (state .kept) ≡ map (λ one. one .event) (state .kept)
   pub free : (place : ℕ) → place < logRecords → isFree (state .log) place ≡ true
       → recordAt (state .log) place ≡ freeRecord
+  pub count : state .log .brokenCount ≡ brokenRecords (state .log .broken) (state .log .free)
   pub logging : (number : ℕ) (bits : List ℕ) (count broken : ℕ)
       → logged number bits count broken (state .log) .0
       ≡ choose (eventFits bits count)

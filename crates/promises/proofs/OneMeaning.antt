@@ -8,7 +8,7 @@ use Rattle.measure.specs.Choose.{choose}
 use Rattle.measure.specs.Refusals.{Answer, given, refused, refusedAfter, numberOf, placeOf}
 use Rattle.measure.specs.declared.Refusal.{Refusal}
 use Rattle.measure.specs.declared.Refusal.the-variants.{Setting, Entry, Limit, Room, Cut, Form, Range, NoCount}
-use Rattle.measure.specs.declared.Refusal.the-variants.{NoEdge, NotLater}
+use Rattle.measure.specs.declared.Refusal.the-variants.{NoEdge, NotLater, Miscounted}
 use Rattle.settings.specs.declared.Judged.{Judged}
 use Rattle.settings.specs.declared.Judged.the-variants as J
 use Rattle.settings.specs.declared.QuietJudged.{QuietJudged}
@@ -18,6 +18,9 @@ use Rattle.settings.specs.declared.picking.Picked.{Picked}
 use Rattle.settings.specs.declared.picking.Picked.the-variants as U
 use Rattle.settings.specs.Pick.{pickedSays}
 use Rattle.settings.proofs.PickHolds.{only-one}
+use Rattle.settings.specs.declared.surveying.Surveyed.{Surveyed}
+use Rattle.settings.specs.declared.surveying.Surveyed.the-variants as Survey
+use Rattle.settings.specs.Survey.{Report, none, told, surveyedSays}
 use Rattle.sender.specs.declared.Sent.{Sent}
 use Rattle.sender.specs.declared.Sent.the-variants as S
 use Rattle.sender.specs.Answers.{sentSays}
@@ -77,6 +80,10 @@ use Rattle.log.specs.Answers.{loggedSays, clearedSays, listedSays}
 use Rattle.page.specs.declared.Put.{Put}
 use Rattle.page.specs.declared.Put.the-variants as P
 use Rattle.page.specs.Answers.{putSays}
+use Rattle.region.specs.declared.Put.{Put as PutLines}
+use Rattle.region.specs.declared.Put.the-variants as Report
+use Rattle.region.specs.Answers.{putSays as linesSay}
+use Rattle.siengulot.specs.Surveys.{Found}
 use Rattle.siengulot.specs.Receivers.{Reply, Lent}
 use Rattle.siengulot.specs.Picking.{pickedOver}
 use Rattle.promises.specs.OneMeaning.{OneMeaning}
@@ -117,7 +124,8 @@ refusal number place =
     (choose (eqb number 9) NoCount
     (choose (eqb number 11) (NoEdge place)
     (choose (eqb number 12) NotLater
-    (Range place)))))))))
+    (choose (eqb number 13) Miscounted
+    (Range place))))))))))
 
 refusal-back : (f : Refusal) → refusal (numberOf f) (placeOf f) ≡ f
 unfolding refusal
@@ -131,6 +139,7 @@ refusal-back (Range at) = refl
 refusal-back NoCount = refl
 refusal-back (NoEdge at) = refl
 refusal-back NotLater = refl
+refusal-back Miscounted = refl
 
 -- an answer, back from what it says: from a result, from a refusal, and from one that says how much was found
 answer : {A X : Type 0} → (A → X) → (Refusal → X) → (ℕ → ℕ → X) → Answer A → X
@@ -148,6 +157,10 @@ judged j = choose (j .accepts) (J.Yes (j .margins)) (J.No (j .margins))
 
 quiet-judged : QuietJudgement → QuietJudged
 quiet-judged j = choose (j .accepts) (Q.Yes (j .margins)) (Q.No (j .margins))
+
+report : Report → Surveyed
+report none = Survey.NoBoards
+report (told f) = Survey.Boards f
 
 event : Event → CodeEvent
 event nothing = E.Nothing
@@ -197,7 +210,7 @@ listen-of (o, used) =
     }
 
 pub one-meaning : OneMeaning
-unfolding plain answer judged quiet-judged bareOf told-of step-of listen-of
+unfolding plain answer judged quiet-judged report bareOf told-of step-of listen-of
 one-meaning = record {
   number = record { always = λ κs a. tt; once = λ κs a x y left right h h′. (h ∙ sym h′, refl) };
   place = record { always = λ κs a. tt; once = λ κs a x y left right h h′. (h ∙ sym h′, refl) };
@@ -218,6 +231,7 @@ one-meaning = record {
     once = λ κs a x y left right h h′.
         (same pick-said refl (only-one _ _ _ _ (pickedSays x) (pickedSays y) h h′), refl);
   };
+  survey = record { always = λ κs a. tt; once = λ κs a x y left right h h′. (same survey-said h h′, refl) };
   send = record {
     always = λ κs a. tt;
     once = λ κs a x y left right h h′. leaves sent (λ l. (tt, (tt, (tt, (tt, (l, tt)))))) h h′;
@@ -301,14 +315,17 @@ one-meaning = record {
         leaves logged-said
         (λ (l : Log). (
           tt,
-          (tt, (tt, (tt, (l .numbers, (l .bits, (l .counts, (l .broken, (l .free, tt)))))))),
+          (tt, (tt, (tt, (l .numbers, (l .bits, (l .counts, (l .broken, (l .free, (l .brokenCount, tt))))))))),
         )) h h′;
   };
   log-clear = record {
     always = λ κs a. tt;
     once = λ κs a x y left right h h′.
         leaves cleared-said
-        (λ (l : Log). (tt, (l .numbers, (l .bits, (l .counts, (l .broken, (l .free, tt))))))) h h′;
+        (λ (l : Log). (
+          tt,
+          (l .numbers, (l .bits, (l .counts, (l .broken, (l .free, (l .brokenCount, tt)))))),
+        )) h h′;
   };
   log-list = record {
     always = λ κs a. tt;
@@ -344,6 +361,10 @@ one-meaning = record {
   put-refused = record {
     always = λ κs a. tt;
     once = λ κs a x y left right h h′. leaves line (λ l. (tt, (l, tt))) h h′;
+  };
+  survey-lines = record {
+    always = λ κs a. tt;
+    once = λ κs a x y left right h h′. leaves lines-said (λ l. (tt, (tt, (tt, (tt, (tt, (tt, (l, tt)))))))) h h′;
   };
   siengulot-judge = record {
     always = λ κs a. tt;
@@ -516,7 +537,10 @@ one-meaning = record {
               tt,
               (
                 tt,
-                (p .1 .numbers, (p .1 .bits, (p .1 .counts, (p .1 .broken, (p .1 .free, (p .0 .1, tt)))))),
+                (
+                  p .1 .numbers,
+                  (p .1 .bits, (p .1 .counts, (p .1 .broken, (p .1 .free, (p .1 .brokenCount, (p .0 .1, tt)))))),
+                ),
               ),
             ),
           ),
@@ -526,12 +550,29 @@ one-meaning = record {
     always = λ κs a. tt;
     once = λ κs a x y left right h h′.
         crosses (λ (p : ℕ × Log). p .0)
-        (λ p. (tt, (p .1 .numbers, (p .1 .bits, (p .1 .counts, (p .1 .broken, (p .1 .free, tt))))))) h h′;
+        (λ p. (
+          tt,
+          (p .1 .numbers, (p .1 .bits, (p .1 .counts, (p .1 .broken, (p .1 .free, (p .1 .brokenCount, tt)))))),
+        )) h h′;
   };
   siengulot-log-list = record {
     always = λ κs a. tt;
     once = λ κs a x y left right h h′.
         crosses (λ (p : (ℕ × ℕ) × List ℕ). p .0 .0) (λ p. (tt, (tt, (p .1, (p .0 .1, tt))))) h h′;
+  };
+  siengulot-survey = record {
+    always = λ κs a. tt;
+    once = λ κs a x y left right h h′.
+        crosses (λ (p : (ℕ × ℕ × ℕ × ℕ) × Found). p .0 .0)
+        (λ p.
+        (tt, (tt, (tt, (tt, (tt, (tt, (p .1 .margins, (p .1 .places, (p .0 .3, (p .0 .1, (p .0 .2, tt))))))))))))
+        h h′;
+  };
+  siengulot-survey-lines = record {
+    always = λ κs a. tt;
+    once = λ κs a x y left right h h′.
+        crosses (λ (p : (ℕ × ℕ × ℕ) × List ℕ). p .0 .0)
+        (λ p. (tt, (tt, (tt, (tt, (tt, (tt, (p .1, (p .0 .1, (p .0 .2, tt)))))))))) h h′;
   };
   held-new = λ bytes x y h h′. h ∙ sym h′;
   held-place = λ reader x y h h′. h ∙ sym h′;
@@ -552,6 +593,15 @@ one-meaning = record {
     pick-back : (x : Picked) → plain (λ n. U.K (record { 0 = n })) U.Refused (pickedSays x) ≡ x
     pick-back (U.K k) = refl
     pick-back (U.Refused f) = ap U.Refused (refusal-back f)
+
+    survey-back : (x : Surveyed) → plain report Survey.Refused (surveyedSays x) ≡ x
+    survey-back Survey.NoBoards = refl
+    survey-back (Survey.Boards f) = refl
+    survey-back (Survey.Refused f) = ap Survey.Refused (refusal-back f)
+
+    lines-back : (x : PutLines) → plain Report.Lines Report.Refused (linesSay x) ≡ x
+    lines-back (Report.Lines n) = refl
+    lines-back (Report.Refused f) = ap Report.Refused (refusal-back f)
 
     send-back : (x : Sent) → plain (λ n. S.Wave (record { 0 = n })) S.Refused (sentSays x) ≡ x
     send-back (S.Wave cycles) = refl
@@ -680,6 +730,12 @@ one-meaning = record {
 
     pick-said : Said Picked (Answer ℕ)
     pick-said = record { says = pickedSays; back = plain (λ n. U.K (record { 0 = n })) U.Refused; turns = pick-back }
+
+    survey-said : Said Surveyed (Answer Report)
+    survey-said = record { says = surveyedSays; back = plain report Survey.Refused; turns = survey-back }
+
+    lines-said : Said PutLines (Answer ℕ)
+    lines-said = record { says = linesSay; back = plain Report.Lines Report.Refused; turns = lines-back }
 
     sent : Said Sent (Answer ℕ)
     sent = record { says = sentSays; back = plain (λ n. S.Wave (record { 0 = n })) S.Refused; turns = send-back }

@@ -14,6 +14,9 @@ use Rattle.measure.specs.Refusals.{Answer, given, refused, numberOf, placeOf}
 use Rattle.settings.specs.Answers.{inRange, judgement, quietJudgement}
 use Rattle.settings.specs.Margins.{Ends, zeroOrMore}
 use Rattle.settings.specs.Pick.{least, pickable, Best, Picks, out-of-range}
+use Rattle.settings.specs.Survey.{Region, none, told, boards, boardsMost, listsFit, figuresOf, reportOf}
+use Rattle.settings.specs.Survey.{judgedBoards, surveyed}
+use Rattle.settings.specs.declared.surveying.Figures.{Figures}
 use Rattle.settings.proofs.PickHolds.{only-one, best-fits}
 use Rattle.sender.specs.Sending.{wave, planWave, rowsOf}
 use Rattle.sender.specs.Answers.{sentMessage, sentPlan, fitting, padded}
@@ -34,7 +37,7 @@ use Rattle.board.specs.Answers.{refusing, begun, stepped, levelsOf, toEvent, li
 use Rattle.board.specs.declared.Receiver.{Receiver}
 use Rattle.capture.specs.Writing.{captureOf}
 use Rattle.log.specs.Order.{listing, later}
-use Rattle.log.specs.Answers.{logFits, logged, cleared, listed}
+use Rattle.log.specs.Answers.{logFits, countHolds, logged, cleared, listed}
 use Rattle.capture.specs.Capture.{then}
 use Rattle.capture.specs.Held.{placeAfter}
 use Rattle.capture.specs.Answers.{summary, checked, readBack, written}
@@ -43,17 +46,20 @@ use Rattle.timecode.specs.Words.{wordPlaces}
 use Rattle.timecode.specs.Times.{timeFits, wordOf}
 use Rattle.timecode.specs.Answers.{readTimes, writeTime}
 use Rattle.page.specs.Lines.{headingLine, eventLine, endLine, refusedLine, printed, output}
+use Rattle.region.specs.Lines.{reportLines}
+use Rattle.region.specs.Answers.{linesOf, surveyLines}
 use Rattle.siengulot.specs.Crossing.{crossed, crossedBits, crossing, flag, judgedThree, judgedFive, summed}
 use Rattle.siengulot.specs.Receivers.{named, numbersFit, receiverLent, brought, broughtBy, begunLent, steppedLent}
 use Rattle.siengulot.specs.Receivers.{listenedLent, wellFormedLent}
 use Rattle.siengulot.specs.Picking.{pickedOver}
 use Rattle.siengulot.specs.StoredPlans.{joinedOver}
 use Rattle.siengulot.specs.Logs.{loggedOver, clearedOver, leaving}
-use Rattle.promises.specs.Promised.{good, first, Answered, Tells, setting, limit, entries, room}
+use Rattle.siengulot.specs.Surveys.{Found, surveyedOver}
+use Rattle.promises.specs.Promised.{Test, good, first, Answered, Tells, setting, limit, entries, room}
 use Rattle.promises.specs.GoodInput as Good
 use Rattle.promises.specs.FromC.{Demand1FromC}
 use Rattle.promises.specs.Demands.{Demand1}
-use Rattle.promises.proofs.Promised.{done, past, within, same, across, laid, clause, also}
+use Rattle.promises.proofs.Promised.{done, past, within, same, across, followed, laid, clause, also}
 use Rattle.promises.proofs.GoodCaptures.{number-answered, header-answered, capture-answered, read-answered}
 
 -- what the picker answers, told of the best k: one answer alone fits, and this one does
@@ -78,14 +84,23 @@ listening x reads =
     within (wellFormed x) 1 0
     (past (limit entriesMost reads) (past (Good.beforeAnyEvent x reads) (done refl)))
 
+-- what the survey answers
+surveys : (s : Region) → Tells (Good.survey s) (reportOf s) (surveyed s)
+unfolding surveyed judgedBoards
+surveys s = within (listsFit s) 1 0 (past (Good.unfit s) (past (limit boardsMost (s .a)) (done refl)))
+
 pub answered : Demand1
 unfolding judgement quietJudgement sentMessage sentPlan readPlan encoded decoded smoothed warped warpedByLengths settled
-    countedBits readTimes writeTime begun wellFormed stepped listened checked readBack written output number packed
-    logged cleared listed
+    countedBits readTimes writeTime surveyLines begun wellFormed stepped listened checked readBack written output number
+    packed logged cleared listed
 answered = record {
   judge = λ a b g k e. within (inRange a b g k e) 1 0 (done refl);
   judge-quiet = λ a b g k e Q p1. within (inRange a b g k e && quiet Q && leb p1 padMost) 1 0 (done refl);
   pick = picked;
+  survey = surveys;
+  survey-lines = λ s output.
+      followed (λ answer. linesOf answer output) (surveys s) (λ number place. refl)
+      (λ e. laid (reportLines (reportOf s)) output);
   send = λ a b p1 bits output.
       within (subcell a && subcell b && leb p1 padMost) 1 0
       (past (limit bitsMost bits)
@@ -165,8 +180,10 @@ answered = record {
   decode = λ words output. past (limit wordsMost words) (past (Good.edges words) (laid (bytesOf words) output));
   log-event = λ number bits count broken log.
       within (logFits log && eqb (length bits) recordBytes && leb count bitsMost) 1 0
-      (within (later (log .numbers) (log .free) number logRecords) 12 0 (done refl));
-  log-clear = λ place log. within (logFits log && ltb place logRecords) 1 0 (done refl);
+      (within (countHolds log) 13 0
+      (within (later (log .numbers) (log .free) number logRecords) 12 0 (done refl)));
+  log-clear = λ place log.
+      within (logFits log && ltb place logRecords) 1 0 (within (countHolds log) 13 0 (done refl));
   log-list = λ numbers free output.
       within (eqb (length numbers) logRecords && eqb (length free) logRecords) 1 0
       (laid (listing numbers free) output);
@@ -215,6 +232,10 @@ answered-from-c = record {
       across (leaving loggedOver) (answered .log-event number bits count broken log);
   log-clear = λ place log. across (leaving clearedOver) (answered .log-clear place log);
   log-list = λ numbers free output. across (crossing loggedOver) (answered .log-list numbers free output);
+  survey = λ s lent.
+      reported (boards s) lent (figuresOf s) (eqb (boards s) 0)
+      (across (surveyedOver (boards s) lent) (answered .survey s));
+  survey-lines = λ s output. across (crossing crossed) (answered .survey-lines s output);
 }
   where
     both : (stands well : Bool)
@@ -222,3 +243,11 @@ answered-from-c = record {
     both true true = record { gives = λ e. refl; refuses = λ e. absurd (false≢true (sym e)) }
     both true false = record { gives = λ e. absurd (false≢true e); refuses = λ e. refl }
     both false well = record { gives = λ e. absurd (false≢true e); refuses = λ e. refl }
+
+    reported : {tests : List Test} {outcome : (ℕ × ℕ × ℕ × ℕ) × Found} {refusal : ℕ → ℕ → (ℕ × ℕ × ℕ × ℕ) × Found}
+        (size : ℕ) (lent : Found) (f : Figures) (empty : Bool)
+        → Answered tests outcome (surveyedOver size lent (given (choose empty none (told f)))) refusal
+        → Answered tests outcome
+        (choose empty (surveyedOver size lent (given none)) (surveyedOver size lent (given (told f)))) refusal
+    reported size lent f true h = h
+    reported size lent f false h = h

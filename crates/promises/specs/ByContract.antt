@@ -15,6 +15,7 @@ use Rattle.measure.specs.Refusals.{lent, numberOf, placeOf}
 use Rattle.settings.specs.Margins.{ends, steady}
 use Rattle.settings.specs.Answers.{judgement, judgedSays, quietJudgement, quietJudgedSays}
 use Rattle.settings.specs.Pick.{Picks, pickedSays}
+use Rattle.settings.specs.Survey.{region, surveyed, surveyedSays}
 use Rattle.sender.specs.Answers.{padded, sentMessage, sentPlan, sentSays}
 use Rattle.stored.specs.Answers.{readPlan, joinedSays}
 use Rattle.halfcells.specs.Answers.{encoded, encodedSays, decoded, decodedSays}
@@ -32,11 +33,13 @@ use Rattle.text.specs.Decimal.{decimal, signedDecimal}
 use Rattle.text.specs.Putting.{putAt}
 use Rattle.page.specs.Lines.{headingLine, eventLine, endLine, refusedLine}
 use Rattle.page.specs.Answers.{putSays}
+use Rattle.region.specs.Answers.{surveyLines, putSays as linesSay}
 use Rattle.siengulot.specs.Crossing.{crossed, crossedBits, crossing, judgedThree, judgedFive, summed}
 use Rattle.siengulot.specs.Receivers.{begunLent, steppedLent, listenedLent, wellFormedLent}
 use Rattle.siengulot.specs.Picking.{PickCrosses}
 use Rattle.siengulot.specs.StoredPlans.{joinedOver}
 use Rattle.siengulot.specs.Logs.{loggedOver, clearedOver, leaving}
+use Rattle.siengulot.specs.Surveys.{surveyedOver}
 use Rattle.measure.proofs as Measure
 use Rattle.settings.proofs as Settings
 use Rattle.sender.proofs as Sender
@@ -50,6 +53,7 @@ use Rattle.timecode.proofs as Timecode
 use Rattle.log.proofs as Log
 use Rattle.text.proofs as Text
 use Rattle.page.proofs as Page
+use Rattle.region.proofs as Region
 use Rattle.siengulot.proofs as C
 use Rattle.promises.specs.OneMeaning.{Clause}
 
@@ -100,6 +104,9 @@ pub record ByContract : Type 0 where
   pub pick-ends : Says Settings.pick_ends.ended Settings.pick_ends.Reads.Post
       λ κs (a, (b, (g, (w1, (w2, (r1, (r2, _))))))) x _.
       Picks (a .0) (b .0) (g .0) (ends (w1 .0) (w2 .0) (r1 .0) (r2 .0)) (pickedSays x)
+  pub survey : Says Settings.survey.ended Settings.survey.Reads.Post
+      λ κs (a, (b, (g, (k, (w, (r, _)))))) x _.
+      surveyed (region (now a) (now b) (now g) (now k) (now w) (now r)) ≡ surveyedSays x
   -- sender
   pub send : Says Sender.send.ended Sender.send.Reads.Post
       λ κs (a, (b, (p1, (bits, (out, _))))) x (_, (_, (_, (_, (out′, _))))).
@@ -187,8 +194,8 @@ pub record ByContract : Type 0 where
       written (k .0) n (Q .0) (now reads) (now out) ≡ (writtenSays x, out′)
   -- log
   pub log-event : Says Log.log_event.ended Log.log_event.Reads.Post
-      λ κs (number, (bytes, (count, (mark, (numbers, (bits, (counts, (marks, (free, _))))))))) x
-      (_, (_, (_, (_, (numbers′, (bits′, (counts′, (broken′, (free′, _))))))))).
+      λ κs (number, (bytes, (count, (mark, (numbers, (bits, (counts, (marks, (free, (brokenCount, _)))))))))) x
+      (_, (_, (_, (_, (numbers′, (bits′, (counts′, (broken′, (free′, (brokenCount′, _)))))))))).
       logged number (now bytes) count mark
       (record {
         numbers = now numbers;
@@ -196,14 +203,22 @@ pub record ByContract : Type 0 where
         counts = now counts;
         broken = now marks;
         free = now free;
+        brokenCount = now brokenCount;
       })
       ≡ (
         loggedSays x,
-        record { numbers = numbers′; bits = bits′; counts = counts′; broken = broken′; free = free′ },
+        record {
+          numbers = numbers′;
+          bits = bits′;
+          counts = counts′;
+          broken = broken′;
+          free = free′;
+          brokenCount = brokenCount′;
+        },
       )
   pub log-clear : Says Log.clear.ended Log.clear.Reads.Post
-      λ κs (place, (numbers, (bits, (counts, (marks, (free, _)))))) x
-      (_, (numbers′, (bits′, (counts′, (broken′, (free′, _)))))).
+      λ κs (place, (numbers, (bits, (counts, (marks, (free, (brokenCount, _))))))) x
+      (_, (numbers′, (bits′, (counts′, (broken′, (free′, (brokenCount′, _))))))).
       cleared place
       (record {
         numbers = now numbers;
@@ -211,10 +226,18 @@ pub record ByContract : Type 0 where
         counts = now counts;
         broken = now marks;
         free = now free;
+        brokenCount = now brokenCount;
       })
       ≡ (
         clearedSays x,
-        record { numbers = numbers′; bits = bits′; counts = counts′; broken = broken′; free = free′ },
+        record {
+          numbers = numbers′;
+          bits = bits′;
+          counts = counts′;
+          broken = broken′;
+          free = free′;
+          brokenCount = brokenCount′;
+        },
       )
   pub log-list : Says Log.list.ended Log.list.Reads.Post
       λ κs (numbers, (free, (places, _))) x (_, (_, (places′, _))).
@@ -251,6 +274,10 @@ pub record ByContract : Type 0 where
   pub put-refused : Says Page.put_refused.ended Page.put_refused.Reads.Post
       λ κs (refusal, (out, _)) x (_, (out′, _)).
       lent (refusedLine (numberOf refusal) (placeOf refusal)) (now out) ≡ (putSays x, out′)
+  -- region
+  pub survey-lines : Says Region.survey_lines.ended Region.survey_lines.Reads.Post
+      λ κs (a, (b, (g, (k, (w, (r, (out, _))))))) x (_, (_, (_, (_, (_, (_, (out′, _))))))).
+      surveyLines (region (now a) (now b) (now g) (now k) (now w) (now r)) (now out) ≡ (linesSay x, out′)
   -- the entry points for C
   pub siengulot-judge : Says C.siengulot_judge.ended C.siengulot_judge.Reads.Post
       λ κs (a, (b, (g, (k, (w, (r, (margins, (accepted, _)))))))) x
@@ -360,8 +387,8 @@ pub record ByContract : Type 0 where
       λ κs (words, (out, (place, (count, _)))) x (_, (out′, (place′, (count′, _)))).
       crossing crossed (decoded (now words) (now out)) ≡ ((x, place′, count′), out′)
   pub siengulot-log-event : Says C.siengulot_log_event.ended C.siengulot_log_event.Reads.Post
-      λ κs (number, (bytes, (count, (mark, (numbers, (bits, (counts, (marks, (free, (taken, _)))))))))) x
-      (_, (_, (_, (_, (numbers′, (bits′, (counts′, (broken′, (free′, (taken′, _)))))))))).
+      λ κs (number, (bytes, (count, (mark, (numbers, (bits, (counts, (marks, (free, (brokenCount, (taken, _))))))))))) x
+      (_, (_, (_, (_, (numbers′, (bits′, (counts′, (broken′, (free′, (brokenCount′, (taken′, _))))))))))).
       leaving loggedOver
       (logged number (now bytes) count mark
       (record {
@@ -370,14 +397,22 @@ pub record ByContract : Type 0 where
         counts = now counts;
         broken = now marks;
         free = now free;
+        brokenCount = now brokenCount;
       }))
       ≡ (
         (x, taken′),
-        record { numbers = numbers′; bits = bits′; counts = counts′; broken = broken′; free = free′ },
+        record {
+          numbers = numbers′;
+          bits = bits′;
+          counts = counts′;
+          broken = broken′;
+          free = free′;
+          brokenCount = brokenCount′;
+        },
       )
   pub siengulot-log-clear : Says C.siengulot_log_clear.ended C.siengulot_log_clear.Reads.Post
-      λ κs (place, (numbers, (bits, (counts, (marks, (free, _)))))) x
-      (_, (numbers′, (bits′, (counts′, (broken′, (free′, _)))))).
+      λ κs (place, (numbers, (bits, (counts, (marks, (free, (brokenCount, _))))))) x
+      (_, (numbers′, (bits′, (counts′, (broken′, (free′, (brokenCount′, _))))))).
       leaving clearedOver
       (cleared place
       (record {
@@ -386,8 +421,30 @@ pub record ByContract : Type 0 where
         counts = now counts;
         broken = now marks;
         free = now free;
+        brokenCount = now brokenCount;
       }))
-      ≡ (x, record { numbers = numbers′; bits = bits′; counts = counts′; broken = broken′; free = free′ })
+      ≡ (
+        x,
+        record {
+          numbers = numbers′;
+          bits = bits′;
+          counts = counts′;
+          broken = broken′;
+          free = free′;
+          brokenCount = brokenCount′;
+        },
+      )
   pub siengulot-log-list : Says C.siengulot_log_list.ended C.siengulot_log_list.Reads.Post
       λ κs (numbers, (free, (places, (count, _)))) x (_, (_, (places′, (count′, _)))).
       crossing loggedOver (listed (now numbers) (now free) (now places)) ≡ ((x, count′), places′)
+  pub siengulot-survey : Says C.siengulot_survey.ended C.siengulot_survey.Reads.Post
+      λ κs (a, (b, (g, (k, (w, (r, (margins, (places, (accepted, (place, (count, _))))))))))) x
+      (_, (_, (_, (_, (_, (_, (margins′, (places′, (accepted′, (place′, (count′, _))))))))))).
+      surveyedOver (length (now a)) (record { margins = now margins; places = now places })
+      (surveyed (region (now a) (now b) (now g) (now k) (now w) (now r)))
+      ≡ ((x, place′, count′, accepted′), record { margins = margins′; places = places′ })
+  pub siengulot-survey-lines : Says C.siengulot_survey_lines.ended C.siengulot_survey_lines.Reads.Post
+      λ κs (a, (b, (g, (k, (w, (r, (out, (place, (count, _))))))))) x
+      (_, (_, (_, (_, (_, (_, (out′, (place′, (count′, _))))))))).
+      crossing crossed (surveyLines (region (now a) (now b) (now g) (now k) (now w) (now r)) (now out))
+      ≡ ((x, place′, count′), out′)

@@ -16,6 +16,7 @@ use Rattle.measure.specs.declared.Refusal.{Refusal}
 use Rattle.settings.specs.Margins.{Ends}
 use Rattle.settings.specs.Answers.{judgement, quietJudgement}
 use Rattle.settings.specs.Pick.{Best, Picks}
+use Rattle.settings.specs.Survey.{Region, reportOf, surveyed}
 use Rattle.sender.specs.Sending.{wave, planWave, rowsOf}
 use Rattle.sender.specs.Answers.{sentMessage, sentPlan}
 use Rattle.stored.specs.Stored.{joined, dropped}
@@ -63,6 +64,8 @@ use Rattle.log.specs.Sequence.{AnySequence}
 use Rattle.log.specs.LastEvents.{KeepsLast}
 use Rattle.page.specs.Lines.{headingLine, eventLine, endLine, refusedLine, page, captureSettings, captureReads, output}
 use Rattle.page.specs.Walk.{Whole}
+use Rattle.region.specs.Lines.{reportLines}
+use Rattle.region.specs.Answers.{surveyLines}
 use Rattle.promises.specs.GoodInput as Good
 use Rattle.promises.specs.Promised.{Answered, Tells, Fills, Puts, judged as judgedSettings, quietJudged}
 use Rattle.promises.specs.Promised.{unstarted}
@@ -93,6 +96,10 @@ pub record Demand1 : Type 0 where
   -- the answer that the picker's contract allows, told of the best k
   pub pick : (a b g k : ℕ) (e : Ends) (answer : Answer ℕ) → Picks a b g e answer → Best a b g k e
       → Tells (Good.pick a b g k e) k answer
+  -- the survey of a region, and its lines; with no boards the report is a case of its own
+  pub survey : (s : Region) → Tells (Good.survey s) (reportOf s) (surveyed s)
+  pub survey-lines : (s : Region) (output : List ℕ)
+      → Fills (Good.surveyLines s output) (reportLines (reportOf s)) output (surveyLines s output)
   pub send : (a b p1 : ℕ) (bits output : List ℕ)
       → Fills (Good.send a b p1 bits output) (wave a b p1 bits) output (sentMessage a b p1 bits output)
   pub send-plan : (a b n : ℕ) (leads bits output : List ℕ)
@@ -262,7 +269,7 @@ pub record Demand3Met : Type 0 where
   pub every-stored-plan : EveryStoredPlan
   pub stored-plans : StoredPlansHold
 
--- D1, D2, D3: what the contracts say, and the three demands, the first also of the twenty-eight entry points for C
+-- D1, D2, D3: what the contracts say, and the three demands, the first also of the thirty entry points for C
 pub record Demands : Type 0 where
   pub contracts : ByContract
   pub one-meaning : OneMeaning

@@ -1,14 +1,16 @@
--- Demand 1 of the twenty-eight entry points for C. The tests are those of the operations. What crosses is a number, 0
+-- Demand 1 of the thirty entry points for C. The tests are those of the operations. What crosses is a number, 0
 -- for no refusal, and what is left behind each pointer.
 use Prim.Native.Nat.{ℕ}
 use mathlib.Core.List.{List, [], _∷_}
 use lib.IntN.{ℤ}
+use lib.Dec.{eqb}
 use lib.ListN.{length, replicate}
 use Rattle.measure.specs.Choose.{choose}
 use Rattle.measure.specs.Lists.{onto}
 use Rattle.settings.specs.Margins.{Ends, m1, m2, m3, m4, m5, accepted, quietAccepted}
 use Rattle.settings.specs.Answers.{judgement, quietJudgement}
 use Rattle.settings.specs.Pick.{Best}
+use Rattle.settings.specs.Survey.{Region, boards, figuresOf, reportOf, surveyed}
 use Rattle.sender.specs.Sending.{wave, planWave, rowsOf}
 use Rattle.sender.specs.Answers.{sentMessage, sentPlan}
 use Rattle.stored.specs.Stored.{joined, dropped}
@@ -34,12 +36,15 @@ use Rattle.log.specs.Answers.{logged, cleared, listed}
 use Rattle.capture.specs.Answers.{checked, readBack, written}
 use Rattle.timecode.specs.Times.{wordOf}
 use Rattle.timecode.specs.Answers.{listedInto, readTimes, writeTime}
+use Rattle.region.specs.Lines.{reportLines}
+use Rattle.region.specs.Answers.{surveyLines}
 use Rattle.siengulot.specs.Crossing.{crossed, crossedBits, crossing, flag, judgedThree, judgedFive, summed}
 use Rattle.siengulot.specs.Receivers.{Lent, Reply, named, numbersFit, receiverLent, brought, broughtBy, begunLent}
 use Rattle.siengulot.specs.Receivers.{steppedLent, listenedLent, wellFormedLent}
 use Rattle.siengulot.specs.Picking.{PickCrosses}
 use Rattle.siengulot.specs.StoredPlans.{joinedOver}
 use Rattle.siengulot.specs.Logs.{loggedOver, clearedOver, leaving}
+use Rattle.siengulot.specs.Surveys.{Found, surveyedOver}
 use Rattle.promises.specs.GoodInput as Good
 use Rattle.promises.specs.Promised.{Answered, FillsFromC, setting}
 
@@ -152,3 +157,17 @@ pub record Demand1FromC : Type 0 where
       → Answered (Good.logList numbers free output) (crossing loggedOver (listed numbers free output))
       ((0, length (listing numbers free)), onto (listing numbers free) output)
       (λ number place. ((number, 0), output))
+  -- H20: the survey: how many boards there are and how many are accepted, both 0 with a refusal, and the smallest
+  -- margins with their places, which a refusal and a region with no boards leave
+  pub survey : (s : Region) (lent : Found)
+      → Answered (Good.survey s) (surveyedOver (boards s) lent (surveyed s))
+      (let f = figuresOf s in choose (eqb (boards s) 0) ((0, 0, 0, 0), lent) (
+        (0, 0, boards s, f .accepted),
+        record {
+          margins = f .m1 .margin ∷ f .m2 .margin ∷ f .m3 .margin ∷ [];
+          places = f .m1 .place ∷ f .m2 .place ∷ f .m3 .place ∷ [];
+        },
+      )) (λ number place. ((number, place, 0, 0), lent))
+  pub survey-lines : (s : Region) (output : List ℕ)
+      → FillsFromC (Good.surveyLines s output) (reportLines (reportOf s)) output
+      (crossing crossed (surveyLines s output))

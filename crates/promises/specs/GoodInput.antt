@@ -13,6 +13,7 @@ use Rattle.measure.specs.Lists.{firstAbove, someAbove}
 use Rattle.settings.specs.Margins.{Ends, zeroOrMore}
 use Rattle.settings.specs.Answers.{endsFit}
 use Rattle.settings.specs.Pick.{least, pickable}
+use Rattle.settings.specs.Survey.{Region, boards, boardsMost, listsFit, firstUnfit, reportOf}
 use Rattle.sender.specs.Sending.{wave, planWave, rowsOf}
 use Rattle.sender.specs.Answers.{fitting, padded}
 use Rattle.stored.specs.Stored.{joined}
@@ -35,7 +36,8 @@ use Rattle.timecode.specs.Words.{wordPlaces}
 use Rattle.timecode.specs.Times.{timeFits, wordOf}
 use Rattle.log.specs.Records.{Log}
 use Rattle.log.specs.Order.{listing, later}
-use Rattle.log.specs.Answers.{logFits}
+use Rattle.log.specs.Answers.{logFits, countHolds}
+use Rattle.region.specs.Lines.{reportLines}
 use Rattle.siengulot.specs.Receivers.{Lent, named, numbersFit, receiverLent}
 use Rattle.promises.specs.Promised.{Test, setting, limit, entries, entry, room}
 
@@ -55,6 +57,23 @@ abbrev pub pick : (a b g k : ℕ) (e : Ends) → List Test
 pick a b g k e =
     setting (pickable a b g e)
     ∷ record { number = 9; place = 0; failed = not (zeroOrMore (least a b g k e)) }
+    ∷ []
+
+-- R90: the survey: the first board with a setting out of range has its place
+abbrev pub unfit : Region → Test
+unfit s = record { number = 1; place = firstUnfit s; failed = ltb (firstUnfit s) (boards s) }
+
+-- R90
+abbrev pub survey : Region → List Test
+survey s = setting (listsFit s) ∷ unfit s ∷ limit boardsMost (s .a) ∷ []
+
+-- R91: its lines
+abbrev pub surveyLines : (s : Region) (output : List ℕ) → List Test
+surveyLines s output =
+    setting (listsFit s)
+    ∷ unfit s
+    ∷ limit boardsMost (s .a)
+    ∷ room (length (reportLines (reportOf s))) output
     ∷ []
 
 -- R42: sending; a plan is lent as its lead pads and the bits of all rows
@@ -340,14 +359,21 @@ abbrev pub laterThanAll : (number : ℕ) → Log → Test
 laterThanAll number log =
     record { number = 12; place = 0; failed = not (later (log .numbers) (log .free) number logRecords) }
 
+-- R13: the stored count is that of the broken records
+abbrev pub trueCount : Log → Test
+trueCount log = record { number = 13; place = 0; failed = not (countHolds log) }
+
 -- R80: logging an event
 abbrev pub logEvent : (number : ℕ) (bits : List ℕ) (count : ℕ) → Log → List Test
 logEvent number bits count log =
-    setting (logFits log && eqb (length bits) recordBytes && leb count bitsMost) ∷ laterThanAll number log ∷ []
+    setting (logFits log && eqb (length bits) recordBytes && leb count bitsMost)
+    ∷ trueCount log
+    ∷ laterThanAll number log
+    ∷ []
 
 -- R81: clearing a record
 abbrev pub logClear : (place : ℕ) → Log → List Test
-logClear place log = setting (logFits log && ltb place logRecords) ∷ []
+logClear place log = setting (logFits log && ltb place logRecords) ∷ trueCount log ∷ []
 
 -- R82: listing the records in use
 abbrev pub logList : (numbers free output : List ℕ) → List Test

@@ -26,6 +26,7 @@ use Rattle.timecode.proofs as Timecode
 use Rattle.log.proofs as Log
 use Rattle.text.proofs as Text
 use Rattle.page.proofs as Page
+use Rattle.region.proofs as Region
 use Rattle.siengulot.proofs as C
 
 -- D30: what a contract asks of a call's arguments
@@ -64,6 +65,7 @@ pub record OneMeaning : Type 0 where
   pub judge-quiet-ends :
       One Settings.judge_quiet_ends.ended Settings.judge_quiet_ends.Reads.Asked Settings.judge_quiet_ends.Reads.Post
   pub pick-ends : One Settings.pick_ends.ended Settings.pick_ends.Reads.Asked Settings.pick_ends.Reads.Post
+  pub survey : One Settings.survey.ended Settings.survey.Reads.Asked Settings.survey.Reads.Post
   -- sender
   pub send : One Sender.send.ended Sender.send.Reads.Asked Sender.send.Reads.Post
   pub send-plan : One Sender.send_plan.ended Sender.send_plan.Reads.Asked Sender.send_plan.Reads.Post
@@ -116,6 +118,8 @@ pub record OneMeaning : Type 0 where
   pub put-broken : One Page.put_broken.ended Page.put_broken.Reads.Asked Page.put_broken.Reads.Post
   pub put-end : One Page.put_end.ended Page.put_end.Reads.Asked Page.put_end.Reads.Post
   pub put-refused : One Page.put_refused.ended Page.put_refused.Reads.Asked Page.put_refused.Reads.Post
+  -- region
+  pub survey-lines : One Region.survey_lines.ended Region.survey_lines.Reads.Asked Region.survey_lines.Reads.Post
   -- the entry points for C
   pub siengulot-judge : One C.siengulot_judge.ended C.siengulot_judge.Reads.Asked C.siengulot_judge.Reads.Post
   pub siengulot-judge-quiet :
@@ -162,6 +166,9 @@ pub record OneMeaning : Type 0 where
       One C.siengulot_log_clear.ended C.siengulot_log_clear.Reads.Asked C.siengulot_log_clear.Reads.Post
   pub siengulot-log-list :
       One C.siengulot_log_list.ended C.siengulot_log_list.Reads.Asked C.siengulot_log_list.Reads.Post
+  pub siengulot-survey : One C.siengulot_survey.ended C.siengulot_survey.Reads.Asked C.siengulot_survey.Reads.Post
+  pub siengulot-survey-lines :
+      One C.siengulot_survey_lines.ended C.siengulot_survey_lines.Reads.Asked C.siengulot_survey_lines.Reads.Post
   -- The exceptions: the held reader's `capture::held::new`, `capture::held::place`, `capture::held::next` and
   -- `capture::held::advance` take or hand on a struct that holds a reference. They are proved by hand, and for such a
   -- function the check makes no clause that others can name. These lines repeat their equations.

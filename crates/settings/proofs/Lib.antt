@@ -12,3 +12,6 @@ pub mod Grows
 pub mod PickRanges
 pub mod BestCount
 pub mod PickHolds
+pub mod Places
+pub mod LeastMargin
+pub mod Going

@@ -4,3 +4,4 @@ pub mod Cases
 pub mod Pick
 pub mod PickShown
 pub mod Turning
+pub mod Survey

@@ -1,6 +1,7 @@
 // Judging settings: the margins of the rules as signed numbers, and yes or no. Each margin is over the ends of the two
 // clocks, w1 to w2 and r1 to r2; steady clocks are those whose ends are equal.
 mod picking;
+mod surveying;
 
 ghost use mathlib.Core.Path.{_≡_};
 ghost use mathlib.Core.Bool.{true, _&&_};
@@ -27,6 +28,10 @@ use measure::WriterCycles;
 pub use picking::Picked;
 pub use picking::pick;
 pub use picking::pick_ends;
+pub use surveying::Figures;
+pub use surveying::Smallest;
+pub use surveying::Surveyed;
+pub use surveying::survey;
 
 // M1, M2 and M3, in time units.
 pub struct Margins {

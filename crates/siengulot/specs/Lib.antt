@@ -2,4 +2,5 @@ pub mod Crossing
 pub mod Picking
 pub mod StoredPlans
 pub mod Logs
+pub mod Surveys
 pub mod Receivers

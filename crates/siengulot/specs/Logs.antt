@@ -1,5 +1,5 @@
 -- What crosses to C of the log's answers. A log crosses as its five lists, whose lengths are those of the header's
--- arrays.
+-- arrays, and its count.
 use Prim.Native.Nat.{ℕ}
 use Rattle.measure.specs.Refusals.{Answer, given, refused, refusedAfter}
 use Rattle.log.specs.Records.{Log}

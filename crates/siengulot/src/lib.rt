@@ -10,6 +10,7 @@ mod picking;
 mod plans;
 mod receiver;
 mod state;
+mod surveys;
 mod words;
 
 pub use captures::siengulot_capture_check;
@@ -38,5 +39,7 @@ pub use receiver::siengulot_fresh;
 pub use receiver::siengulot_listen;
 pub use receiver::siengulot_step;
 pub use receiver::siengulot_well_formed;
+pub use surveys::siengulot_survey;
+pub use surveys::siengulot_survey_lines;
 pub use words::siengulot_decode;
 pub use words::siengulot_encode;

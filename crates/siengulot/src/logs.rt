@@ -1,4 +1,4 @@
-// The log of a bay: logging an event, clearing a record, listing, on five lists that C lends.
+// The log of a bay: logging an event, clearing a record, listing, on five lists and a count that C lends.
 ghost use mathlib.Core.Path.{_≡_};
 ghost use Rattle.log.specs.Answers.{logged, cleared, listed, loggedSays, clearedSays, listedSays};
 ghost use Rattle.siengulot.specs.Crossing.{crossing};
@@ -55,8 +55,8 @@ fn of_listed(answer: Listed, count: &mut usize) -> usize
 }
 
 // Logs an event. Gives in `taken` the place of its record: the lowest free one, or the oldest where none is free.
-// Refuses with 1 (a count above 1,024), 12 (a read number that is not above all in use): the lists are left, and
-// `taken` is 0.
+// Refuses with 1 (a bit count above 1,024), 13 (a count that is not that of the broken records), 12 (a read number that
+// is not above all in use): the log is left, and `taken` is 0.
 #[no_mangle]
 pub extern "C" fn siengulot_log_event(
     number: u64,
@@ -68,6 +68,7 @@ pub extern "C" fn siengulot_log_event(
     counts: &mut [usize; RECORDS],
     broken: &mut [u8; RECORDS],
     free: &mut [u8; RECORDS],
+    broken_count: &mut usize,
     taken: &mut usize,
 ) -> usize
     ensures { λ x. ⌜ leaving loggedOver (logged number (now (row .entry)) count mark
@@ -77,6 +78,7 @@ pub extern "C" fn siengulot_log_event(
           counts = now (counts .entry);
           broken = now (broken .entry);
           free = now (free .entry);
+          brokenCount = now («broken_count» .entry);
         }))
         ≡ (
           (x, now (taken .exit)),
@@ -86,6 +88,7 @@ pub extern "C" fn siengulot_log_event(
             counts = now (counts .exit);
             broken = now (broken .exit);
             free = now (free .exit);
+            brokenCount = now («broken_count» .exit);
           },
         ) ⌝ }
 {
@@ -99,12 +102,13 @@ pub extern "C" fn siengulot_log_event(
         counts,
         broken,
         free,
+        broken_count,
     );
     of_logged(answer, taken)
 }
 
 // Clears the record at a place, and leaves a free one as it is.
-// Refuses with 1 (a place above 63): the lists are left.
+// Refuses with 1 (a place above 63), 13 (a count that is not that of the broken records): the log is left.
 #[no_mangle]
 pub extern "C" fn siengulot_log_clear(
     place: usize,
@@ -113,6 +117,7 @@ pub extern "C" fn siengulot_log_clear(
     counts: &mut [usize; RECORDS],
     broken: &mut [u8; RECORDS],
     free: &mut [u8; RECORDS],
+    broken_count: &mut usize,
 ) -> usize
     ensures { λ x. ⌜ leaving clearedOver (cleared place
         (record {
@@ -121,6 +126,7 @@ pub extern "C" fn siengulot_log_clear(
           counts = now (counts .entry);
           broken = now (broken .entry);
           free = now (free .entry);
+          brokenCount = now («broken_count» .entry);
         }))
         ≡ (
           x,
@@ -130,10 +136,11 @@ pub extern "C" fn siengulot_log_clear(
             counts = now (counts .exit);
             broken = now (broken .exit);
             free = now (free .exit);
+            brokenCount = now («broken_count» .exit);
           },
         ) ⌝ }
 {
-    let answer = log::clear(place, numbers, bits, counts, broken, free);
+    let answer = log::clear(place, numbers, bits, counts, broken, free, broken_count);
     of_cleared(answer)
 }
 

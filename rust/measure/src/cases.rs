@@ -6,6 +6,7 @@ use crate::library::*;
 use crate::logs;
 use crate::numbers::{at, numbers_of, NUMBERS};
 use crate::picking;
+use crate::surveying;
 use crate::words;
 use siengulot_plain::board::{Event, Listener, Receiver, Report};
 use siengulot_plain::{capture, counted, line, sender, settings, stored, timecode};
@@ -99,6 +100,27 @@ pub fn all() -> Vec<Case> {
             "1.2",
             SIZES,
             ends::pick,
+        ),
+        case(
+            "survey, Rust puts the margins in order",
+            "board",
+            "–",
+            [400, 4_000],
+            surveying::beside_order,
+        ),
+        case(
+            "survey, Rust in one pass too",
+            "board",
+            "1.1",
+            [400, 4_000],
+            surveying::beside_one_pass,
+        ),
+        case(
+            "survey's lines, 20 boards",
+            "call",
+            "–",
+            [100, 1_000],
+            surveying::lines,
         ),
         case("send, 5/13 cells", "cycle", "1.5", [100, 1_000], send),
         case("plan, 5/13 cells, n 80", "cycle", "1.5", [66, 660], plan),

@@ -14,6 +14,7 @@ struct Lists {
     counts: [usize; RECORDS],
     broken: [u8; RECORDS],
     free: [u8; RECORDS],
+    broken_count: usize,
 }
 
 /// All in use, with read numbers from 1 on that go round from a place on.
@@ -24,6 +25,7 @@ fn full(first: usize) -> Box<Lists> {
         counts: [80; RECORDS],
         broken: [0; RECORDS],
         free: [0; RECORDS],
+        broken_count: 0,
     });
     for place in 0..RECORDS {
         lists.numbers[(first + place) % RECORDS] = 1 + place as u64;
@@ -56,6 +58,7 @@ pub fn logging(calls: usize) -> Work {
                         ours.counts.as_mut_ptr(),
                         ours.broken.as_mut_ptr(),
                         ours.free.as_mut_ptr(),
+                        &mut ours.broken_count,
                         &mut taken,
                     )
                 };
@@ -80,6 +83,7 @@ pub fn logging(calls: usize) -> Work {
                     counts: &mut lists.counts,
                     broken: &mut lists.broken,
                     free: &mut lists.free,
+                    broken_count: &mut lists.broken_count,
                 };
                 let taken = log_event(event, &mut log).expect("is logged");
                 lent.told[0] += taken as i64;
@@ -115,6 +119,7 @@ pub fn logging_and_clearing(calls: usize) -> Work {
                         ours.counts.as_mut_ptr(),
                         ours.broken.as_mut_ptr(),
                         ours.free.as_mut_ptr(),
+                        &mut ours.broken_count,
                         &mut taken,
                     )
                 };
@@ -128,6 +133,7 @@ pub fn logging_and_clearing(calls: usize) -> Work {
                         ours.counts.as_mut_ptr(),
                         ours.broken.as_mut_ptr(),
                         ours.free.as_mut_ptr(),
+                        &mut ours.broken_count,
                     )
                 };
                 assert_eq!(refused, 0);
@@ -149,6 +155,7 @@ pub fn logging_and_clearing(calls: usize) -> Work {
                     counts: &mut lists.counts,
                     broken: &mut lists.broken,
                     free: &mut lists.free,
+                    broken_count: &mut lists.broken_count,
                 };
                 let taken = log_event(event, &mut log).expect("is logged");
                 lent.told[0] += i64::from(log.bits[taken * ROW_BYTES + i % ROW_BYTES]);

@@ -14,6 +14,7 @@ mod logs;
 #[path = "../../differential/numbers.rs"]
 mod numbers;
 mod picking;
+mod surveying;
 mod words;
 
 use cases::{Lent, Work};
