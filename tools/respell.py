@@ -55,7 +55,32 @@ CHOSEN = {
     "write-time": "write_time_says",
     "row-settings-fit": "row_settings_fit_says",
 }
-KEPT = set()
+# Names that are given in a `use` line or bound in a file, and declared nowhere.
+BOUND = {
+    "countAdds": "count_adds",
+    "countedOf": "counted_of",
+    "currentRead": "current_read",
+    "flagOf": "flag_of",
+    "freshState": "fresh_state",
+    "isBetween": "is_between",
+    "isLater": "is_later",
+    "isPickable": "is_pickable",
+    "isTimed": "is_timed",
+    "judgedSettings": "judged_settings",
+    "linesSay": "lines_say",
+    "longerRun": "longer_run",
+    "lowerOf": "lower_of",
+    "nextState": "next_state",
+    "placeTaken": "place_taken",
+    "reportsOf": "reports_of",
+    "settlingCount": "settling_count",
+    "timesSays": "times_says",
+    "warpingByLengths": "warping_by_lengths",
+    "wordSays": "word_says",
+    "cycleLengths": "cycle_lengths",
+    "runLevel": "run_level",
+    "brokenCount'": "broken_count'",
+}
 
 
 def snake(name):
@@ -108,10 +133,8 @@ def foreign(text):
 
 def table():
     names = declared()
-    made = {}
+    made = dict(BOUND)
     for name in names:
-        if name in KEPT:
-            continue
         new = CHOSEN.get(name)
         if new is None and (re.match(r"[a-z]", name) or re.match(r"(?:Q|[A-Z][0-9]+)-", name)):
             new = snake(name)

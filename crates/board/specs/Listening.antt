@@ -40,8 +40,8 @@ pub record Keeps (g : Settings) (now : Numbers) (bytes : List ℕ) : Type 0 wher
   pub whole : receiver_of g (state_of (keeping g now bytes)) ≡ keeping g now bytes
 
 -- how long a run is that was still short of Q, one read later
-abbrev pub longer : (run runLevel read : ℕ) → ℕ
-longer run runLevel read = choose (eqb read runLevel) (run + 1) 1
+abbrev pub longer : (run run_level read : ℕ) → ℕ
+longer run run_level read = choose (eqb read run_level) (run + 1) 1
 
 -- a move that brings an event is the outcome, with the reads used by then; one that brings nothing leaves it to the
 -- rest of the reads

@@ -16,8 +16,8 @@ run_fits Counting run Q = leb 1 run && ltb run Q
 run_fits Waiting run Q = leb 1 run && ltb run Q
 
 -- B28: the run's level is a level, and high as long as there is no run
-abbrev pub run_level_fits : (run runLevel : ℕ) → Bool
-run_level_fits run runLevel = choose (eqb run 0) (eqb runLevel 1) (leb runLevel 1)
+abbrev pub run_level_fits : (run run_level : ℕ) → Bool
+run_level_fits run run_level = choose (eqb run 0) (eqb run_level 1) (leb run_level 1)
 
 -- B22: only a counting receiver has reads left up to a sample, at least one and no more than k
 abbrev pub left_fits : Mode → (left k : ℕ) → Bool
@@ -34,11 +34,11 @@ found_fits Counting found n = ltb found n
 found_fits Waiting found n = ltb found n
 
 -- B25: what is kept is a level: high in hunting, the run's in ready
-abbrev pub level_fits : Mode → (level runLevel : ℕ) → Bool
-level_fits Hunting level runLevel = eqb level 1
-level_fits Ready level runLevel = eqb level runLevel
-level_fits Counting level runLevel = leb level 1
-level_fits Waiting level runLevel = leb level 1
+abbrev pub level_fits : Mode → (level run_level : ℕ) → Bool
+level_fits Hunting level run_level = eqb level 1
+level_fits Ready level run_level = eqb level run_level
+level_fits Counting level run_level = leb level 1
+level_fits Waiting level run_level = leb level 1
 
 -- B24: every entry is 0
 abbrev pub all_zero : List ℕ → Bool

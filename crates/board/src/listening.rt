@@ -3,7 +3,7 @@
 ghost use Rattle.std.specs.Prelude.{◌≡◌, true, [], ◌∷◌, ◌++◌, ◌+◌, ◌^◌, ◌≤◌, ◌<◌, length};
 ghost use Rattle.board.specs.Rows.{run_of, hunting, ready, counting, waiting, collected, marked};
 ghost use Rattle.board.specs.Packed.{kept, state_of};
-ghost use Rattle.board.specs.Listening.{settings_from, keeping, Keeps, longer as longerRun, Seeks, Hears};
+ghost use Rattle.board.specs.Listening.{settings_from, keeping, Keeps, longer as longer_run, Seeks, Hears};
 ghost use Rattle.measure.specs.Ranges.{row_settings_fit};
 ghost use Rattle.measure.specs.Cells.{bit_of};
 
@@ -34,7 +34,7 @@ enum Sought {
 // The run after a read, where it was below Q before and so cannot pass it.
 pub fn longer(run: usize, runlevel: u8, read: u8) -> usize
     requires { run + 1 < 2 ^ 64 }
-    ensures { longerRun run runlevel read ≡ result }
+    ensures { longer_run run runlevel read ≡ result }
 {
     if read == runlevel { run + 1 } else { 1 }
 }

@@ -1,7 +1,7 @@
 // Reading a capture: its numbers, its header, the check of its runs, and its reads.
 ghost use Rattle.std.specs.Prelude.{◌≡◌, true, ℕ, ◌+◌, ◌≤◌, ◌<◌, leb, drop, length, replicate};
 ghost use Rattle.std.proofs.lemmas.List.Edits.{sets};
-ghost use Rattle.measure.specs.Choose.{between as isBetween};
+ghost use Rattle.measure.specs.Choose.{between as is_between};
 ghost use Rattle.measure.specs.Refusals.{given};
 ghost use Rattle.capture.specs.Numbers.{before, bound, following, further, group, number_at};
 ghost use Rattle.capture.specs.Capture.{fitting_at, four_numbers, header, reads_of_runs, runs_from, then, with_runs};
@@ -102,7 +102,7 @@ pub fn number_at(bytes: &[u8], at: usize) -> Number
 // The number at a place, which has to lie from `least` to `most`. Refuses with 8 where it does not, and with 6 or 7
 // before that.
 fn fitting_at(bytes: &[u8], at: usize, least: usize, most: usize) -> Number
-    ensures { fitting_at (isBetween least most) bytes.now at ≡ number_says result }
+    ensures { fitting_at (is_between least most) bytes.now at ≡ number_says result }
 {
     let number = number_at(bytes, at);
     let Number::Is(v, _) = number else {

@@ -1,7 +1,7 @@
 // The counted receiver: n bits out of a list of reads, with no quiet.
 ghost use Rattle.std.specs.Prelude.{◌≡◌, ◌+◌, ◌^◌, ◌≤◌, ◌<◌, length, drop};
 ghost use Rattle.measure.specs.Cells.{bit_of};
-ghost use Rattle.counted.specs.Counted.{from_mark, counted, current as currentRead};
+ghost use Rattle.counted.specs.Counted.{from_mark, counted, current as current_read};
 ghost use Rattle.counted.specs.Answers.{counted_in_range, counted_into, counted_bits, counted_says};
 
 use measure::{BITS_MOST, ENTRIES_MOST, HIGH, ReadCycles, Refusal, SAMPLING_LEAST, SAMPLING_MOST};
@@ -60,7 +60,7 @@ fn bit(mark: u8, sample: u8) -> u8
 fn count_into(k: ReadCycles, n: usize, level: u8, reads: &[u8], out: &mut [u8]) -> Received
     requires { n ≤ length out.old }
     ensures { counted_into n (counted k.0 n level reads.now)
-        (currentRead k.0 n level reads.now) out.old ≡ (counted_says result, out.new) }
+        (current_read k.0 n level reads.now) out.old ≡ (counted_says result, out.new) }
 {
     let mut held = level;
     let mut current = 0;

@@ -11,7 +11,7 @@ ghost use Rattle.line.specs.Warp.{cycle_start, reconcile as agree, look, warp as
 ghost use Rattle.line.specs.Settle.{next_choice, settle as settling};
 ghost use Rattle.line.specs.Sharing.{read_count};
 ghost use Rattle.line.specs.Looking.{read_from, left_from, block_most, GoesOn, Onward, Finds};
-ghost use Rattle.line.specs.Answers.{smoothed, timed as isTimed, warped, settled, smoothed_says, read_says};
+ghost use Rattle.line.specs.Answers.{smoothed, timed as is_timed, warped, settled, smoothed_says, read_says};
 
 use measure::{
     CYCLE_LEAST, CYCLE_MOST, ENTRIES_MOST, HIGH, ReadCycles, Refusal, SETTLING_LEAST,
@@ -70,7 +70,7 @@ pub fn smooth(wave: &[u8], g: WriterCycles, out: &mut [u8]) -> Smoothed
 
 // Tells whether w and r are in range and p is below w.
 fn timed(w: TimeUnits, r: TimeUnits, p: TimeUnits) -> bool
-    ensures { isTimed w.0 r.0 p.0 ≡ result }
+    ensures { is_timed w.0 r.0 p.0 ≡ result }
 {
     let cycle = w.0;
     let read = r.0;
@@ -86,7 +86,7 @@ fn timed(w: TimeUnits, r: TimeUnits, p: TimeUnits) -> bool
 
 // The number of reads of so many cycles: every whole read that fits after the phase.
 fn count(cycles: WriterCycles, w: TimeUnits, r: TimeUnits, p: TimeUnits) -> ReadCycles
-    requires { (isTimed w.0 r.0 p.0 ≡ true) × (cycles.0 ≤ entries_most) }
+    requires { (is_timed w.0 r.0 p.0 ≡ true) × (cycles.0 ≤ entries_most) }
     ensures { read_count w.0 r.0 p.0 cycles.0 ≡ result.0 }
 {
     let all = cycles.0;
@@ -287,7 +287,7 @@ fn one_read(
 // Writes the reads one after another. The end of the current read and that of the first cycle left are carried along:
 // no end is a product.
 fn warp_into(wave: &[u8], w: TimeUnits, r: TimeUnits, p: TimeUnits, n: ReadCycles, out: &mut [u8])
-    requires { (isTimed w.0 r.0 p.0 ≡ true) × (length wave.now ≤ entries_most)
+    requires { (is_timed w.0 r.0 p.0 ≡ true) × (length wave.now ≤ entries_most)
         × (read_count w.0 r.0 p.0 (length wave.now) ≡ n.0) × (n.0 ≤ length out.old) }
     ensures { onto (warping w.0 r.0 p.0 wave.now) out.old ≡ out.new }
 {

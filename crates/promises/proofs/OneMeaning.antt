@@ -44,7 +44,7 @@ use Rattle.timecode.specs.declared.Read.{Read as Times}
 use Rattle.timecode.specs.declared.Read.TheVariants as T
 use Rattle.timecode.specs.declared.Written.{Written as Word}
 use Rattle.timecode.specs.declared.Written.TheVariants as Y
-use Rattle.timecode.specs.Answers.{read_says as timesSays, written_says as wordSays}
+use Rattle.timecode.specs.Answers.{read_says as times_says, written_says as word_says}
 use Rattle.board.specs.Rows.{Event, nothing, row, broken}
 use Rattle.board.specs.declared.Event.{Event as CodeEvent}
 use Rattle.board.specs.declared.Event.TheVariants as E
@@ -82,7 +82,7 @@ use Rattle.page.specs.declared.Put.TheVariants as P
 use Rattle.page.specs.Answers.{put_says}
 use Rattle.region.specs.declared.Put.{Put as PutLines}
 use Rattle.region.specs.declared.Put.TheVariants as Report
-use Rattle.region.specs.Answers.{put_says as linesSay}
+use Rattle.region.specs.Answers.{put_says as lines_say}
 use Rattle.siengulot.specs.Surveys.{Found}
 use Rattle.siengulot.specs.Receivers.{Reply, Lent}
 use Rattle.siengulot.specs.Picking.{picked_over}
@@ -599,7 +599,7 @@ one_meaning = record {
     survey_back (Survey.Boards f) = refl
     survey_back (Survey.Refused f) = ap Survey.Refused (refusal_back f)
 
-    lines_back : (x : PutLines) → plain Report.Lines Report.Refused (linesSay x) ≡ x
+    lines_back : (x : PutLines) → plain Report.Lines Report.Refused (lines_say x) ≡ x
     lines_back (Report.Lines n) = refl
     lines_back (Report.Refused f) = ap Report.Refused (refusal_back f)
 
@@ -654,12 +654,12 @@ one_meaning = record {
     count_back (C.RanOut n at) = refl
     count_back (C.Refused f) = ap C.Refused (refusal_back f)
 
-    times_back : (x : Times) → answer T.Times T.Refused T.BadWord (timesSays x) ≡ x
+    times_back : (x : Times) → answer T.Times T.Refused T.BadWord (times_says x) ≡ x
     times_back (T.Times n) = refl
     times_back (T.BadWord at n) = refl
     times_back (T.Refused f) = ap T.Refused (refusal_back f)
 
-    word_back : (x : Word) → plain Y.Bits Y.Refused (wordSays x) ≡ x
+    word_back : (x : Word) → plain Y.Bits Y.Refused (word_says x) ≡ x
     word_back (Y.Bits n) = refl
     word_back (Y.Refused f) = ap Y.Refused (refusal_back f)
 
@@ -735,7 +735,7 @@ one_meaning = record {
     survey_said = record { says = surveyed_says; back = plain report Survey.Refused; turns = survey_back }
 
     lines_said : Said PutLines (Answer ℕ)
-    lines_said = record { says = linesSay; back = plain Report.Lines Report.Refused; turns = lines_back }
+    lines_said = record { says = lines_say; back = plain Report.Lines Report.Refused; turns = lines_back }
 
     sent : Said Sent (Answer ℕ)
     sent = record { says = sent_says; back = plain (λ n. S.Wave (record { 0 = n })) S.Refused; turns = send_back }
@@ -768,10 +768,10 @@ one_meaning = record {
     }
 
     times_said : Said Times (Answer ℕ)
-    times_said = record { says = timesSays; back = answer T.Times T.Refused T.BadWord; turns = times_back }
+    times_said = record { says = times_says; back = answer T.Times T.Refused T.BadWord; turns = times_back }
 
     word_said : Said Word (Answer ℕ)
-    word_said = record { says = wordSays; back = plain Y.Bits Y.Refused; turns = word_back }
+    word_said = record { says = word_says; back = plain Y.Bits Y.Refused; turns = word_back }
 
     start_said : Said Start (Answer Event)
     start_said = record { says = start_says; back = plain (λ e. F.Fresh) F.Refused; turns = start_back }

@@ -7,7 +7,7 @@ use lib.Dec.{eqb, leb, ltb}
 use lib.ListN.{length, take}
 use Rattle.measure.specs.Choose.{choose}
 use Rattle.measure.specs.Ranges.{subcell, sampling, quiet, pad_most, bits_most, row_bits, rows_most, entries_most}
-use Rattle.measure.specs.Ranges.{settling as settlingCount, input_most, words_most, row_settings_fit}
+use Rattle.measure.specs.Ranges.{settling as settling_count, input_most, words_most, row_settings_fit}
 use Rattle.measure.specs.Ranges.{log_records, record_bytes}
 use Rattle.measure.specs.Refusals.{Answer, given, refused, number_of, place_of}
 use Rattle.settings.specs.Answers.{in_range, judgement, quiet_judgement}
@@ -24,7 +24,7 @@ use Rattle.halfcells.specs.HalfCells.{words_of, bytes_of}
 use Rattle.halfcells.specs.Answers.{encoded, decoded}
 use Rattle.line.specs.Smooth.{smooth as smoothing}
 use Rattle.line.specs.Warp.{warp as warping}
-use Rattle.line.specs.Wander.{warp_by_lengths as warpingByLengths}
+use Rattle.line.specs.Wander.{warp_by_lengths as warping_by_lengths}
 use Rattle.line.specs.Settle.{settle as settling}
 use Rattle.line.specs.Answers.{smoothed, warped, warped_by_lengths, settled, timed, lengths_fit}
 use Rattle.counted.specs.Answers.{counted_bits}
@@ -118,7 +118,7 @@ answered = record {
       (past (limit rows_most leads)
       (past (room (length leads) output) (done refl))));
   smooth = λ g levels output.
-      within (settlingCount g) 1 0
+      within (settling_count g) 1 0
       (past (limit entries_most levels) (past (entries 1 levels) (laid (smoothing g levels) output)));
   warp = λ w r p levels output.
       within (timed w r p) 1 0
@@ -132,7 +132,7 @@ answered = record {
       (past (limit entries_most cycles)
       (past (limit entries_most reads)
       (past (entries 2 levels)
-      (laid (warpingByLengths p cycles reads levels) output)))));
+      (laid (warping_by_lengths p cycles reads levels) output)))));
   settle = λ reads choices output.
       past (limit entries_most reads)
       (past (limit entries_most choices)

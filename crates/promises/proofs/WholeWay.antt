@@ -10,7 +10,7 @@ use lib.Dec.{eqb, leb}
 use lib.ListN.{length, drop, length-take, length-drop}
 use lib.Seq.{take-append_seam}
 use Rattle.measure.specs.Ranges.{subcell, sampling, cycle_length, quiet, pad_most, bits_most, row_bits, entries_most}
-use Rattle.measure.specs.Ranges.{settling as settlingCount, row_settings_fit}
+use Rattle.measure.specs.Ranges.{settling as settling_count, row_settings_fit}
 use Rattle.measure.specs.Lists.{onto}
 use Rattle.measure.specs.Levels.{AtMost, Levels}
 use Rattle.measure.specs.Refusals.{given}
@@ -212,11 +212,11 @@ whole_way y within = record {
             let keeps = yes_keeps y.a y.b y.g y.k (steady y.w y.r) y.Q p1 each.0 in
             (keeps.range, keeps.quiet_range)
 
-    ranges : (settlingCount y.g ≡ true) × (sampling y.k ≡ true) × (cycle_length y.w ≡ true)
+    ranges : (settling_count y.g ≡ true) × (sampling y.k ≡ true) × (cycle_length y.w ≡ true)
         × (cycle_length y.r ≡ true)
     ranges =
         let test = each (subcell y.a)
-        (subcell y.b ∷ settlingCount y.g ∷ sampling y.k ∷ ends_fit (steady y.w y.r) ∷ []) judged.0 in
+        (subcell y.b ∷ settling_count y.g ∷ sampling y.k ∷ ends_fit (steady y.w y.r) ∷ []) judged.0 in
         let ends = each (cycle_length y.w)
         (cycle_length y.w ∷ cycle_length y.r ∷ cycle_length y.r ∷ leb y.w y.w ∷ leb y.r y.r ∷ [])
         (test 4) in

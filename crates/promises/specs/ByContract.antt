@@ -5,7 +5,7 @@ use Rattle.std.specs.Prelude.{◌≡◌, [], ◌∷◌, length, take}
 use contract.Lifetimes.{Lfts}
 use denote.Triple.Entry.{Args, Res}
 use denote.Triple.Clauses.{Ended, Lasts, at_exit}
-use Rattle.measure.specs.Choose.{between as isBetween}
+use Rattle.measure.specs.Choose.{between as is_between}
 use Rattle.measure.specs.Ranges.{row_settings_fit}
 use Rattle.measure.specs.Lists.{first_above}
 use Rattle.measure.specs.Refusals.{lent, number_of, place_of}
@@ -25,12 +25,12 @@ use Rattle.board.specs.Answers.{begun, start_says, stepped, stepped_says, listen
 use Rattle.capture.specs.Capture.{header}
 use Rattle.log.specs.Answers.{logged, logged_says, cleared, cleared_says, listed, listed_says}
 use Rattle.capture.specs.Answers.{head_says, checked, read_back, checked_says, written, written_says}
-use Rattle.timecode.specs.Answers.{read_times, write_time, read_says as timesSays, written_says as wordSays}
+use Rattle.timecode.specs.Answers.{read_times, write_time, read_says as times_says, written_says as word_says}
 use Rattle.text.specs.Decimal.{decimal, signed_decimal}
 use Rattle.text.specs.Putting.{put_at}
 use Rattle.page.specs.Lines.{heading_line, event_line, end_line, refused_line}
 use Rattle.page.specs.Answers.{put_says}
-use Rattle.region.specs.Answers.{survey_lines, put_says as linesSay}
+use Rattle.region.specs.Answers.{survey_lines, put_says as lines_say}
 use Rattle.siengulot.specs.Crossing.{crossed, crossed_bits, crossing, judged_three, judged_five, summed}
 use Rattle.siengulot.specs.Receivers.{begun_lent, stepped_lent, listened_lent, well_formed_lent}
 use Rattle.siengulot.specs.Picking.{PickCrosses}
@@ -74,7 +74,7 @@ pub record ByContract : Type 0 where
       x ≡ place_of refusal
   pub between : Says Measure.between.ended Measure.between.Reads.Post
       λ κs (least, (most, (n, _))) x _.
-      x ≡ isBetween least most n
+      x ≡ is_between least most n
   pub row_settings_fit_says : Says Measure.row_settings_fit.ended Measure.row_settings_fit.Reads.Post
       λ κs (k, (n, (Q, _))) x _.
       x ≡ row_settings_fit k.0 n Q.0
@@ -147,10 +147,10 @@ pub record ByContract : Type 0 where
   -- timecode
   pub read_times_says : Says Timecode.read_times.ended Timecode.read_times.Reads.Post
       λ κs (bits, (out, _)) x (_, (out', _)).
-      read_times bits.now out.now ≡ (timesSays x, out')
+      read_times bits.now out.now ≡ (times_says x, out')
   pub write_time_says : Says Timecode.write_time.ended Timecode.write_time.Reads.Post
       λ κs (time, (out, _)) x (_, (out', _)).
-      write_time time.hours time.minutes time.seconds time.frames out.now ≡ (wordSays x, out')
+      write_time time.hours time.minutes time.seconds time.frames out.now ≡ (word_says x, out')
   -- board
   pub fresh : Says Board.Receiver.fresh.ended Board.Receiver.fresh.Reads.Post
       λ κs (k, (n, (Q, _))) x _.
@@ -192,7 +192,7 @@ pub record ByContract : Type 0 where
   -- log
   pub log_event_says : Says Log.log_event.ended Log.log_event.Reads.Post
       λ κs (number, (bytes, (count, (mark, (numbers, (bits, (counts, (marks, (free, (broken_count, _)))))))))) x
-      (_, (_, (_, (_, (numbers', (bits', (counts', (broken', (free', (brokenCount', _)))))))))).
+      (_, (_, (_, (_, (numbers', (bits', (counts', (broken', (free', (broken_count', _)))))))))).
       logged number bytes.now count mark
       (record {
         numbers = numbers.now;
@@ -210,12 +210,12 @@ pub record ByContract : Type 0 where
           counts = counts';
           broken = broken';
           free = free';
-          broken_count = brokenCount';
+          broken_count = broken_count';
         },
       )
   pub log_clear_says : Says Log.clear.ended Log.clear.Reads.Post
       λ κs (place, (numbers, (bits, (counts, (marks, (free, (broken_count, _))))))) x
-      (_, (numbers', (bits', (counts', (broken', (free', (brokenCount', _))))))).
+      (_, (numbers', (bits', (counts', (broken', (free', (broken_count', _))))))).
       cleared place
       (record {
         numbers = numbers.now;
@@ -233,7 +233,7 @@ pub record ByContract : Type 0 where
           counts = counts';
           broken = broken';
           free = free';
-          broken_count = brokenCount';
+          broken_count = broken_count';
         },
       )
   pub log_list_says : Says Log.list.ended Log.list.Reads.Post
@@ -274,7 +274,7 @@ pub record ByContract : Type 0 where
   -- region
   pub survey_lines_says : Says Region.survey_lines.ended Region.survey_lines.Reads.Post
       λ κs (a, (b, (g, (k, (w, (r, (out, _))))))) x (_, (_, (_, (_, (_, (_, (out', _))))))).
-      survey_lines (region a.now b.now g.now k.now w.now r.now) out.now ≡ (linesSay x, out')
+      survey_lines (region a.now b.now g.now k.now w.now r.now) out.now ≡ (lines_say x, out')
   -- the entry points for C
   pub siengulot_judge : Says C.siengulot_judge.ended C.siengulot_judge.Reads.Post
       λ κs (a, (b, (g, (k, (w, (r, (margins, (accepted, _)))))))) x
@@ -385,7 +385,7 @@ pub record ByContract : Type 0 where
       crossing crossed (decoded words.now out.now) ≡ ((x, place', count'), out')
   pub siengulot_log_event : Says C.siengulot_log_event.ended C.siengulot_log_event.Reads.Post
       λ κs (number, (bytes, (count, (mark, (numbers, (bits, (counts, (marks, (free, (broken_count, (taken, _))))))))))) x
-      (_, (_, (_, (_, (numbers', (bits', (counts', (broken', (free', (brokenCount', (taken', _))))))))))).
+      (_, (_, (_, (_, (numbers', (bits', (counts', (broken', (free', (broken_count', (taken', _))))))))))).
       leaving logged_over
       (logged number bytes.now count mark
       (record {
@@ -404,12 +404,12 @@ pub record ByContract : Type 0 where
           counts = counts';
           broken = broken';
           free = free';
-          broken_count = brokenCount';
+          broken_count = broken_count';
         },
       )
   pub siengulot_log_clear : Says C.siengulot_log_clear.ended C.siengulot_log_clear.Reads.Post
       λ κs (place, (numbers, (bits, (counts, (marks, (free, (broken_count, _))))))) x
-      (_, (numbers', (bits', (counts', (broken', (free', (brokenCount', _))))))).
+      (_, (numbers', (bits', (counts', (broken', (free', (broken_count', _))))))).
       leaving cleared_over
       (cleared place
       (record {
@@ -428,7 +428,7 @@ pub record ByContract : Type 0 where
           counts = counts';
           broken = broken';
           free = free';
-          broken_count = brokenCount';
+          broken_count = broken_count';
         },
       )
   pub siengulot_log_list : Says C.siengulot_log_list.ended C.siengulot_log_list.Reads.Post

@@ -24,7 +24,7 @@ use Rattle.halfcells.specs.Answers.{encoded, decoded}
 use Rattle.halfcells.specs.Shown.{WordsAreTheWave, EncodedDecodes, DecodedEncodes}
 use Rattle.line.specs.Smooth.{smooth as smoothing}
 use Rattle.line.specs.Warp.{warp as warping}
-use Rattle.line.specs.Wander.{warp_by_lengths as warpingByLengths, EqualLengthsWarp}
+use Rattle.line.specs.Wander.{warp_by_lengths as warping_by_lengths, EqualLengthsWarp}
 use Rattle.line.specs.Passes.{EqualLengthsLine}
 use Rattle.line.specs.Settle.{settle as settling}
 use Rattle.line.specs.Settling.{SmoothLawsHold}
@@ -33,8 +33,8 @@ use Rattle.line.specs.Answers.{smoothed, warped, warped_by_lengths, settled}
 use Rattle.counted.specs.Counted.{counted, current}
 use Rattle.counted.specs.Answers.{counted_into, counted_bits}
 use Rattle.counted.specs.Continued.{CountingContinues, LaterReadsKeep}
-use Rattle.board.specs.Rows.{Settings, nothing, row, broken, fresh as freshState, next as nextState}
-use Rattle.board.specs.Feeding.{reports as reportsOf}
+use Rattle.board.specs.Rows.{Settings, nothing, row, broken, fresh as fresh_state, next as next_state}
+use Rattle.board.specs.Feeding.{reports as reports_of}
 use Rattle.board.specs.Packed.{unpacked, whole, settings_of, state_of, receiver_of}
 use Rattle.board.specs.WellFormed.{well_formed}
 use Rattle.board.specs.EveryStep.{EveryStep}
@@ -63,7 +63,7 @@ use Rattle.page.specs.Walk.{Whole}
 use Rattle.region.specs.Lines.{report_lines}
 use Rattle.region.specs.Answers.{survey_lines}
 use Rattle.promises.specs.GoodInput as Good
-use Rattle.promises.specs.Promised.{Answered, Tells, Fills, Puts, judged as judgedSettings, quiet_judged}
+use Rattle.promises.specs.Promised.{Answered, Tells, Fills, Puts, judged as judged_settings, quiet_judged}
 use Rattle.promises.specs.Promised.{unstarted}
 use Rattle.promises.specs.ByContract.{ByContract}
 use Rattle.promises.specs.FromC.{Demand1FromC}
@@ -86,7 +86,7 @@ use Rattle.promises.specs.WholeWay.{AcceptedFits, WholeWayHolds}
 -- lent. GoodInput lists the tests. Refusals 5 and 10 are none of them: they are results, and leave what was found.
 pub record Demand1 : Type 0 where
   -- the judges and the picker over the ends of two clocks; those of steady clocks are the case of equal ends
-  pub judge : (a b g k : ℕ) (e : Ends) → Tells (Good.judge a b g k e) (judgedSettings a b g k e) (judgement a b g k e)
+  pub judge : (a b g k : ℕ) (e : Ends) → Tells (Good.judge a b g k e) (judged_settings a b g k e) (judgement a b g k e)
   pub judge_quiet_says : (a b g k : ℕ) (e : Ends) (Q p1 : ℕ)
       → Tells (Good.judge_quiet a b g k e Q p1) (quiet_judged a b g k e Q p1) (quiet_judgement a b g k e Q p1)
   -- the answer that the picker's contract allows, told of the best k
@@ -110,7 +110,7 @@ pub record Demand1 : Type 0 where
   pub warp : (w r p : ℕ) (wave output : List ℕ)
       → Fills (Good.warp w r p wave output) (warping w r p wave) output (warped w r p wave output)
   pub warp_by_lengths_says : (w1 w2 r1 r2 p : ℕ) (cycles reads wave output : List ℕ)
-      → Fills (Good.warp_by_lengths w1 w2 r1 r2 p cycles reads wave output) (warpingByLengths p cycles reads wave) output
+      → Fills (Good.warp_by_lengths w1 w2 r1 r2 p cycles reads wave output) (warping_by_lengths p cycles reads wave) output
       (warped_by_lengths w1 w2 r1 r2 p cycles reads wave output)
   pub settle : (reads choices output : List ℕ)
       → Fills (Good.settle reads choices output) (settling reads choices) output (settled reads choices output)
@@ -127,21 +127,21 @@ pub record Demand1 : Type 0 where
       → Fills (Good.write_time h m s f output) (word_of h m s f) output (write_time h m s f output)
   pub fresh : (k n Q : ℕ)
       → Answered (Good.fresh k n Q) (begun k n Q)
-      (given nothing, receiver_of (record { k = k; n = n; Q = Q }) freshState)
+      (given nothing, receiver_of (record { k = k; n = n; Q = Q }) fresh_state)
       (λ number place. (refused number place, unstarted))
   -- yes or no, with no refusal: a state that passes each clause is well formed, and no other is
   pub well_formed_says : (x : Receiver) → Answered (Good.well_formed_by x) (well_formed x) true (λ number place. false)
   pub step : (x : Receiver) (read : ℕ)
-      → let moved = nextState (settings_of x) (state_of x) read in
+      → let moved = next_state (settings_of x) (state_of x) read in
       Answered (Good.step x read) (stepped x read) (reached (settings_of x) moved.state moved.event) (refusing x)
   pub listen : (x : Receiver) (reads : List ℕ)
-      → let told = reportsOf (settings_of x) (state_of x) 0 (levels_of reads) in
+      → let told = reports_of (settings_of x) (state_of x) 0 (levels_of reads) in
       Answered (Good.listen x reads) (listened x reads) (to_event (settings_of x) (state_of x) (levels_of reads) told)
       (λ number place. (refusing x number place, 0))
   -- the same where bits and a row's bytes are lent, which a refusal leaves as they were; one read is a list of one
   pub listen_lent : (bare : Bare) (bits room reads : List ℕ)
       → let x = whole bare bits in
-      let told = reportsOf (settings_of x) (state_of x) 0 (levels_of reads) in
+      let told = reports_of (settings_of x) (state_of x) 0 (levels_of reads) in
       Answered (Good.listen x reads) (in_lent room (listened x reads))
       (in_lent room (to_event (settings_of x) (state_of x) (levels_of reads) told))
       (λ number place. (record { receiver = x; answer = refused number place; row = room }, 0))
@@ -192,7 +192,7 @@ pub record Demand1 : Type 0 where
   -- E1, E5, E6: what the rows program writes: the page of a good capture, and else its refusal's line alone
   pub rows : (input : List ℕ)
       → let c = Good.captured input in
-      let told = reportsOf (capture_settings c) freshState 0 (capture_reads c) in
+      let told = reports_of (capture_settings c) fresh_state 0 (capture_reads c) in
       Answered (Good.rows input) (output input) (page (capture_reads c) told) refused_line
 
 -- D2: what goes over the line is what the rules make of it, from the sender to the receivers and to a capture.

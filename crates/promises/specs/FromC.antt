@@ -15,10 +15,10 @@ use Rattle.halfcells.specs.HalfCells.{words_of, bytes_of}
 use Rattle.halfcells.specs.Answers.{encoded, decoded}
 use Rattle.line.specs.Smooth.{smooth as smoothing}
 use Rattle.line.specs.Warp.{warp as warping}
-use Rattle.line.specs.Wander.{warp_by_lengths as warpingByLengths}
+use Rattle.line.specs.Wander.{warp_by_lengths as warping_by_lengths}
 use Rattle.line.specs.Settle.{settle as settling}
 use Rattle.line.specs.Answers.{smoothed, warped, warped_by_lengths, settled}
-use Rattle.counted.specs.Counted.{counted as countedOf, current}
+use Rattle.counted.specs.Counted.{counted as counted_of, current}
 use Rattle.counted.specs.Answers.{counted_into, counted_bits}
 use Rattle.board.specs.Rows.{next}
 use Rattle.board.specs.Feeding.{reports}
@@ -87,7 +87,7 @@ pub record Demand1FromC : Type 0 where
       → FillsFromC (Good.warp w r p wave output) (warping w r p wave) output
       (crossing crossed (warped w r p wave output))
   pub warp_by_lengths_says : (w1 w2 r1 r2 p : ℕ) (cycles reads wave output : List ℕ)
-      → FillsFromC (Good.warp_by_lengths w1 w2 r1 r2 p cycles reads wave output) (warpingByLengths p cycles reads wave)
+      → FillsFromC (Good.warp_by_lengths w1 w2 r1 r2 p cycles reads wave output) (warping_by_lengths p cycles reads wave)
       output (crossing crossed (warped_by_lengths w1 w2 r1 r2 p cycles reads wave output))
   pub settle : (reads choices output : List ℕ)
       → FillsFromC (Good.settle reads choices output) (settling reads choices) output
@@ -95,7 +95,7 @@ pub record Demand1FromC : Type 0 where
   -- with refusal 5 the count is of the bits found, which stand at the output's front; the place is the current read
   pub counted : (k n level : ℕ) (reads output : List ℕ)
       → Answered (Good.count_bits k n level reads output) (crossing crossed_bits (counted_bits k n level reads output))
-      (crossing crossed_bits (counted_into n (countedOf k n level reads) (current k n level reads) output))
+      (crossing crossed_bits (counted_into n (counted_of k n level reads) (current k n level reads) output))
       (λ number place. ((number, place, 0), output))
   -- with refusal 10 the count is of the times before the bad word, which stand at the output's front
   pub time_read : (bits output : List ℕ)

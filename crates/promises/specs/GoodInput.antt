@@ -2,7 +2,7 @@
 -- order in which they are made.
 use Rattle.std.specs.Prelude.{ℕ, zero, suc, ◌+◌, ◌*◌, Bool, true, false, ◌&&◌, not, List, [], ◌∷◌, ◌++◌, eqb, leb, ltb, length, drop}
 use Rattle.measure.specs.Choose.{choose, between}
-use Rattle.measure.specs.Ranges.{subcell, settling as settlingCount, sampling, quiet, pad_most, bits_most}
+use Rattle.measure.specs.Ranges.{subcell, settling as settling_count, sampling, quiet, pad_most, bits_most}
 use Rattle.measure.specs.Ranges.{row_bits, rows_most, entries_most, capture_most, input_most, words_most, row_settings_fit}
 use Rattle.measure.specs.Ranges.{log_records, record_bytes}
 use Rattle.measure.specs.Lists.{first_above, some_above}
@@ -17,7 +17,7 @@ use Rattle.halfcells.specs.HalfCells.{words_of, first_no_edge, bytes_of}
 use Rattle.halfcells.specs.Answers.{some_no_edge}
 use Rattle.line.specs.Smooth.{smooth as smoothing}
 use Rattle.line.specs.Warp.{warp as warping}
-use Rattle.line.specs.Wander.{warp_by_lengths as warpingByLengths}
+use Rattle.line.specs.Wander.{warp_by_lengths as warping_by_lengths}
 use Rattle.line.specs.Settle.{settle as settling}
 use Rattle.line.specs.Answers.{timed, lengths_fit}
 use Rattle.board.specs.Feeding.{reports}
@@ -39,13 +39,13 @@ use Rattle.promises.specs.Promised.{Test, setting, limit, entries, entry, room}
 
 -- R40, R74: the judges, over the ends of two clocks; those of steady clocks are the case of equal ends
 abbrev pub judge : (a b g k : ℕ) (e : Ends) → List Test
-judge a b g k e = setting (subcell a && subcell b && settlingCount g && sampling k && ends_fit e) ∷ []
+judge a b g k e = setting (subcell a && subcell b && settling_count g && sampling k && ends_fit e) ∷ []
 
 -- R41, R75
 abbrev pub judge_quiet : (a b g k : ℕ) (e : Ends) (Q p1 : ℕ) → List Test
 judge_quiet a b g k e Q p1 =
     setting
-    ((subcell a && subcell b && settlingCount g && sampling k && ends_fit e) && quiet Q && leb p1 pad_most)
+    ((subcell a && subcell b && settling_count g && sampling k && ends_fit e) && quiet Q && leb p1 pad_most)
     ∷ []
 
 -- R58, R76, M31: the picker, where k is the best sampling count: refusal 9, unless its least margin is zero or more
@@ -113,7 +113,7 @@ read_plan leads trails output =
 -- R44: the three passes: smooth takes levels, warp unknowns too, and settle searches the reads before the choices
 abbrev pub smooth : (g : ℕ) (levels output : List ℕ) → List Test
 smooth g levels output =
-    setting (settlingCount g)
+    setting (settling_count g)
     ∷ limit entries_most levels
     ∷ entries 1 levels
     ∷ room (length (smoothing g levels)) output
@@ -137,7 +137,7 @@ warp_by_lengths w1 w2 r1 r2 p cycles reads levels output =
     ∷ limit entries_most cycles
     ∷ limit entries_most reads
     ∷ entries 2 levels
-    ∷ room (length (warpingByLengths p cycles reads levels)) output
+    ∷ room (length (warping_by_lengths p cycles reads levels)) output
     ∷ []
 
 -- R46, R23

@@ -51,28 +51,28 @@ pub record Scene : Type 0 where
 -- cycle and for each read
 pub data Clocks : Type 0 where
   steadily : (w r p : ℕ) → Clocks
-  by_lengths : (e : Ends) (p : ℕ) (cycleLengths read_lengths : List ℕ) → Clocks
+  by_lengths : (e : Ends) (p : ℕ) (cycle_lengths read_lengths : List ℕ) → Clocks
 
 -- M40: the ends that they keep to
 abbrev pub ends_of : Clocks → Ends
 ends_of (steadily w r p) = steady w r
-ends_of (by_lengths e p cycleLengths read_lengths) = e
+ends_of (by_lengths e p cycle_lengths read_lengths) = e
 
 -- L20, L40: when each writer cycle starts, and when each read does
 abbrev pub starts_by : Clocks → ℕ → ℕ
 starts_by (steadily w r p) = cycle_start w
-starts_by (by_lengths e p cycleLengths read_lengths) = start_of 0 cycleLengths
+starts_by (by_lengths e p cycle_lengths read_lengths) = start_of 0 cycle_lengths
 
 -- L20, L40
 abbrev pub begins_by : Clocks → ℕ → ℕ
 begins_by (steadily w r p) = read_start p r
-begins_by (by_lengths e p cycleLengths read_lengths) = start_of p read_lengths
+begins_by (by_lengths e p cycle_lengths read_lengths) = start_of p read_lengths
 
 -- L1: the settled reads of a wave: the wave after the three passes of the line
 abbrev pub reads_by : Clocks → (g : ℕ) (wave choices : List ℕ) → List ℕ
 reads_by (steadily w r p) g wave choices = over_the_line g w r p wave choices
-reads_by (by_lengths e p cycleLengths read_lengths) g wave choices =
-    over_the_line_by_lengths g p cycleLengths read_lengths wave choices
+reads_by (by_lengths e p cycle_lengths read_lengths) g wave choices =
+    over_the_line_by_lengths g p cycle_lengths read_lengths wave choices
 
 -- D10: the settings of a link, its clocks, how its pair is laid, the plan sent over it, how many high cycles are sent
 -- after the plan (low ones, over a crossed pair), and what the line chooses for unknown reads

@@ -7,22 +7,22 @@ use Rattle.line.specs.Answers.{all_between}
 use Rattle.promises.specs.Places.{Clocks, steadily, by_lengths, reads_by}
 
 -- N14 to N19, D10, D20
-pub record Reaching (e : Ends) (p : ℕ) (cycleLengths read_lengths wave : List ℕ) : Type 0 where
+pub record Reaching (e : Ends) (p : ℕ) (cycle_lengths read_lengths wave : List ℕ) : Type 0 where
   -- each cycle is w1 to w2 long, and each read r1 to r2
   pub w_order : e.w1 ≤ e.w2
   pub r_order : e.r1 ≤ e.r2
-  pub written : all_between e.w1 e.w2 cycleLengths ≡ true
+  pub written : all_between e.w1 e.w2 cycle_lengths ≡ true
   pub read : all_between e.r1 e.r2 read_lengths ≡ true
   -- the first read starts within the first cycle
-  pub phase : p < get_or cycleLengths 0 0
+  pub phase : p < get_or cycle_lengths 0 0
   -- each cycle of the wave has a length, and the reads go on until the wave ends
-  pub lasting : length wave ≤ length cycleLengths
-  pub reach : start_of 0 cycleLengths (length wave) ≤ start_of p read_lengths (length read_lengths)
+  pub lasting : length wave ≤ length cycle_lengths
+  pub reach : start_of 0 cycle_lengths (length wave) ≤ start_of p read_lengths (length read_lengths)
 
 -- D10, D20: of steady clocks a phase below w is asked, of others lengths that keep to the ends and reach the wave's end
 abbrev pub ClocksFit : Clocks → (wave : List ℕ) → Type 0
 ClocksFit (steadily w r p) wave = p < w
-ClocksFit (by_lengths e p cycleLengths read_lengths) wave = Reaching e p cycleLengths read_lengths wave
+ClocksFit (by_lengths e p cycle_lengths read_lengths) wave = Reaching e p cycle_lengths read_lengths wave
 
 -- M20: w and r lie within ends
 pub record WithinEnds (e : Ends) (w r : ℕ) : Type 0 where
@@ -34,7 +34,7 @@ pub record WithinEnds (e : Ends) (w r : ℕ) : Type 0 where
 -- M20: clocks keep to ends: steady ones if w and r lie within them, others if these are the ends of their lengths
 abbrev pub KeepsTo : Ends → Clocks → Type 0
 KeepsTo e (steadily w r p) = WithinEnds e w r
-KeepsTo e (by_lengths own p cycleLengths read_lengths) = own ≡ e
+KeepsTo e (by_lengths own p cycle_lengths read_lengths) = own ≡ e
 
 -- D24: lists for steady clocks: w for each cycle of the wave and one more, and r as often as the wave has time units
 abbrev pub equal_cycles : (w : ℕ) (wave : List ℕ) → List ℕ

@@ -5,7 +5,7 @@ use Rattle.std.specs.Prelude.{ℕ, zero, suc, ◌+◌, ◌-◌, ◌≡◌, List,
 use Rattle.settings.specs.Margins.{ends}
 use Rattle.sender.specs.Sending.{Row}
 use Rattle.board.specs.Rows.{Event, row, broken, fresh}
-use Rattle.board.specs.Feeding.{Report, reports as reportsOf}
+use Rattle.board.specs.Feeding.{Report, reports as reports_of}
 use Rattle.promises.specs.Places.{straight, crossed, turned_over, Scene, steadily, by_lengths, Link, scene}
 use Rattle.promises.specs.Places.{cycles_of, heard, deliveries}
 use Rattle.promises.specs.Replaced.{WhollyAfter, damaged, below, above}
@@ -70,7 +70,7 @@ false_high = replicate 21 1 ++ replicate 3 0
 
 -- reads 54 up to 58 replaced; read 58 is the first that shares time with the second row's lead
 abbrev pub damaged_reports : List Report
-damaged_reports = reportsOf (receiver_settings p10_read) fresh 0 (damaged p10_read 54 58 false_high)
+damaged_reports = reports_of (receiver_settings p10_read) fresh 0 (damaged p10_read 54 58 false_high)
 
 -- D16: a report
 abbrev pub at : (place : ℕ) (event : Event) → Report
@@ -80,7 +80,7 @@ at place event = record { place = place; event = event }
 pub record Tried : Type 0 where
   -- the hypotheses are met, so demand 3 holds here
   pub fits : Fitting p10
-  pub demand : Demand3 p10_read (reportsOf (receiver_settings p10_read) fresh 0)
+  pub demand : Demand3 p10_read (reports_of (receiver_settings p10_read) fresh 0)
   pub wholly : WhollyAfter p10_read (cycles_of p10_read (first ∷ [])) second.lead 58
   -- the places that it speaks of: the last samples, and the read with which the second lead quiet has been heard
   pub samples : deliveries p10_read 0 (first ∷ second ∷ []) ≡ at 51 (row (1 ∷ 0 ∷ [])) ∷ at 111 (row (0 ∷ 1 ∷ [])) ∷ []
@@ -122,12 +122,12 @@ false_low = replicate 21 0 ++ replicate 3 1
 
 -- D3: what is reported where reads 54 up to 58 are replaced
 abbrev pub crossed_reports : (junk : List ℕ) → List Report
-crossed_reports junk = reportsOf (receiver_settings crossed_read) fresh 0 (damaged crossed_read 54 58 junk)
+crossed_reports junk = reports_of (receiver_settings crossed_read) fresh 0 (damaged crossed_read 54 58 junk)
 
 -- D3: a crossed pair
 pub record TriedCrossed : Type 0 where
   pub fits : Fitting p10_crossed
-  pub demand : Demand3 crossed_read (reportsOf (receiver_settings crossed_read) fresh 0)
+  pub demand : Demand3 crossed_read (reports_of (receiver_settings crossed_read) fresh 0)
   pub wholly : WhollyAfter crossed_read (cycles_of crossed_read (first ∷ [])) second.lead 58
   pub turned : crossed_read.reads ≡ turned_over p10_read.reads
   -- the last samples and the read with which the second lead quiet, low now, has been heard are those of P10
@@ -168,7 +168,7 @@ pub record TriedStored : Type 0 where
   -- the read with which these have been heard, which the stretch moves to 54 + 24 + (85 - 63)
   pub hears : heard (itself stored) (stored_from stored 1) (stored_lead stored 1) ≡ 85
   -- so the user's wording says nothing of the second row, and the last 23 cycles still bring it
-  pub after : above 100 (reportsOf (receiver_settings p10_read) fresh 0 (damaged (itself stored) 54 63 false_high))
+  pub after : above 100 (reports_of (receiver_settings p10_read) fresh 0 (damaged (itself stored) 54 63 false_high))
       ≡ at 131 (row (0 ∷ 1 ∷ [])) ∷ []
 
 -- D3
@@ -198,7 +198,7 @@ slow g lead = scene (slow_link g lead)
 
 -- D14: what is reported of reads on this line
 abbrev pub slow_reports : List ℕ → List Report
-slow_reports reads = reportsOf (receiver_settings (slow 2 18)) fresh 0 reads
+slow_reports reads = reports_of (receiver_settings (slow 2 18)) fresh 0 reads
 
 -- D11: reads 36 up to 39 replaced by Q high reads and a mark; read 39 is the first that shares time with the second
 -- row's lead
@@ -280,7 +280,7 @@ wander = scene wander_link
 
 -- D3: what is reported of reads on this line
 abbrev pub wander_reports : List ℕ → List Report
-wander_reports reads = reportsOf (receiver_settings wander) fresh 0 reads
+wander_reports reads = reports_of (receiver_settings wander) fresh 0 reads
 
 -- D11: reads 39 up to 41 replaced by Q high reads and a mark; read 41 is the first that shares time with the second
 -- row's lead

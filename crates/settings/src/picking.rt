@@ -3,7 +3,7 @@ ghost use Rattle.std.specs.Prelude.{◌≡◌, true, ◌+◌, ◌-◌, ◌/◌, 
 ghost use Rattle.measure.specs.Choose.{choose};
 ghost use Rattle.measure.specs.Refusals.{given, refused};
 ghost use Rattle.settings.specs.Margins.{ends, steady, m1, zero_or_more};
-ghost use Rattle.settings.specs.Pick.{lower as lowerOf, least, Picks, pickable as isPickable, picked_says};
+ghost use Rattle.settings.specs.Pick.{lower as lower_of, least, Picks, pickable as is_pickable, picked_says};
 ghost use Rattle.settings.specs.Turning.{Turning};
 
 use crate::{ends_fit, margin1, margin2, margin3};
@@ -30,7 +30,7 @@ fn pickable(
     r1: TimeUnits,
     r2: TimeUnits,
 ) -> bool
-    ensures { result ≡ isPickable a.0 b.0 g.0 (ends w1.0 w2.0 r1.0 r2.0) }
+    ensures { result ≡ is_pickable a.0 b.0 g.0 (ends w1.0 w2.0 r1.0 r2.0) }
 {
     measure::between(SUBCELL_LEAST, SUBCELL_MOST, a.0)
         & measure::between(SUBCELL_LEAST, SUBCELL_MOST, b.0)
@@ -40,7 +40,7 @@ fn pickable(
 
 // Gives the lower of two margins.
 fn lower(one: i64, other: i64) -> i64
-    ensures { result ≡ lowerOf one other }
+    ensures { result ≡ lower_of one other }
 {
     if one <= other {
         return one;
@@ -101,7 +101,7 @@ fn turning(
     r1: TimeUnits,
     r2: TimeUnits,
 ) -> usize
-    requires { (isPickable a.0 b.0 g.0 (ends w1.0 w2.0 r1.0 r2.0) ≡ true)
+    requires { (is_pickable a.0 b.0 g.0 (ends w1.0 w2.0 r1.0 r2.0) ≡ true)
         × (zero_or_more (m1 a.0 g.0 (ends w1.0 w2.0 r1.0 r2.0)) ≡ true) }
     ensures { Turning a.0 b.0 g.0 result (ends w1.0 w2.0 r1.0 r2.0) }
 {
@@ -139,7 +139,7 @@ fn best_count(
     r1: TimeUnits,
     r2: TimeUnits,
 ) -> Picked
-    requires { isPickable a.0 b.0 g.0 (ends w1.0 w2.0 r1.0 r2.0) ≡ true }
+    requires { is_pickable a.0 b.0 g.0 (ends w1.0 w2.0 r1.0 r2.0) ≡ true }
     ensures { Picks a.0 b.0 g.0 (ends w1.0 w2.0 r1.0 r2.0) (picked_says result) }
 {
     // M1 is the same for every k.

@@ -5,7 +5,7 @@ ghost use Rattle.sender.specs.Answers.{sent_says};
 ghost use Rattle.line.specs.Answers.{smoothed_says, read_says};
 ghost use Rattle.counted.specs.Answers.{counted_says};
 ghost use Rattle.capture.specs.Answers.{written_says};
-ghost use Rattle.siengulot.specs.Crossing.{crossed, crossed_bits, flag as flagOf};
+ghost use Rattle.siengulot.specs.Crossing.{crossed, crossed_bits, flag as flag_of};
 
 use capture::Written;
 use counted::Received;
@@ -18,7 +18,7 @@ const RAN_OUT: usize = 5;
 
 // A yes or no.
 pub fn flag(yes: bool) -> usize
-    ensures { flagOf yes ≡ result }
+    ensures { flag_of yes ≡ result }
 {
     if yes { 1 } else { 0 }
 }

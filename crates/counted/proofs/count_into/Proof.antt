@@ -11,7 +11,7 @@ use lib.ListN.{length, take, drop}
 use lib.Seq.{length-take-le}
 use Rattle.measure.specs.Refusals.{given, refused_after}
 use Rattle.measure.proofs.Wrote.{Wrote, wrote_none, wrote_more, wrote_all}
-use Rattle.counted.specs.Counted.{counted, current as currentRead}
+use Rattle.counted.specs.Counted.{counted, current as current_read}
 use Rattle.counted.specs.Answers.{counted_into}
 use Rattle.counted.proofs.Samples.{counted_marked, counted_unsampled, current_marked, current_unsampled}
 use Rattle.counted.proofs.count_into.Statement.{statement}
@@ -36,7 +36,7 @@ abbrev invariant-loop : tie.invariant-loop
 invariant-loop k n level reads out₀ held₀ current₀ i₀ out held current i =
     (i ≤ n) × (current ≤ length reads)
     × Wrote (counted k.0 n level reads) out₀ out (counted k.0 (n - i) held (drop current reads)) i
-    × (currentRead k.0 n level reads ≡ current + currentRead k.0 (n - i) held (drop current reads))
+    × (current_read k.0 n level reads ≡ current + current_read k.0 (n - i) held (drop current reads))
 
 abbrev decreases-loop : tie.decreases-loop
 decreases-loop k n level reads out₀ held₀ current₀ i₀ out held current i = n - i
@@ -118,14 +118,14 @@ same-length-2 : tie.Need-same-length-2 invariant-loop decreases-loop
 same-length-2 c = c.before.loop.invariant.2.size
 
 returns_2 : tie.Need-returns-2 invariant-loop decreases-loop
-unfolding counted currentRead
+unfolding counted current_read
 returns_2 c =
     let at-loop = c.before in
     let args = at-loop.before.before.before.args in
     let n = args.n in
     let i = at-loop.loop.i in
     let done : n - i ≡ 0 = omega arith in
-    let stays : currentRead args.k.0 n args.level args.reads.now ≡ at-loop.loop.current + 0 =
+    let stays : current_read args.k.0 n args.level args.reads.now ≡ at-loop.loop.current + 0 =
     rw done at at-loop.loop.invariant.3 in
     found_all n i _ _ _ (rw (done, counted) at at-loop.loop.invariant.2) (omega arith) (omega arith) _ _
     (omega (arith, stays)) (omega arith)
