@@ -2,7 +2,7 @@
 // as a list, in which 0 stands for a free record.
 use cases::reading::Numbers;
 use cases::{reading, show};
-use log::{Cleared, Listed, Logged};
+use bay_log::{Cleared, Listed, Logged};
 use measure::RECORDS;
 
 // One entry more than the lists of a log have.
@@ -134,7 +134,7 @@ fn event_in(
     if free.len() < size {
         return;
     }
-    let answer = log::log_event(
+    let answer = bay_log::log_event(
         n.n0 as u64,
         row,
         n.n1,
@@ -168,7 +168,7 @@ fn clear_in(
     if free.len() < size {
         return;
     }
-    let answer = log::clear(
+    let answer = bay_log::clear(
         n.n0,
         &mut numbers[from..size],
         bits,
@@ -202,7 +202,7 @@ fn list_in(n: Numbers, text: &[u8], numbers: &mut [u64], free: &mut [u8], places
     if places.len() < room {
         return;
     }
-    listed(log::list(
+    listed(bay_log::list(
         &numbers[from..size],
         &free[from..size],
         &mut places[from..room],

@@ -13,9 +13,9 @@ use Rattle.board.proofs.WellFormedStays.{every_step}
 use Rattle.board.proofs.TurnedOver.{same_crossed}
 use Rattle.capture.proofs.RoundTrips.{written_read_back, read_written_back}
 use Rattle.halfcells.proofs.TableHolds.{table_is_the_rule}
-use Rattle.log.proofs.OnceListed.{lists_in_order}
-use Rattle.log.proofs.Calls.{any_sequence}
-use Rattle.log.proofs.KeepsLast.{keeps_last}
+use Rattle.bay_log.proofs.OnceListed.{lists_in_order}
+use Rattle.bay_log.proofs.Calls.{any_sequence}
+use Rattle.bay_log.proofs.KeepsLast.{keeps_last}
 use Rattle.halfcells.proofs.Shown.{words_are_the_wave}
 use Rattle.halfcells.proofs.RoundTrips.{encoded_decodes, decoded_encodes}
 use Rattle.board.specs.Rows.{fresh}

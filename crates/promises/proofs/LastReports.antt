@@ -12,10 +12,10 @@ use Rattle.board.proofs.PackedBits.{length_packed}
 use Rattle.board.proofs.RowRules.{Ranged, Valid, valid_fresh, valid_next}
 use Rattle.board.proofs.CallLaws.{Whole, whole_next}
 use Rattle.board.proofs.Standing.{ranged_of}
-use Rattle.log.specs.Records.{Record}
-use Rattle.log.specs.Sequence.{ran, at_first}
-use Rattle.log.specs.LastEvents.{Event as Logged, last_of, ShowsRecords}
-use Rattle.log.proofs.KeepsLast.{keeps_last, Rise, rise_logged, none_cleared}
+use Rattle.bay_log.specs.Records.{Record}
+use Rattle.bay_log.specs.Sequence.{ran, at_first}
+use Rattle.bay_log.specs.LastEvents.{Event as Logged, last_of, ShowsRecords}
+use Rattle.bay_log.proofs.KeepsLast.{keeps_last, Rise, rise_logged, none_cleared}
 use Rattle.promises.specs.Hearing.{heeding}
 use Rattle.promises.specs.Logged.{log_of, logged_of, LastReports}
 use Rattle.promises.proofs.HearingFromC.{every_caller}

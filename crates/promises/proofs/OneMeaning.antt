@@ -69,14 +69,14 @@ use Rattle.capture.specs.declared.Checked.TheVariants as K
 use Rattle.capture.specs.declared.Written.{Written}
 use Rattle.capture.specs.declared.Written.TheVariants as W
 use Rattle.capture.specs.Answers.{number_says, head_says, checked_says, written_says}
-use Rattle.log.specs.declared.Logged.{Logged}
-use Rattle.log.specs.declared.Logged.TheVariants as L
-use Rattle.log.specs.declared.Cleared.{Cleared}
-use Rattle.log.specs.declared.Cleared.TheVariants as Z
-use Rattle.log.specs.declared.Listed.{Listed}
-use Rattle.log.specs.declared.Listed.TheVariants as O
-use Rattle.log.specs.Records.{Log}
-use Rattle.log.specs.Answers.{logged_says, cleared_says, listed_says}
+use Rattle.bay_log.specs.declared.Logged.{Logged}
+use Rattle.bay_log.specs.declared.Logged.TheVariants as L
+use Rattle.bay_log.specs.declared.Cleared.{Cleared}
+use Rattle.bay_log.specs.declared.Cleared.TheVariants as Z
+use Rattle.bay_log.specs.declared.Listed.{Listed}
+use Rattle.bay_log.specs.declared.Listed.TheVariants as O
+use Rattle.bay_log.specs.Records.{Log}
+use Rattle.bay_log.specs.Answers.{logged_says, cleared_says, listed_says}
 use Rattle.page.specs.declared.Put.{Put}
 use Rattle.page.specs.declared.Put.TheVariants as P
 use Rattle.page.specs.Answers.{put_says}

@@ -35,8 +35,8 @@ use Rattle.board.specs.WellFormed.{run_fits, run_level_fits, left_fits, found_fi
 use Rattle.board.specs.Answers.{refusing, begun, stepped, levels_of, to_event, listened, in_lent}
 use Rattle.board.specs.declared.Receiver.{Receiver}
 use Rattle.capture.specs.Writing.{capture_of}
-use Rattle.log.specs.Order.{listing, later}
-use Rattle.log.specs.Answers.{log_fits, count_holds, logged, cleared, listed}
+use Rattle.bay_log.specs.Order.{listing, later}
+use Rattle.bay_log.specs.Answers.{log_fits, count_holds, logged, cleared, listed}
 use Rattle.capture.specs.Capture.{then}
 use Rattle.capture.specs.Held.{place_after}
 use Rattle.capture.specs.Answers.{summary, checked, read_back, written}

@@ -23,7 +23,7 @@ use Rattle.board.specs.Packed.{unpacked, whole}
 use Rattle.board.specs.WellFormed.{well_formed}
 use Rattle.board.specs.Answers.{begun, start_says, stepped, stepped_says, listened, listened_says, in_lent, told_says}
 use Rattle.capture.specs.Capture.{header}
-use Rattle.log.specs.Answers.{logged, logged_says, cleared, cleared_says, listed, listed_says}
+use Rattle.bay_log.specs.Answers.{logged, logged_says, cleared, cleared_says, listed, listed_says}
 use Rattle.capture.specs.Answers.{head_says, checked, read_back, checked_says, written, written_says}
 use Rattle.timecode.specs.Answers.{read_times, write_time, read_says as times_says, written_says as word_says}
 use Rattle.text.specs.Decimal.{decimal, signed_decimal}
@@ -47,7 +47,7 @@ use Rattle.counted.proofs as Counted
 use Rattle.board.proofs as Board
 use Rattle.capture.proofs as Capture
 use Rattle.timecode.proofs as Timecode
-use Rattle.log.proofs as Log
+use Rattle.bay_log.proofs as Log
 use Rattle.text.proofs as Text
 use Rattle.page.proofs as Page
 use Rattle.region.proofs as Region

@@ -52,12 +52,12 @@ use Rattle.capture.specs.declared.held.CaptureReader.{CaptureReader}
 use Rattle.timecode.specs.Times.{word_of}
 use Rattle.timecode.specs.Answers.{listed_into, read_times, write_time}
 use Rattle.timecode.specs.RoundTrips.{WrittenReadsBack as TimesReadBack, ReadWritesBack as TimesWriteBack}
-use Rattle.log.specs.Records.{Log, is_free, put, event_record, free_record}
-use Rattle.log.specs.Order.{listing, takes}
-use Rattle.log.specs.ReadOrder.{ListsInOrder}
-use Rattle.log.specs.Answers.{logged, cleared, listed}
-use Rattle.log.specs.Sequence.{AnySequence}
-use Rattle.log.specs.LastEvents.{KeepsLast}
+use Rattle.bay_log.specs.Records.{Log, is_free, put, event_record, free_record}
+use Rattle.bay_log.specs.Order.{listing, takes}
+use Rattle.bay_log.specs.ReadOrder.{ListsInOrder}
+use Rattle.bay_log.specs.Answers.{logged, cleared, listed}
+use Rattle.bay_log.specs.Sequence.{AnySequence}
+use Rattle.bay_log.specs.LastEvents.{KeepsLast}
 use Rattle.page.specs.Lines.{heading_line, event_line, end_line, refused_line, page, capture_settings, capture_reads, output}
 use Rattle.page.specs.Walk.{Whole}
 use Rattle.region.specs.Lines.{report_lines}

@@ -26,9 +26,9 @@ use Rattle.board.specs.Packed.{settings_of, state_of}
 use Rattle.board.specs.WellFormed.{well_formed}
 use Rattle.board.specs.Answers.{reached, begun, levels_of, to_event}
 use Rattle.capture.specs.Writing.{capture_of}
-use Rattle.log.specs.Records.{Log, is_free, put, event_record, free_record}
-use Rattle.log.specs.Order.{listing, takes}
-use Rattle.log.specs.Answers.{logged, cleared, listed}
+use Rattle.bay_log.specs.Records.{Log, is_free, put, event_record, free_record}
+use Rattle.bay_log.specs.Order.{listing, takes}
+use Rattle.bay_log.specs.Answers.{logged, cleared, listed}
 use Rattle.capture.specs.Answers.{checked, read_back, written}
 use Rattle.timecode.specs.Times.{word_of}
 use Rattle.timecode.specs.Answers.{listed_into, read_times, write_time}

@@ -30,9 +30,9 @@ use Rattle.capture.specs.Capture.{Heading, Capture, total_most, reads_of_runs}
 use Rattle.capture.specs.Writing.{capture_of}
 use Rattle.timecode.specs.Words.{word_places}
 use Rattle.timecode.specs.Times.{time_fits, word_of}
-use Rattle.log.specs.Records.{Log}
-use Rattle.log.specs.Order.{listing, later}
-use Rattle.log.specs.Answers.{log_fits, count_holds}
+use Rattle.bay_log.specs.Records.{Log}
+use Rattle.bay_log.specs.Order.{listing, later}
+use Rattle.bay_log.specs.Answers.{log_fits, count_holds}
 use Rattle.region.specs.Lines.{report_lines}
 use Rattle.siengulot.specs.Receivers.{Lent, named, numbers_fit, receiver_lent}
 use Rattle.promises.specs.Promised.{Test, setting, limit, entries, entry, room}

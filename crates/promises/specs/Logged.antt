@@ -3,8 +3,8 @@ use Rattle.std.specs.Prelude.{ℕ, ◌≡◌, true, List, [], map, length}
 use Rattle.measure.specs.Ranges.{row_settings_fit, log_records}
 use Rattle.board.specs.Rows.{Settings, Event, nothing, row, broken}
 use Rattle.board.specs.Packed.{kept}
-use Rattle.log.specs.Sequence.{Call, ran, at_first}
-use Rattle.log.specs.LastEvents.{Event as Logged, call_of, record_of, NoClearing, logged_from, last_of, ShowsRecords}
+use Rattle.bay_log.specs.Sequence.{Call, ran, at_first}
+use Rattle.bay_log.specs.LastEvents.{Event as Logged, call_of, record_of, NoClearing, logged_from, last_of, ShowsRecords}
 use Rattle.promises.specs.Hearing.{Caller, hearing}
 
 -- K21: An event as it is logged, with its read's place for its read number: a row with its bits, and a broken row with

@@ -21,7 +21,7 @@ use Rattle.counted.proofs as Counted
 use Rattle.board.proofs as Board
 use Rattle.capture.proofs as Capture
 use Rattle.timecode.proofs as Timecode
-use Rattle.log.proofs as Log
+use Rattle.bay_log.proofs as Log
 use Rattle.text.proofs as Text
 use Rattle.page.proofs as Page
 use Rattle.region.proofs as Region

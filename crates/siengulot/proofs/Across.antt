@@ -3,7 +3,7 @@ use mathlib.Core.Path.{◌≡◌, ap}
 use Prim.Native.Nat.{ℕ}
 use mathlib.Core.List.{List}
 use Rattle.measure.specs.Refusals.{Answer}
-use Rattle.log.specs.Records.{Log}
+use Rattle.bay_log.specs.Records.{Log}
 use Rattle.siengulot.specs.Crossing.{crossing}
 use Rattle.siengulot.specs.Logs.{leaving}
 

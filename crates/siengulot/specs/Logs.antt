@@ -2,7 +2,7 @@
 -- arrays, and its count.
 use Rattle.std.specs.Prelude.{ℕ}
 use Rattle.measure.specs.Refusals.{Answer, given, refused, refused_after}
-use Rattle.log.specs.Records.{Log}
+use Rattle.bay_log.specs.Records.{Log}
 
 -- H16: the refusal's number (0: none), and the place taken or the count of records listed, which is 0 with a refusal
 abbrev pub logged_over : Answer ℕ → ℕ × ℕ

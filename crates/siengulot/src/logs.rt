@@ -1,10 +1,10 @@
 // The log of a bay: logging an event, clearing a record, listing, on five lists and a count that C lends.
 ghost use Rattle.std.specs.Prelude.{◌≡◌};
-ghost use Rattle.log.specs.Answers.{logged, cleared, listed, logged_says, cleared_says, listed_says};
+ghost use Rattle.bay_log.specs.Answers.{logged, cleared, listed, logged_says, cleared_says, listed_says};
 ghost use Rattle.siengulot.specs.Crossing.{crossing};
 ghost use Rattle.siengulot.specs.Logs.{logged_over, cleared_over, leaving};
 
-use log::{Cleared, Listed, Logged};
+use bay_log::{Cleared, Listed, Logged};
 use measure::{RECORD_BYTES, RECORDS};
 
 // The bytes of all records' bits.
@@ -90,7 +90,7 @@ pub extern "C" fn siengulot_log_event(
           },
         ) }
 {
-    let answer = log::log_event(
+    let answer = bay_log::log_event(
         number,
         row,
         count,
@@ -138,7 +138,7 @@ pub extern "C" fn siengulot_log_clear(
           },
         ) }
 {
-    let answer = log::clear(place, numbers, bits, counts, broken, free, broken_count);
+    let answer = bay_log::clear(place, numbers, bits, counts, broken, free, broken_count);
     of_cleared(answer)
 }
 
@@ -154,6 +154,6 @@ pub extern "C" fn siengulot_log_list(
     ensures { crossing logged_over (listed numbers.now free.now places.old)
         ≡ ((result, count.new), places.new) }
 {
-    let answer = log::list(numbers, free, places);
+    let answer = bay_log::list(numbers, free, places);
     of_listed(answer, count)
 }
