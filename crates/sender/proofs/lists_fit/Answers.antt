@@ -8,10 +8,8 @@ use native.Mathlib.Decide.{ℕ_discrete}
 use native.Mathlib.Omega.{arith}
 use lib.Dec.{leb, eqb}
 use lib.ListN.{length}
-use borrow.Author.Rules.{rules}
 use borrow.Author.Tests.{eq-eqb, ne_eqb}
-use Rattle.sender.proofs.lists_fit.Statement.{statement}
-use Rattle.sender.proofs.lists_fit.Tie as tie
+use Rattle.sender.proofs.lists_fit.Goals as goal
 
 goes_into : (other : Bool) (bits rows n : ℕ) → 0 < n
     → other && eqb (bits / n) rows && eqb bits (bits / n * n) ≡ other && eqb bits (rows * n)
@@ -22,16 +20,10 @@ goes_into true bits rows n h = go (ℕ_discrete (bits / n) rows)
     go (yes e) = rw (eq-eqb (bits / n) rows e, e)
     go (no e) = rw (ne_eqb (bits / n) rows e, ne_eqb bits (rows * n) (λ q. e (div-eq_of_eq-mul_left (omega arith) q)))
 
-div-rows : tie.Need-nonzero-div-rows
-div-rows c = search rules
+pub overflow_mul-result : goal.overflow_mul-result
+overflow_mul-result c = omega (arith, div-mul-le_self (length c.args.bits.now) c.args.n)
 
-mul-result : tie.Need-overflow-mul-result
-mul-result c = omega (arith, div-mul-le_self (length c.args.bits.now) c.args.n)
-
-returns : tie.Need-returns
+pub returns : goal.returns
 returns c =
     let leads = length c.args.leads.now in
     goes_into (leb 1 leads) (length c.args.bits.now) leads _ c.requires
-
-pub lists-fit-spec : {M : Type 1} → statement M
-lists-fit-spec = tie.close (tie.spec div-rows mul-result returns)
