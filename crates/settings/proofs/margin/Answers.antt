@@ -3,14 +3,12 @@
 use mathlib.Core.Path.{◌≡◌}
 use Prim.Native.Nat.{ℕ, ◌+◌, ◌*◌, ◌≤◌}
 use native.Mathlib.Omega.{arith}
-use borrow.Author.Rules.{rules}
 use lib.IntN.{pos, nat_abs, ◌-ℤ◌, ◌*ℤ◌}
 use mir.Syntax.{w64}
 use mir.Val.{SFits, to_z, of_z}
 use mir.Facts.{to_z_pos, to_z-of_z}
 use Rattle.settings.proofs.Size.{less_size, times_size, size_fits}
-use Rattle.settings.proofs.margin.Statement.{statement}
-use Rattle.settings.proofs.margin.Tie as tie
+use Rattle.settings.proofs.margin.Goals as goal
 
 -- the code's number of a setting is the definition's
 small : (n : ℕ) → n ≤ 65536 → to_z w64 n ≡ pos n
@@ -63,48 +61,18 @@ module _ (count spare cycle others other : ℕ)
   other-is : to_z w64 (of_z w64 (to_z w64 others *ℤ to_z w64 other)) ≡ pos others *ℤ pos other
   other-is = rw (small others fits.3, small other fits.4) (to_z-of_z other_fits)
 
-cast-kept : tie.Need-overflow-cast-kept
-cast-kept c = search rules
-
-cast-kept-2 : tie.Need-overflow-cast-kept-2
-cast-kept-2 c = search rules
-
-sub-kept : tie.Need-overflow-sub-kept
-sub-kept c =
+pub overflow_sub-kept : goal.overflow_sub-kept
+overflow_sub-kept c =
     kept _ _ _ _ _ c.requires
 
-cast-time : tie.Need-overflow-cast-time
-cast-time c = search rules
+pub overflow_mul-time : goal.overflow_mul-time
+overflow_mul-time c = time _ _ _ _ _ c.requires
 
-mul-time : tie.Need-overflow-mul-time
-mul-time c = time _ _ _ _ _ c.requires
+pub overflow_mul-other_time : goal.overflow_mul-other_time
+overflow_mul-other_time c = other-time _ _ _ _ _ c.requires
 
-cast-other-time : tie.Need-overflow-cast-other-time
-cast-other-time c = search rules
+pub overflow_sub-result : goal.overflow_sub-result
+overflow_sub-result c = rw (time-is _ _ _ _ _ c.requires, other-is _ _ _ _ _ c.requires) (margin-fits _ _ _ _ _ c.requires)
 
-cast-other-time-2 : tie.Need-overflow-cast-other-time-2
-cast-other-time-2 c = search rules
-
-mul-other-time : tie.Need-overflow-mul-other-time
-mul-other-time c = other-time _ _ _ _ _ c.requires
-
-sub-result : tie.Need-overflow-sub-result
-sub-result c = rw (time-is _ _ _ _ _ c.requires, other-is _ _ _ _ _ c.requires) (margin-fits _ _ _ _ _ c.requires)
-
-returns : tie.Need-returns
+pub returns : goal.returns
 returns c = rw (time-is _ _ _ _ _ c.requires, other-is _ _ _ _ _ c.requires) (to_z-of_z (margin-fits _ _ _ _ _ c.requires))
-
-pub margin-spec : {M : Type 1} → statement M
-margin-spec =
-    tie.close
-    (tie.spec
-    cast-kept
-    cast-kept-2
-    sub-kept
-    cast-time
-    mul-time
-    cast-other-time
-    cast-other-time-2
-    mul-other-time
-    sub-result
-    returns)
