@@ -1,5 +1,4 @@
 -- `choice` meets its contract: the choices that are left start with the one at the place, or there is none.
-use borrow.Author.Rules.{rules}
 use Rattle.line.proofs.SettleLaws.{next_there, next_none}
 use Rattle.line.proofs.choice.Goals as goal
 

@@ -1,7 +1,6 @@
 -- `count` meets its contract: its one test is the definition's, and the phase is below the end of the first cycle.
 use native.Mathlib.Nat.{mul-le-mul_right}
 use native.Mathlib.Omega.{arith}
-use borrow.Author.Rules.{rules}
 use Rattle.line.proofs.Times.{timed_w, timed_r, timed_p, cycle_least, product_most}
 use Rattle.line.proofs.WarpLaws.{count_some}
 use Rattle.line.proofs.count.Goals as goal

@@ -2,7 +2,6 @@
 -- that fits since a wave keeps to its limit.
 use Prim.Native.Nat.{◌+◌}
 use native.Mathlib.Omega.{arith}
-use borrow.Author.Rules.{rules}
 use Rattle.line.proofs.Times.{product_most}
 use Rattle.line.proofs.drop_last.Goals as goal
 

@@ -1,7 +1,6 @@
 -- `leave` meets its contract: its test is the definition's, and the end of a cycle that is kept stays as it is.
 use mathlib.Core.Path.{◌∙◌}
 use native.Mathlib.Omega.{arith}
-use borrow.Author.Rules.{rules}
 use borrow.Author.Tests.{lt-ltb, le-ltb}
 use Rattle.line.proofs.leave.Goals as goal
 

@@ -1,9 +1,8 @@
 -- `look_on` meets its contract: the next cycle ends one cycle's length later, and that fits since a wave keeps to its
 -- limit.
 use mathlib.Core.Path.{refl}
-use Prim.Native.Nat.{◌+◌, ◌*◌}
+use Prim.Native.Nat.{◌+◌}
 use native.Mathlib.Omega.{arith}
-use borrow.Author.Rules.{rules}
 use Rattle.line.proofs.Times.{product_most}
 use Rattle.line.proofs.look_on.Goals as goal
 

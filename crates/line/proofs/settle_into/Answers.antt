@@ -9,20 +9,20 @@ use Rattle.line.proofs.settle_into.Goals.{then-level-eq-UNKNOWN, else-level-eq-U
 pub loop-i-preserved : goal.loop-i-preserved
 loop-i-preserved c =
     elim c.if-level-eq-UNKNOWN.branch [
-      then-level-eq-UNKNOWN w ↦
-        rw (w.used-is, w.level-is) (
-          omega arith,
-          omega arith,
-          wrote_more _ _ _ _ _ _ (rw (settle_unknown _ _ _ _ c.loop-i-test.true w.if-level-eq-UNKNOWN.true, w.choice-level.ensures) at c.loop-i.invariant.2)
-              (omega arith),
-        )
-    | else-level-eq-UNKNOWN w ↦
-        rw (w.used-is, w.level-is) (
-          omega arith,
-          omega arith,
-          wrote_more _ _ _ _ _ _ (rw (settle_known _ _ _ c.loop-i-test.true w.if-level-eq-UNKNOWN.false) at c.loop-i.invariant.2)
-              (omega arith),
-        )
+      | then-level-eq-UNKNOWN w ↦
+          rw (w.used-is, w.level-is) (
+            omega arith,
+            omega arith,
+            wrote_more _ _ _ _ _ _ (rw (settle_unknown _ _ _ _ c.loop-i-test.true w.if-level-eq-UNKNOWN.true, w.choice-level.ensures) at c.loop-i.invariant.2)
+                (omega arith),
+          )
+      | else-level-eq-UNKNOWN w ↦
+          rw (w.used-is, w.level-is) (
+            omega arith,
+            omega arith,
+            wrote_more _ _ _ _ _ _ (rw (settle_known _ _ _ c.loop-i-test.true w.if-level-eq-UNKNOWN.false) at c.loop-i.invariant.2)
+                (omega arith),
+          )
     ]
 
 pub returns : goal.returns

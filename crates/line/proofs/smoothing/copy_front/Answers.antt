@@ -1,10 +1,9 @@
 -- `copy_front` meets its contract: the levels copied so far stand there, and the rest are to come.
 use mathlib.Core.Path.{◌≡◌, sym}
-use Prim.Native.Nat.{◌+◌, ◌-◌}
+use Prim.Native.Nat.{◌+◌}
 use native.Mathlib.Omega.{arith}
 use Rattle.measure.proofs.LevelLaws.{get_d_any}
-use Rattle.line.specs.Windows.{level_at}
-use Rattle.line.proofs.Windows.{Listing, listing_none, listing_one, listing_all}
+use Rattle.line.proofs.Windows.{listing_none, listing_one, listing_all}
 use Rattle.line.proofs.smoothing.copy_front.Goals as goal
 
 pub loop-i-init : goal.loop-i-init

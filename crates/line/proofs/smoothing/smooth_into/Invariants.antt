@@ -1,10 +1,8 @@
 -- `smooth_into` meets its contract: each block writes the part of the smoothed wave that comes next.
-use mathlib.Core.Path.{◌≡◌, ◌∙◌}
-use Prim.Native.Nat.{ℕ, ◌-◌}
-use native.Mathlib.Omega.{arith}
-use borrow.Author.Rules.{rules}
-use lib.ListN.{length, length-replicate}
-use Rattle.line.proofs.Blocks.{Further, first_block, further_none, further_one, smoothing_all}
+use mathlib.Core.Path.{◌≡◌}
+use Prim.Native.Nat.{◌-◌}
+use lib.ListN.{length}
+use Rattle.line.proofs.Blocks.{Further}
 use Rattle.line.proofs.smoothing.smooth_into.Given as goal
 
 abbrev pub invariant-loop-done : goal.invariant-loop-done

@@ -1,11 +1,8 @@
 -- `all_between` meets its contract: the first length out of its bounds is found, or there is none.
-use mathlib.Core.Path.{◌≡◌, refl, ◌∙◌}
+use mathlib.Core.Path.{◌≡◌}
 use Prim.Native.Nat.{◌-◌, ◌≤◌}
-use native.Mathlib.Omega.{arith}
 use lib.ListN.{length, drop}
-use borrow.Author.Rules.{rules}
 use Rattle.line.specs.Answers.{all_between}
-use Rattle.line.proofs.LengthsFit.{between_on, below_least, above_most, between_end}
 use Rattle.line.proofs.wander.all_between.Given as goal
 
 abbrev pub invariant-loop-i : goal.invariant-loop-i

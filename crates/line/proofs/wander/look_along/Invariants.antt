@@ -1,15 +1,11 @@
 -- `look_along` meets its contract: a read under way stays the same read with each cycle looked at, and it ends with the
 -- first that does not end before it.
-use mathlib.Core.Path.{◌≡◌, refl, sym, ap, ◌∙◌}
+use mathlib.Core.Path.{◌≡◌}
 use Prim.Native.Nat.{ℕ, ◌+◌, ◌-◌, ◌<◌, ◌≤◌}
-use native.Mathlib.Omega.{arith}
 use lib.ListN.{length, drop}
-use borrow.Author.Rules.{rules}
 use Rattle.line.specs.Warp.{look, dropped}
 use Rattle.line.specs.Looking.{UnderWay}
 use Rattle.line.specs.Running.{clock_of}
-use Rattle.line.proofs.UnderWay.{way_first, way_on, way_gone}
-use Rattle.line.proofs.WanderClocks.{ticks, next_time, next_most, among}
 use Rattle.line.proofs.wander.look_along.Given as goal
 
 abbrev pub invariant-loop-over : goal.invariant-loop-over

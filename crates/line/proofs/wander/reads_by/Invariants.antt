@@ -2,12 +2,8 @@
 -- there is none.
 use mathlib.Core.Path.{◌≡◌}
 use Prim.Native.Nat.{ℕ, suc, ◌-◌, ◌<◌, ◌≤◌}
-use native.Mathlib.Numerals.{add-one}
-use native.Mathlib.Omega.{arith}
 use lib.ListN.{length}
-use borrow.Author.Rules.{rules}
 use Rattle.line.specs.Running.{clock_of}
-use Rattle.line.proofs.WanderClocks.{clock_first, next_time, next_most, end_one}
 use Rattle.line.proofs.wander.reads_by.Given as goal
 
 abbrev pub invariant-loop-j : goal.invariant-loop-j

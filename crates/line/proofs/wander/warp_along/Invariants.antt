@@ -1,15 +1,9 @@
 -- `warp_along` meets its contract: what is written, followed by the reads to come, is the warp of the wave by the two
 -- clocks that the lengths make.
 use mathlib.Core.Path.{◌≡◌}
-use Prim.Native.Nat.{ℕ, suc, ◌+◌, ◌-◌, ◌<◌, ◌≤◌}
-use native.Mathlib.Numerals.{add-one}
-use native.Mathlib.Omega.{arith}
-use lib.ListN.{length, get_or}
-use borrow.Author.Rules.{rules}
+use Prim.Native.Nat.{◌-◌, ◌≤◌}
 use Rattle.line.specs.Running.{clock_of}
-use Rattle.line.proofs.Clocks.{Clocks}
-use Rattle.line.proofs.WarpRun.{Run, run_none, run_begun, run_more, run_some}
-use Rattle.line.proofs.WanderClocks.{clock_first, next_end, next_time, next_most, time_most, clocks_of}
+use Rattle.line.proofs.WarpRun.{Run}
 use Rattle.line.proofs.wander.warp_along.Given as goal
 
 abbrev pub invariant-loop-j : goal.invariant-loop-j

@@ -1,10 +1,7 @@
 -- `wave_end` meets its contract: each turn adds a cycle's length, and no sum passes that of the longest list.
 use mathlib.Core.Path.{◌≡◌}
 use Prim.Native.Nat.{◌-◌, ◌≤◌}
-use native.Mathlib.Omega.{arith}
-use borrow.Author.Rules.{rules}
 use Rattle.line.specs.Running.{clock_of}
-use Rattle.line.proofs.WanderClocks.{clock_first, next_time, next_most}
 use Rattle.line.proofs.wander.wave_end.Given as goal
 
 abbrev pub invariant-loop-i : goal.invariant-loop-i
