@@ -1,4 +1,6 @@
 // The counted receiver: n bits out of a list of reads, with no quiet.
+#![tactic(auto)]
+
 ghost use Rattle.std.specs.Prelude.{◌≡◌, ◌+◌, ◌^◌, ◌≤◌, ◌<◌, length, drop};
 ghost use Rattle.measure.specs.Cells.{bit_of};
 ghost use Rattle.counted.specs.Counted.{from_mark, counted, current as current_read};
@@ -71,7 +73,7 @@ fn count_into(k: ReadCycles, n: usize, level: u8, reads: &[u8], out: &mut [u8]) 
         if left <= k.0 {
             return Received::RanOut(i, current);
         }
-        current = sample_after(mark, k);
+        current = sample_after(mark, ReadCycles(k.0));
         held = reads[current];
         out[i] = bit(reads[mark], held);
         i += 1;
@@ -92,7 +94,7 @@ pub fn count_bits(k: ReadCycles, n: usize, level: u8, reads: &[u8], out: &mut [u
     ensures { counted_bits k.0 n level reads.now out.old
         ≡ (counted_says result, out.new) }
 {
-    if !in_range(k, n, level) {
+    if !in_range(ReadCycles(k.0), n, level) {
         return Received::Refused(Refusal::Setting(0));
     }
     if reads.len() > ENTRIES_MOST {
