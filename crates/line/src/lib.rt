@@ -49,6 +49,7 @@ fn agreed(one: u8, other: u8) -> u8
 // Refuses with 1 a g out of range, with 3 a wave over its limit, with 2 an entry that is no level, and its place, and
 // with 4 an output shorter than the wave.
 // The output's front holds the smoothed wave, and its rest is untouched; a refusal leaves it whole as it was.
+#[tactic(auto, using(crate::proofs::SmoothLaws::length_smooth), unfolding(crate::specs::Answers::smoothed))]
 pub fn smooth(wave: &[u8], g: WriterCycles, out: &mut [u8]) -> Smoothed
     ensures { smoothed g.0 wave.now out.old ≡ (smoothed_says result, out.new) }
 {
@@ -227,7 +228,13 @@ fn reconcile(wave: &[u8], looking: Looking, w: TimeUnits, span: TimeUnits, t: Ti
     let at = look_block(wave, looking, w, span, t);
     let over = at.end.0;
     if over < until {
-        return reconcile(wave, at, TimeUnits(cycle), TimeUnits(block), TimeUnits(until));
+        return reconcile(
+            wave,
+            at,
+            TimeUnits(cycle),
+            TimeUnits(block),
+            TimeUnits(until),
+        );
     }
     leave(at, TimeUnits(cycle), TimeUnits(until))
 }
@@ -283,10 +290,22 @@ fn one_read(
     if until == over_three {
         return drop_last(three, TimeUnits(cycle));
     }
-    let at = look_block(wave, three, TimeUnits(cycle), TimeUnits(block), TimeUnits(until));
+    let at = look_block(
+        wave,
+        three,
+        TimeUnits(cycle),
+        TimeUnits(block),
+        TimeUnits(until),
+    );
     let over_block = at.end.0;
     if over_block < until {
-        return reconcile(wave, at, TimeUnits(cycle), TimeUnits(block), TimeUnits(until));
+        return reconcile(
+            wave,
+            at,
+            TimeUnits(cycle),
+            TimeUnits(block),
+            TimeUnits(until),
+        );
     }
     leave(at, TimeUnits(cycle), TimeUnits(until))
 }
@@ -308,8 +327,14 @@ fn warp_into(wave: &[u8], w: TimeUnits, r: TimeUnits, p: TimeUnits, n: ReadCycle
     let mut j = 0;
     while j < all {
         t += read;
-        let looked =
-            one_read(wave, first, end, TimeUnits(cycle), TimeUnits(block), TimeUnits(t));
+        let looked = one_read(
+            wave,
+            first,
+            end,
+            TimeUnits(cycle),
+            TimeUnits(block),
+            TimeUnits(t),
+        );
         out[j] = looked.level;
         first = looked.left;
         end = looked.end;
@@ -321,6 +346,7 @@ fn warp_into(wave: &[u8], w: TimeUnits, r: TimeUnits, p: TimeUnits, n: ReadCycle
 // Refuses with 1 times out of range and a p that is not below w, with 3 a wave over its limit and one whose reads would
 // be, with 2 an entry that is no level and not unknown, and its place, and with 4 an output shorter than the reads.
 // The output's front holds the reads, and its rest is untouched; a refusal leaves it whole as it was.
+#[tactic(auto, using(crate::proofs::Counted::timed_count), unfolding(crate::specs::Answers::warped))]
 pub fn warp(wave: &[u8], w: TimeUnits, r: TimeUnits, p: TimeUnits, out: &mut [u8]) -> Read
     ensures { warped w.0 r.0 p.0 wave.now out.old
         ≡ (read_says result, out.new) }
@@ -334,7 +360,12 @@ pub fn warp(wave: &[u8], w: TimeUnits, r: TimeUnits, p: TimeUnits, out: &mut [u8
     if ENTRIES_MOST < wave.len() {
         return Read::Refused(Refusal::Limit);
     }
-    let n = count(WriterCycles(wave.len()), TimeUnits(cycle), TimeUnits(read), TimeUnits(phase));
+    let n = count(
+        WriterCycles(wave.len()),
+        TimeUnits(cycle),
+        TimeUnits(read),
+        TimeUnits(phase),
+    );
     if ENTRIES_MOST < n.0 {
         return Read::Refused(Refusal::Limit);
     }
@@ -346,7 +377,14 @@ pub fn warp(wave: &[u8], w: TimeUnits, r: TimeUnits, p: TimeUnits, out: &mut [u8
     if out.len() < reads {
         return Read::Refused(Refusal::Room);
     }
-    warp_into(wave, TimeUnits(cycle), TimeUnits(read), TimeUnits(phase), n, out);
+    warp_into(
+        wave,
+        TimeUnits(cycle),
+        TimeUnits(read),
+        TimeUnits(phase),
+        n,
+        out,
+    );
     Read::Reads(ReadCycles(reads))
 }
 
@@ -384,6 +422,7 @@ fn settle_into(reads: &[u8], choices: &[u8], out: &mut [u8])
 // Refuses with 3 reads or choices over their limit, with 2 a read that is no level and not unknown, and then a choice
 // that is no level, and its place in its own list, and with 4 an output shorter than the reads.
 // The output's front holds the settled reads, and its rest is untouched; a refusal leaves it whole as it was.
+#[tactic(auto, using(crate::proofs::SettleLaws::length_settle), unfolding(crate::specs::Answers::settled))]
 pub fn settle(reads: &[u8], choices: &[u8], out: &mut [u8]) -> Read
     ensures { settled reads.now choices.now out.old
         ≡ (read_says result, out.new) }

@@ -232,6 +232,7 @@ fn lengths_fit(
 // the first writer cycle's length), 3 (a list of more than 1,048,576 entries), 2 (the place of the first entry of the
 // wave that is no level and not unknown), 4 (an output shorter than the reads).
 // The output's front holds the reads, and its rest is untouched; a refusal leaves it whole as it was.
+#[tactic(auto, unfolding(crate::specs::Answers::warped_by_lengths))]
 pub fn warp_by_lengths(
     wave: &[u8],
     w1: TimeUnits,
