@@ -1,18 +1,14 @@
 -- `listen` meets its contract: the state and the length are judged in the definition's order, and the rest is what was
 -- heard read by read, on bits that are put back where a read is refused.
-use Prim.Native.Nat.{ℕ}
 use mathlib.Core.Path.{◌≡◌, sym, ◌∙◌, ap}
 use mathlib.Core.Bool.{Bool, true, false}
-use mathlib.Core.List.{List}
 use borrow.Author.Tests.{lt-ltb, le-ltb}
 use lib.ListN.{length}
-use Rattle.board.specs.declared.Bare.{Bare}
 use Rattle.board.specs.declared.Receiver.{Receiver}
-use Rattle.board.specs.declared.state.Numbers.{Numbers}
 use Rattle.board.specs.Packed.{whole, settings_of, state_of}
 use Rattle.board.specs.WellFormed.{well_formed}
 use Rattle.board.specs.Answers.{refusing, in_lent, listened}
-use Rattle.board.specs.Listening.{settings_from, keeping, heard_from, heard_says}
+use Rattle.board.specs.Listening.{heard_from, heard_says}
 use Rattle.board.proofs.ListenedLaws.{listened_is}
 use Rattle.board.proofs.Bare.listen.Goals as goal
 

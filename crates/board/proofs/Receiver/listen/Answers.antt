@@ -1,6 +1,6 @@
 -- `listen` meets its contract: it listens on its own bits, with no row in the bytes for one.
 use Prim.Native.Nat.{ℕ}
-use mathlib.Core.Path.{◌≡◌, sym, ◌∙◌, ap}
+use mathlib.Core.Path.{sym, ◌∙◌, ap}
 use mathlib.Core.List.{List}
 use Rattle.board.specs.declared.Receiver.{Receiver}
 use Rattle.board.specs.Answers.{in_lent, listened}

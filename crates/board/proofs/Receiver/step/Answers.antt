@@ -1,6 +1,6 @@
 -- `step` meets its contract: it takes its read on its own bits, with no row in the bytes for one.
 use Prim.Native.Nat.{ℕ}
-use mathlib.Core.Path.{◌≡◌, sym, ◌∙◌, ap}
+use mathlib.Core.Path.{sym, ◌∙◌, ap}
 use mathlib.Core.List.{List, [], ◌∷◌}
 use Rattle.board.specs.declared.Receiver.{Receiver}
 use Rattle.board.specs.Answers.{Outcome, in_lent, listened}

@@ -1,12 +1,10 @@
 -- `from_hunting` meets its contract: until the run is q a read changes the run alone, and with that read the mode is
 -- ready.
-use Prim.Native.Nat.{◌-◌, ◌<◌, ◌≤◌}
-use mathlib.Core.Path.{◌≡◌, refl, sym, ◌∙◌}
+use mathlib.Core.Path.{◌≡◌, sym, ◌∙◌}
 use native.Mathlib.Omega.{arith}
-use lib.ListN.{length, get_or, drop}
+use lib.ListN.{get_or}
 use Rattle.board.specs.Rows.{run_of, hunting}
 use Rattle.board.specs.Listening.{settings_from, longer}
-use Rattle.board.proofs.Standing.{ranged_of}
 use Rattle.board.proofs.ListeningLaws.{heard_end, heard_bad, heard_move, longer_most, next_quiet, next_on}
 use Rattle.board.proofs.listening.from_hunting.Goals as goal
 

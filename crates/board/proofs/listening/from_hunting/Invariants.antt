@@ -1,17 +1,13 @@
 -- `from_hunting` meets its contract: until the run is q a read changes the run alone, and with that read the mode is
 -- ready.
 use Prim.Native.Nat.{◌-◌, ◌<◌, ◌≤◌}
-use mathlib.Core.Path.{◌≡◌, refl, sym, ◌∙◌}
+use mathlib.Core.Path.{◌≡◌}
 use mathlib.Core.List.{[]}
-use native.Mathlib.Omega.{arith}
-use lib.ListN.{length, get_or, drop}
+use lib.ListN.{length, drop}
 use Rattle.board.specs.declared.Receiver.{Receiver}
-use Rattle.board.specs.Rows.{Settings, run_of, hunting}
+use Rattle.board.specs.Rows.{run_of, hunting}
 use Rattle.board.specs.Packed.{kept}
-use Rattle.board.specs.Listening.{settings_from, longer, heard_from}
-use Rattle.board.proofs.RowRules.{Ranged}
-use Rattle.board.proofs.Standing.{ranged_of}
-use Rattle.board.proofs.ListeningLaws.{heard_end, heard_bad, heard_move, longer_most, next_quiet, next_on}
+use Rattle.board.specs.Listening.{settings_from, heard_from}
 use Rattle.board.proofs.listening.from_hunting.Given as goal
 
 abbrev pub invariant-loop-i : goal.invariant-loop-i

@@ -1,12 +1,9 @@
 -- `from_ready` meets its contract: a read of the quiet's level leaves ready as it is, and another is the mark, from
 -- which counting goes on.
-use Prim.Native.Nat.{ℕ, ◌-◌, ◌≤◌}
+use Prim.Native.Nat.{ℕ, ◌≤◌}
 use mathlib.Core.Path.{◌≡◌, refl, ◌∙◌}
-use mathlib.Core.Bool.{true}
 use mathlib.Core.List.{List, []}
 use native.Mathlib.Omega.{arith}
-use lib.ListN.{length, drop}
-use Rattle.measure.specs.Ranges.{row_settings_fit}
 use Rattle.board.specs.Rows.{Settings}
 use Rattle.board.specs.Packed.{kept}
 use Rattle.board.specs.Listening.{settings_from}

@@ -1,19 +1,13 @@
 -- `from_ready` meets its contract: a read of the quiet's level leaves ready as it is, and another is the mark, from
 -- which counting goes on.
-use Prim.Native.Nat.{ℕ, ◌-◌, ◌≤◌}
-use mathlib.Core.Path.{◌≡◌, refl, ◌∙◌}
+use Prim.Native.Nat.{◌-◌, ◌≤◌}
+use mathlib.Core.Path.{◌≡◌}
 use mathlib.Core.List.{[]}
-use native.Mathlib.Omega.{arith}
 use lib.ListN.{length, drop}
 use Rattle.board.specs.declared.Receiver.{Receiver}
-use Rattle.board.specs.Rows.{Settings, ready}
+use Rattle.board.specs.Rows.{ready}
 use Rattle.board.specs.Packed.{kept}
 use Rattle.board.specs.Listening.{settings_from, heard_from}
-use Rattle.board.proofs.PackedBits.{binary_none}
-use Rattle.board.proofs.RowRules.{Ranged}
-use Rattle.board.proofs.Standing.{ranged_of}
-use Rattle.board.proofs.ListeningLaws.{heard_end, heard_bad, heard_move, ready_on, ready_mark}
-use Rattle.board.proofs.CellLaws.{Marked, mark_keeps, mark_heard}
 use Rattle.board.proofs.listening.from_ready.Given as goal
 
 abbrev pub invariant-loop-i : goal.invariant-loop-i

@@ -1,9 +1,8 @@
 -- `from_waiting` meets its contract: the mark that it finds is a cell's, from which counting goes on.
 use Prim.Native.Nat.{ℕ, ◌<◌, ◌≤◌}
-use mathlib.Core.Path.{◌≡◌, refl, ◌∙◌, ap}
+use mathlib.Core.Path.{◌≡◌, ◌∙◌, ap}
 use mathlib.Core.List.{List}
 use native.Mathlib.Omega.{arith}
-use lib.ListN.{length, drop}
 use Rattle.board.specs.declared.Mode.TheVariants.{Waiting}
 use Rattle.board.specs.declared.Receiver.{Receiver}
 use Rattle.board.specs.declared.state.Numbers.{Numbers}

@@ -1,5 +1,5 @@
 -- `hear` meets its contract: each mode has its function, and in hunting and ready no bits are kept.
-use mathlib.Core.Path.{◌≡◌, ◌∙◌, ap}
+use mathlib.Core.Path.{◌∙◌, ap}
 use native.Mathlib.Omega.{arith}
 use Rattle.board.specs.Rows.{State}
 use Rattle.board.specs.Listening.{settings_from, heard_from}

@@ -1,12 +1,6 @@
 -- `all_zero` meets its contract: the bits of the entries looked at so far, taken together, are 0 where all of them are.
-use Prim.Native.Nat.{◌-◌, ◌≤◌}
-use mathlib.Core.Path.{◌≡◌, refl}
-use mathlib.Core.Bool.{◌&&◌}
 use native.Mathlib.Omega.{arith}
-use lib.Dec.{eqb}
-use lib.ListN.{length, drop}
-use Rattle.board.specs.WellFormed.{all_zero}
-use Rattle.board.proofs.UnusedBits.{looked_on, looked_all}
+use Rattle.board.proofs.UnusedBits.{looked_on}
 use Rattle.board.proofs.state.all_zero.Goals as goal
 
 pub loop-i-preserved : goal.loop-i-preserved

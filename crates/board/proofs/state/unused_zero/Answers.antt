@@ -1,14 +1,14 @@
 -- `unused_zero` meets its contract: the byte in which the next bit falls is below that bit's weight, and every later
 -- byte is 0.
-use Prim.Native.Nat.{ℕ, suc, ◌+◌, ◌-◌, ◌/◌, ◌%◌, ◌^◌, ◌*◌, ◌≤◌, ◌<◌}
+use Prim.Native.Nat.{ℕ, suc, ◌+◌, ◌-◌, ◌/◌}
 use mathlib.Core.Path.{◌≡◌, refl, ◌∙◌}
-use mathlib.Core.Bool.{Bool, true, false}
+use mathlib.Core.Bool.{Bool}
 use mathlib.Core.List.{List}
 use native.Mathlib.Numerals.{add-one}
 use native.Mathlib.Omega.{arith}
-use lib.ListN.{length, get_or, take, drop, length-drop}
+use lib.ListN.{length, take, drop, length-drop}
 use lib.Seq.{drop-drop, take_all}
-use Rattle.board.specs.WellFormed.{all_zero, unused_zero}
+use Rattle.board.specs.WellFormed.{all_zero}
 use Rattle.board.proofs.UnusedBits.{unused_over, unused_rest, zero_part, zero_past}
 use Rattle.board.proofs.state.unused_zero.Goals as goal
 
