@@ -42,6 +42,7 @@ fn prefixed(byte: usize, rest: Front) -> Front
 }
 
 // A byte that follows another of its number, and at most `more` after it. A last byte of 0 is not the shortest form.
+#[tactic(auto, using(crate::proofs::Groups::following_zero_at))]
 fn following_at(bytes: &[u8], at: usize, more: usize) -> Front
     requires { more < further }
     ensures { following more (drop at bytes.now) ≡ front_says result }

@@ -1,0 +1,11 @@
+-- `fill` meets its contract: each turn stores the level once, and the rest of the run is still to come.
+use Prim.Native.Nat.{◌-◌}
+use native.Mathlib.Omega.{arith}
+use Rattle.measure.proofs.Stores.{Filled, filled_none, filled_one, filled_all}
+use Rattle.capture.proofs.reading.fill.Given as goal
+
+abbrev pub invariant-loop-i : goal.invariant-loop-i
+invariant-loop-i l = Filled l.initial.out l.from l.count l.level l.out l.i
+
+abbrev pub decreases-loop-i : goal.decreases-loop-i
+decreases-loop-i l = l.count - l.i

@@ -1,0 +1,11 @@
+-- `put_spelled` meets its contract: each turn stores one group, and the groups of what is left are still to come.
+use native.Mathlib.Omega.{arith}
+use lib.ListN.{length-set}
+use Rattle.capture.proofs.Spelling.{Put, put_none, put_one, put_all, put_room}
+use Rattle.capture.proofs.writing.put_spelled.Given as goal
+
+abbrev pub invariant-loop-left : goal.invariant-loop-left
+invariant-loop-left l = Put l.v l.initial.out l.at l.out l.left l.to
+
+abbrev pub decreases-loop-left : goal.decreases-loop-left
+decreases-loop-left l = l.left
