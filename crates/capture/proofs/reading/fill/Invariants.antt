@@ -1,7 +1,6 @@
 -- `fill` meets its contract: each turn stores the level once, and the rest of the run is still to come.
 use Prim.Native.Nat.{◌-◌}
-use native.Mathlib.Omega.{arith}
-use Rattle.measure.proofs.Stores.{Filled, filled_none, filled_one, filled_all}
+use Rattle.measure.proofs.Stores.{Filled}
 use Rattle.capture.proofs.reading.fill.Given as goal
 
 abbrev pub invariant-loop-i : goal.invariant-loop-i

@@ -1,8 +1,7 @@
 -- `put_runs` meets its contract: each turn stores one run's bytes, and those of the runs after it are still to come.
 use Prim.Native.Nat.{◌-◌}
-use native.Mathlib.Omega.{arith}
 use lib.ListN.{length}
-use Rattle.capture.proofs.Grouping.{Laid, laid_none, laid_room, laid_one, laid_all}
+use Rattle.capture.proofs.Grouping.{Laid}
 use Rattle.capture.proofs.writing.put_runs.Given as goal
 
 abbrev pub invariant-loop-at : goal.invariant-loop-at

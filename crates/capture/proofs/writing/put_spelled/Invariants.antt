@@ -1,7 +1,5 @@
 -- `put_spelled` meets its contract: each turn stores one group, and the groups of what is left are still to come.
-use native.Mathlib.Omega.{arith}
-use lib.ListN.{length-set}
-use Rattle.capture.proofs.Spelling.{Put, put_none, put_one, put_all, put_room}
+use Rattle.capture.proofs.Spelling.{Put}
 use Rattle.capture.proofs.writing.put_spelled.Given as goal
 
 abbrev pub invariant-loop-left : goal.invariant-loop-left

@@ -1,8 +1,7 @@
 -- `run_end` meets its contract: the run goes on while the reads are equal to its first.
 use Prim.Native.Nat.{◌-◌}
-use native.Mathlib.Omega.{arith}
 use lib.ListN.{length}
-use Rattle.capture.proofs.Grouping.{Same, same_none, same_more, same_end, same_all}
+use Rattle.capture.proofs.Grouping.{Same}
 use Rattle.capture.proofs.writing.run_end.Given as goal
 
 abbrev pub invariant-loop-end : goal.invariant-loop-end

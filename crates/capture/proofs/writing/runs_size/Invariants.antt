@@ -1,10 +1,7 @@
 -- `runs_size` meets its contract: each turn counts one run's bytes, and those of the runs after it are still to come.
 use Prim.Native.Nat.{◌-◌}
-use native.Mathlib.Omega.{arith}
 use lib.ListN.{length}
-use Rattle.capture.specs.Numbers.{further}
-use Rattle.capture.proofs.Grouping.{Counted, counted_none, counted_one, counted_all}
-use Rattle.capture.proofs.Spelling.{size_run}
+use Rattle.capture.proofs.Grouping.{Counted}
 use Rattle.capture.proofs.writing.runs_size.Given as goal
 
 abbrev pub invariant-loop-at : goal.invariant-loop-at

@@ -1,6 +1,5 @@
 -- `spelled_size` meets its contract: each turn counts one group, and the groups of what is left are still to come.
-use native.Mathlib.Omega.{arith}
-use Rattle.capture.proofs.Spelling.{Sized, sized_none, sized_one, sized_all}
+use Rattle.capture.proofs.Spelling.{Sized}
 use Rattle.capture.proofs.writing.spelled_size.Given as goal
 
 abbrev pub invariant-loop-left : goal.invariant-loop-left

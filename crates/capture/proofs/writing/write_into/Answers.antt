@@ -1,5 +1,5 @@
 -- `write_into` meets its contract: each number is stored, and the numbers after it and the runs are still to come.
-use Rattle.std.proofs.Common.{◌≡◌, ℕ, ◌+◌, ◌≤◌, List, ◌++◌, length, ◌∙◌, arith}
+use Rattle.std.proofs.Common.{◌≡◌, ℕ, ◌+◌, List, ◌++◌, length, ◌∙◌, arith}
 use Rattle.std.proofs.lemmas.List.Edits.{sets}
 use Rattle.capture.specs.Numbers.{spelled}
 use Rattle.capture.specs.Writing.{capture_of, first_level, runs_of, numbers}
@@ -40,8 +40,7 @@ module _ (k n q : ℕ) (reads out : List ℕ) (level : ℕ) (e : level ≡ first
 pub put_spelled-n_at-requires : goal.put_spelled-n_at-requires
 put_spelled-n_at-requires c =
     let a = c.args in
-    let b = begun a.k a.n a.q a.reads.now a.out.now _ c.first_level-level.ensures.0 in
-    (
+    let b = begun a.k a.n a.q a.reads.now a.out.now _ c.first_level-level.ensures.0 in (
       (settings_low a.k a.n a.q c.requires.q_value.0).0,
       stored_next (spelled a.k) _ b (omega (arith, c.requires.reads_in_bounds)),
     )
@@ -50,8 +49,7 @@ pub put_spelled-q_at-requires : goal.put_spelled-q_at-requires
 put_spelled-q_at-requires c =
     let a = c.args in
     let k = c.put_spelled-n_at.ensures in
-    let b = k_put a.k a.n a.q a.reads.now a.out.now _ c.first_level-level.ensures.0 _ _ k.1 k.0 in
-    (
+    let b = k_put a.k a.n a.q a.reads.now a.out.now _ c.first_level-level.ensures.0 _ _ k.1 k.0 in (
       (settings_low a.k a.n a.q c.requires.q_value.0).1.0,
       stored_next (spelled a.n) _ b (omega (arith, c.requires.reads_in_bounds)),
     )
@@ -61,8 +59,7 @@ put_spelled-level_at-requires c =
     let a = c.args in
     let k = c.put_spelled-n_at.ensures in
     let n = c.put_spelled-q_at.ensures in
-    let b = n_put a.k a.n a.q a.reads.now a.out.now _ c.first_level-level.ensures.0 _ _ k.1 k.0 _ _ n.1 n.0 in
-    (
+    let b = n_put a.k a.n a.q a.reads.now a.out.now _ c.first_level-level.ensures.0 _ _ k.1 k.0 _ _ n.1 n.0 in (
       (settings_low a.k a.n a.q c.requires.q_value.0).1.1,
       stored_next (spelled a.q) _ b (omega (arith, c.requires.reads_in_bounds)),
     )
@@ -74,8 +71,7 @@ put_spelled-after-requires c =
     let n = c.put_spelled-q_at.ensures in
     let q = c.put_spelled-level_at.ensures in
     let b =
-    q_put a.k a.n a.q a.reads.now a.out.now _ c.first_level-level.ensures.0 _ _ k.1 k.0 _ _ n.1 n.0 _ _ q.1 q.0 in
-    (
+    q_put a.k a.n a.q a.reads.now a.out.now _ c.first_level-level.ensures.0 _ _ k.1 k.0 _ _ n.1 n.0 _ _ q.1 q.0 in (
       omega (arith, c.first_level-level.ensures.1),
       stored_next (spelled c.first_level-level.result) _ b (omega (arith, c.requires.reads_in_bounds)),
     )
