@@ -16,10 +16,9 @@ returns-in_default c =
     (runs_refused _ _ _ c.loop-at-test.true _ _ c.in_default.ensures)
     ∙ ap denied (sym (c.number_refusal.ensures _ c.in_default.is))
 
-pub returns-then-run-lt1 : goal.returns-then-run-lt1
-returns-then-run-lt1 c =
-    tally_refused c.loop-at.invariant _ _
-    (runs_none _ _ _ c.loop-at-test.true _ c.in-Is.ensures c.if-run-lt1.true)
+pub returns-then-run-lt-RUN_LEAST : goal.returns-then-run-lt-RUN_LEAST
+returns-then-run-lt-RUN_LEAST c =
+    tally_refused c.loop-at.invariant _ _ (runs_none _ _ _ c.loop-at-test.true _ c.in-Is.ensures (omega arith))
 
 pub overflow_add-total : goal.overflow_add-total
 overflow_add-total c =
@@ -29,7 +28,7 @@ overflow_add-total c =
 pub returns-then-total-gt-TOTAL_MOST : goal.returns-then-total-gt-TOTAL_MOST
 returns-then-total-gt-TOTAL_MOST c =
     tally_refused c.loop-at.invariant _ _
-    (runs_over _ _ _ c.loop-at-test.true _ c.in-Is.ensures c.if-run-lt1.false c.if-total-gt-TOTAL_MOST.true)
+    (runs_over _ _ _ c.loop-at-test.true _ c.in-Is.ensures (omega arith) c.if-total-gt-TOTAL_MOST.true)
 
 pub loop-at-smaller : goal.loop-at-smaller
 loop-at-smaller c = omega (arith, number_on _ _ _ c.in-Is.ensures, c.loop-at-test.true)
