@@ -1,5 +1,7 @@
 // Judging settings: the margins of the rules as signed numbers, and yes or no. Each margin is over the ends of the two
 // clocks, w1 to w2 and r1 to r2; steady clocks are those whose ends are equal.
+#![tactic(auto)]
+
 mod picking;
 mod surveying;
 
@@ -17,7 +19,7 @@ pub use picking::{Picked, pick, pick_ends};
 pub use surveying::{Figures, Smallest, Surveyed, survey};
 
 // M1, M2 and M3, in time units.
-#[derive(Drop)]
+#[derive(Clone, Copy)]
 pub struct Margins {
     pub m1: i64,
     pub m2: i64,
@@ -25,7 +27,7 @@ pub struct Margins {
 }
 
 // All five margins, in time units.
-#[derive(Drop)]
+#[derive(Clone, Copy)]
 pub struct QuietMargins {
     pub m1: i64,
     pub m2: i64,
@@ -188,8 +190,19 @@ fn cell_margins(
     ensures { result ≡ cell_margins a.0 b.0 g.0 k.0 (ends w1.0 w2.0 r1.0 r2.0) }
 {
     Margins {
-        m1: margin1(a, g, w1, r2),
-        m2: margin2(a, g, k, w2, r1),
+        m1: margin1(
+            WriterCycles(a.0),
+            WriterCycles(g.0),
+            TimeUnits(w1.0),
+            TimeUnits(r2.0),
+        ),
+        m2: margin2(
+            WriterCycles(a.0),
+            WriterCycles(g.0),
+            ReadCycles(k.0),
+            TimeUnits(w2.0),
+            TimeUnits(r1.0),
+        ),
         m3: margin3(a, b, g, k, w1, r2),
     }
 }
@@ -213,10 +226,35 @@ fn all_margins(
         ≡ all_margins a.0 b.0 g.0 k.0 (ends w1.0 w2.0 r1.0 r2.0) q.0 p1.0 }
 {
     QuietMargins {
-        m1: margin1(a, g, w1, r2),
-        m2: margin2(a, g, k, w2, r1),
-        m3: margin3(a, b, g, k, w1, r2),
-        m4: margin4(a, b, g, w2, r1, q),
+        m1: margin1(
+            WriterCycles(a.0),
+            WriterCycles(g.0),
+            TimeUnits(w1.0),
+            TimeUnits(r2.0),
+        ),
+        m2: margin2(
+            WriterCycles(a.0),
+            WriterCycles(g.0),
+            ReadCycles(k.0),
+            TimeUnits(w2.0),
+            TimeUnits(r1.0),
+        ),
+        m3: margin3(
+            WriterCycles(a.0),
+            WriterCycles(b.0),
+            WriterCycles(g.0),
+            ReadCycles(k.0),
+            TimeUnits(w1.0),
+            TimeUnits(r2.0),
+        ),
+        m4: margin4(
+            WriterCycles(a.0),
+            WriterCycles(b.0),
+            WriterCycles(g.0),
+            TimeUnits(w2.0),
+            TimeUnits(r1.0),
+            ReadCycles(q.0),
+        ),
         m5: margin5(g, w1, r2, q, p1),
     }
 }
@@ -262,7 +300,16 @@ pub fn judge_ends(
 ) -> Judged
     ensures { judgement a.0 b.0 g.0 k.0 (ends w1.0 w2.0 r1.0 r2.0) ≡ judged_says result }
 {
-    if !in_range(a, b, g, k, w1, w2, r1, r2) {
+    if !in_range(
+        WriterCycles(a.0),
+        WriterCycles(b.0),
+        WriterCycles(g.0),
+        ReadCycles(k.0),
+        TimeUnits(w1.0),
+        TimeUnits(w2.0),
+        TimeUnits(r1.0),
+        TimeUnits(r2.0),
+    ) {
         return Judged::Refused(Refusal::Setting(0));
     }
     let m = cell_margins(a, b, g, k, w1, w2, r1, r2);
@@ -285,7 +332,16 @@ pub fn judge(
 ) -> Judged
     ensures { judgement a.0 b.0 g.0 k.0 (steady w.0 r.0) ≡ judged_says result }
 {
-    judge_ends(a, b, g, k, w, w, r, r)
+    judge_ends(
+        a,
+        b,
+        g,
+        k,
+        TimeUnits(w.0),
+        TimeUnits(w.0),
+        TimeUnits(r.0),
+        TimeUnits(r.0),
+    )
 }
 
 // The quiet judge over ends. Gives all five margins over the ends of two clocks, and yes exactly if all five are
@@ -305,7 +361,18 @@ pub fn judge_quiet_ends(
     ensures { quiet_judgement a.0 b.0 g.0 k.0 (ends w1.0 w2.0 r1.0 r2.0) q.0 p1.0
         ≡ quiet_judged_says result }
 {
-    if !quiet_in_range(a, b, g, k, w1, w2, r1, r2, q, p1) {
+    if !quiet_in_range(
+        WriterCycles(a.0),
+        WriterCycles(b.0),
+        WriterCycles(g.0),
+        ReadCycles(k.0),
+        TimeUnits(w1.0),
+        TimeUnits(w2.0),
+        TimeUnits(r1.0),
+        TimeUnits(r2.0),
+        ReadCycles(q.0),
+        WriterCycles(p1.0),
+    ) {
         return QuietJudged::Refused(Refusal::Setting(0));
     }
     let m = all_margins(a, b, g, k, w1, w2, r1, r2, q, p1);
@@ -331,5 +398,16 @@ pub fn judge_quiet(
     ensures { quiet_judgement a.0 b.0 g.0 k.0 (steady w.0 r.0) q.0 p1.0
         ≡ quiet_judged_says result }
 {
-    judge_quiet_ends(a, b, g, k, w, w, r, r, q, p1)
+    judge_quiet_ends(
+        a,
+        b,
+        g,
+        k,
+        TimeUnits(w.0),
+        TimeUnits(w.0),
+        TimeUnits(r.0),
+        TimeUnits(r.0),
+        q,
+        p1,
+    )
 }

@@ -15,14 +15,14 @@ const BOARDS_MOST: usize = 4096;
 const MARGIN_MOST: i64 = 9223372036854775807;
 
 // A margin in time units, and the first board that has it, counted from 0.
-#[derive(Drop)]
+#[derive(Clone, Copy)]
 pub struct Smallest {
     pub margin: i64,
     pub place: usize,
 }
 
 // What is told of a region: how many boards are accepted, and the smallest of each margin.
-#[derive(Drop)]
+#[derive(Clone, Copy)]
 pub struct Figures {
     pub accepted: usize,
     pub m1: Smallest,
@@ -97,10 +97,28 @@ fn survey_boards(
         let sampling = ReadCycles(k[i]);
         let cycle = TimeUnits(w[i]);
         let read = TimeUnits(r[i]);
-        if !in_range(mark, code, settling, sampling, cycle, cycle, read, read) {
+        if !in_range(
+            WriterCycles(mark.0),
+            WriterCycles(code.0),
+            WriterCycles(settling.0),
+            ReadCycles(sampling.0),
+            TimeUnits(cycle.0),
+            TimeUnits(cycle.0),
+            TimeUnits(read.0),
+            TimeUnits(read.0),
+        ) {
             return Surveyed::Refused(Refusal::Setting(i));
         }
-        let m = cell_margins(mark, code, settling, sampling, cycle, cycle, read, read);
+        let m = cell_margins(
+            mark,
+            code,
+            settling,
+            sampling,
+            TimeUnits(cycle.0),
+            TimeUnits(cycle.0),
+            TimeUnits(read.0),
+            TimeUnits(read.0),
+        );
         if cell_accepted(m) {
             accepted += 1;
         }
