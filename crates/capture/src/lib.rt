@@ -1,5 +1,7 @@
 // Captures: what a board has read, kept as four numbers and the lengths of its runs. The types that reading and writing
 // share.
+#![tactic(auto)]
+
 pub mod held;
 mod reading;
 mod writing;

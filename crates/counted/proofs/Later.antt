@@ -1,16 +1,16 @@
 -- Reads that come later change nothing of what was found: the marks and samples found stand where they stood.
-use mathlib.Core.Path.{◌≡◌, refl, sym, ap, ◌∙◌}
+use mathlib.Core.Path.{◌≡◌, refl, ap, ◌∙◌}
 use mathlib.Core.Bool.{Bool, true, false}
 use mathlib.Core.List.{List, [], ◌∷◌, ◌++◌}
-use Prim.Native.Nat.{ℕ, zero, suc, ◌+◌, ◌-◌, ◌≤◌, ◌<◌}
+use Prim.Native.Nat.{ℕ, zero, suc, ◌+◌, ◌≤◌, ◌<◌}
 use native.Mathlib.Decide.{dec_le}
 use native.Mathlib.Omega.{arith}
 use lib.Dec.{eqb}
-use lib.ListN.{length, drop, get_or, length-append, get_or-append}
+use lib.ListN.{length, get_or, length-append, get_or-append}
 use lib.Seq.{drop-append-le}
 use Rattle.measure.specs.Choose.{choose}
 use Rattle.measure.specs.Cells.{bit_of}
-use Rattle.counted.specs.Counted.{from_mark, counted, current, in_force}
+use Rattle.counted.specs.Counted.{from_mark, counted}
 use Rattle.counted.specs.Continued.{Keeps, LaterReadsKeep}
 use Rattle.counted.proofs.Continuing.{none_counted, none_current, none_held, nothing_yet}
 use Rattle.counted.proofs.Continuing.{ahead, sample, from_sample, bit, next_counted, next_current, next_held}

@@ -1,4 +1,6 @@
 // The counted receiver: n bits out of a list of reads, with no quiet.
+#![tactic(auto)]
+
 ghost use Rattle.std.specs.Prelude.{◌≡◌, ◌+◌, ◌^◌, ◌≤◌, ◌<◌, length, drop};
 ghost use Rattle.measure.specs.Cells.{bit_of};
 ghost use Rattle.counted.specs.Counted.{from_mark, counted, current as current_read};
@@ -71,7 +73,7 @@ fn count_into(k: ReadCycles, n: usize, level: u8, reads: &[u8], out: &mut [u8]) 
         if left <= k.0 {
             return Received::RanOut(i, current);
         }
-        current = sample_after(mark, k);
+        current = sample_after(mark, ReadCycles(k.0));
         held = reads[current];
         out[i] = bit(reads[mark], held);
         i += 1;
@@ -88,11 +90,12 @@ fn count_into(k: ReadCycles, n: usize, level: u8, reads: &[u8], out: &mut [u8]) 
 // The place of the current read, which is the last sample, or 0 where no bit was found, comes with both. To go on, lend
 // the reads from there on, with that sample as the level, or the same level as before where no bit was found: n bits
 // and then m are the n + m bits that one call would find, also where n + m is above 1,024.
+#[tactic(auto, unfolding(crate::specs::Answers::counted_bits))]
 pub fn count_bits(k: ReadCycles, n: usize, level: u8, reads: &[u8], out: &mut [u8]) -> Received
     ensures { counted_bits k.0 n level reads.now out.old
         ≡ (counted_says result, out.new) }
 {
-    if !in_range(k, n, level) {
+    if !in_range(ReadCycles(k.0), n, level) {
         return Received::Refused(Refusal::Setting(0));
     }
     if reads.len() > ENTRIES_MOST {

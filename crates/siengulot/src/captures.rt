@@ -27,8 +27,7 @@ fn of_checked(answer: Checked, summary: &mut [usize; 5], place: &mut usize) -> u
 
 // Checks a capture. Gives in `summary` its k, n and Q and its numbers of reads and runs.
 // Refuses with 3 (too many bytes), then with the first of 6, 7 and 8 from the left, at its place: `summary` is left.
-#[unsafe(no_mangle)]
-pub extern "C" fn siengulot_capture_check(
+pub fn siengulot_capture_check(
     bytes: &[u8],
     summary: &mut [usize; 5],
     place: &mut usize,
@@ -42,8 +41,7 @@ pub extern "C" fn siengulot_capture_check(
 
 // Reads a capture. Gives its summary, as above, and its reads at the output's front, the rest of which is untouched.
 // Refuses as `siengulot_capture_check` does, and last with 4: `summary` and the output are left.
-#[unsafe(no_mangle)]
-pub extern "C" fn siengulot_capture_read(
+pub fn siengulot_capture_read(
     bytes: &[u8],
     out: &mut [u8],
     summary: &mut [usize; 5],
@@ -60,8 +58,7 @@ pub extern "C" fn siengulot_capture_read(
 // untouched.
 // Refuses with 1 (k, n or Q), 3 (more than 1,048,576 reads), 2 (the place of the first entry that is no level), 4: the
 // output is left, and `count` is 0.
-#[unsafe(no_mangle)]
-pub extern "C" fn siengulot_capture_write(
+pub fn siengulot_capture_write(
     k: usize,
     n: usize,
     q: usize,

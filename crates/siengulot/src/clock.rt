@@ -51,8 +51,7 @@ fn in_range(hours: usize, minutes: usize, seconds: usize, frames: usize) -> bool
 // Refuses with 3 (more than 1,048,576 bits), 2 (the place of the first entry that is no bit), 4 (less than four bytes
 // for each word): the output is left, and `count` is 0. Then with 10, where a word is bad: `place` is that of its first
 // bit, and `count` the number of words before it, whose times stand at the output's front.
-#[unsafe(no_mangle)]
-pub extern "C" fn siengulot_time_read(
+pub fn siengulot_time_read(
     bits: &[u8],
     out: &mut [u8],
     place: &mut usize,
@@ -67,8 +66,7 @@ pub extern "C" fn siengulot_time_read(
 
 // Writes time code. Gives the 80 bits of the word of a time at the output's front, with user bits and flags 0.
 // Refuses with 1 (hours, minutes, seconds or frames out of range), then 4: the output is left, and `count` is 0.
-#[unsafe(no_mangle)]
-pub extern "C" fn siengulot_time_write(
+pub fn siengulot_time_write(
     hours: usize,
     minutes: usize,
     seconds: usize,

@@ -67,8 +67,7 @@ fn of_quiet_judged(answer: QuietJudged, margins: &mut [i64; 5], accepted: &mut u
 
 // The judge, for steady clocks. Gives M1, M2 and M3, and 1 in `accepted` exactly if all three are zero or more,
 // otherwise 0. Refuses with 1 a setting out of range: the margins are left, and `accepted` is 0.
-#[unsafe(no_mangle)]
-pub extern "C" fn siengulot_judge(
+pub fn siengulot_judge(
     a: usize,
     b: usize,
     g: usize,
@@ -95,8 +94,7 @@ pub extern "C" fn siengulot_judge(
 // The judge over the ends of two clocks. Gives M1, M2 and M3 over them, and 1 in `accepted`
 // exactly if all three are zero or more, otherwise 0. Refuses with 1 a setting out of range, and a least length above
 // its greatest: the margins are left, and `accepted` is 0.
-#[unsafe(no_mangle)]
-pub extern "C" fn siengulot_judge_ends(
+pub fn siengulot_judge_ends(
     a: usize,
     b: usize,
     g: usize,
@@ -126,8 +124,7 @@ pub extern "C" fn siengulot_judge_ends(
 
 // The quiet judge, for steady clocks. Gives M1 to M5, and 1 in `accepted` exactly if all five are zero or more,
 // otherwise 0. Refuses with 1 a setting out of range: the margins are left, and `accepted` is 0.
-#[unsafe(no_mangle)]
-pub extern "C" fn siengulot_judge_quiet(
+pub fn siengulot_judge_quiet(
     a: usize,
     b: usize,
     g: usize,
@@ -158,8 +155,7 @@ pub extern "C" fn siengulot_judge_quiet(
 // The quiet judge over the ends of two clocks. Gives M1 to M5 over them, and 1 in `accepted`
 // exactly if all five are zero or more, otherwise 0. Refuses with 1 a setting out of range, and a least length above
 // its greatest: the margins are left, and `accepted` is 0.
-#[unsafe(no_mangle)]
-pub extern "C" fn siengulot_judge_quiet_ends(
+pub fn siengulot_judge_quiet_ends(
     a: usize,
     b: usize,
     g: usize,

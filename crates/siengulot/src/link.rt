@@ -15,8 +15,7 @@ const LEVEL_MOST: usize = HIGH as usize;
 // Sends a message. Gives its wave.
 // Refuses with 1 (a, b or the pad), 3 (more than 1,024 bits), 2 (the place of the first entry that is no bit), 4: the
 // output is left, and `count` is 0.
-#[unsafe(no_mangle)]
-pub extern "C" fn siengulot_send(
+pub fn siengulot_send(
     a: usize,
     b: usize,
     p1: usize,
@@ -41,8 +40,7 @@ pub extern "C" fn siengulot_send(
 // Sends a plan: for each row a lead pad, and n bits of the one list of bits. Gives the plan's wave.
 // Refuses with 1 (a, b, n or a pad; no row; lists that do not fit one another), 3 (more than 1,024 rows, or 1,048,576
 // cycles), 2 (the place of the first entry that is no bit), 4: the output is left, and `count` is 0.
-#[unsafe(no_mangle)]
-pub extern "C" fn siengulot_plan(
+pub fn siengulot_plan(
     a: usize,
     b: usize,
     n: usize,
@@ -64,8 +62,7 @@ pub extern "C" fn siengulot_plan(
 // before it.
 // Refuses with 1 (g), 3 (more than 1,048,576 cycles), 2 (the place of the first entry that is no level), 4: the output
 // is left, and `count` is 0.
-#[unsafe(no_mangle)]
-pub extern "C" fn siengulot_smooth(
+pub fn siengulot_smooth(
     g: usize,
     wave: &[u8],
     out: &mut [u8],
@@ -82,8 +79,7 @@ pub extern "C" fn siengulot_smooth(
 // Pass 2, warp. Gives the reads of a wave.
 // Refuses with 1 (w or r, or p not below w), 3 (more than 1,048,576 cycles or reads), 2 (the place of the first entry
 // that is no level and not unknown), 4: the output is left, and `count` is 0.
-#[unsafe(no_mangle)]
-pub extern "C" fn siengulot_warp(
+pub fn siengulot_warp(
     w: usize,
     r: usize,
     p: usize,
@@ -103,8 +99,7 @@ pub extern "C" fn siengulot_warp(
 // Refuses with 1 (w1, w2, r1 or r2, w1 above w2, r1 above r2, a length out of its bounds, or p not below the first
 // writer cycle's length), 3 (more than 1,048,576 cycles, or lengths of cycles or of reads), 2 (the place of the first
 // entry of the wave that is no level and not unknown), 4: the output is left, and `count` is 0.
-#[unsafe(no_mangle)]
-pub extern "C" fn siengulot_warp_by_lengths(
+pub fn siengulot_warp_by_lengths(
     w1: usize,
     w2: usize,
     r1: usize,
@@ -138,8 +133,7 @@ pub extern "C" fn siengulot_warp_by_lengths(
 // Pass 3, settle. Gives the reads with each unknown one made the next choice, or low once choices have run out.
 // Refuses with 3 (more than 1,048,576 reads or choices), 2 (the place of the first read that is no level and not
 // unknown, or else of the first choice that is no level, in its own list), 4: the output is left, and `count` is 0.
-#[unsafe(no_mangle)]
-pub extern "C" fn siengulot_settle(
+pub fn siengulot_settle(
     reads: &[u8],
     choices: &[u8],
     out: &mut [u8],
@@ -158,8 +152,7 @@ pub extern "C" fn siengulot_settle(
 // (an output shorter than n): the output is left, and `count` is 0. Then with 5, where the reads ran out: `count` is
 // the number of bits found, which stand at the output's front. With these, and with n bits, `place` is the current
 // read.
-#[unsafe(no_mangle)]
-pub extern "C" fn siengulot_counted(
+pub fn siengulot_counted(
     k: usize,
     n: usize,
     level: usize,

@@ -55,8 +55,7 @@ fn of_listed(answer: Listed, count: &mut usize) -> usize
 // Logs an event. Gives in `taken` the place of its record: the lowest free one, or the oldest where none is free.
 // Refuses with 1 (a bit count above 1,024), 13 (a count that is not that of the broken records), 12 (a read number that
 // is not above all in use): the log is left, and `taken` is 0.
-#[unsafe(no_mangle)]
-pub extern "C" fn siengulot_log_event(
+pub fn siengulot_log_event(
     number: u64,
     row: &[u8; RECORD_BYTES],
     count: usize,
@@ -107,8 +106,7 @@ pub extern "C" fn siengulot_log_event(
 
 // Clears the record at a place, and leaves a free one as it is.
 // Refuses with 1 (a place above 63), 13 (a count that is not that of the broken records): the log is left.
-#[unsafe(no_mangle)]
-pub extern "C" fn siengulot_log_clear(
+pub fn siengulot_log_clear(
     place: usize,
     numbers: &mut [u64; RECORDS],
     bits: &mut [u8; ALL_BYTES],
@@ -144,8 +142,7 @@ pub extern "C" fn siengulot_log_clear(
 
 // Lists the places of the records in use in read order, at the front of `places`. Gives in `count` how many they are.
 // Refuses with 4: `places` is left, and `count` is 0.
-#[unsafe(no_mangle)]
-pub extern "C" fn siengulot_log_list(
+pub fn siengulot_log_list(
     numbers: &[u64; RECORDS],
     free: &[u8; RECORDS],
     places: &mut [usize],

@@ -26,8 +26,7 @@ fn of_picked(answer: Picked, k: &mut usize) -> usize
 // The picker, for steady clocks. Gives in `k` the sampling count whose least margin among M1, M2 and M3 is the
 // greatest, of equals the smallest. Refuses with 1 a setting out of range, and with 9 settings for which no k from 1 to
 // 511 has three margins of zero or more: then `k` is 0.
-#[unsafe(no_mangle)]
-pub extern "C" fn siengulot_pick(
+pub fn siengulot_pick(
     a: usize,
     b: usize,
     g: usize,
@@ -51,8 +50,7 @@ pub extern "C" fn siengulot_pick(
 // over these ends, is the greatest, of equals the smallest. Refuses with 1 a setting out of range and a
 // least length above its greatest, and with 9 settings for which no k from 1 to 511 has three margins of zero or more:
 // then `k` is 0.
-#[unsafe(no_mangle)]
-pub extern "C" fn siengulot_pick_ends(
+pub fn siengulot_pick_ends(
     a: usize,
     b: usize,
     g: usize,

@@ -33,8 +33,7 @@ fn of_joined(answer: Joined, place: &mut usize, count: &mut usize, dropped: &mut
 // Refuses with 1 (no row; not as many trail pads as lead pads; a pad out of range), then with 1 at its place the first
 // row whose lead pad becomes too long, 3 (more than 1,024 rows), 4: the output is left, and `count` and `dropped` are
 // 0.
-#[unsafe(no_mangle)]
-pub extern "C" fn siengulot_read_plan(
+pub fn siengulot_read_plan(
     leads: &[usize],
     trails: &[usize],
     out: &mut [usize],

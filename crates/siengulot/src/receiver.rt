@@ -73,8 +73,7 @@ fn no_receiver(event: &mut usize, found: &mut usize, place: &mut usize) -> usize
 
 // Starts a receiver: hunting, run 0, no bits, in the lent numbers and bytes.
 // Refuses with 1 k, n or Q out of range: every lent number and byte is then 0.
-#[unsafe(no_mangle)]
-pub extern "C" fn siengulot_fresh(
+pub fn siengulot_fresh(
     k: usize,
     n: usize,
     q: usize,
@@ -96,8 +95,7 @@ pub extern "C" fn siengulot_fresh(
 }
 
 // Tells whether a lent state is well formed: 1 for yes, 0 for no. Refuses nothing and writes nothing.
-#[unsafe(no_mangle)]
-pub extern "C" fn siengulot_well_formed(numbers: &[usize; NUMBERS], bytes: &[u8; 128]) -> usize
+pub fn siengulot_well_formed(numbers: &[usize; NUMBERS], bytes: &[u8; 128]) -> usize
     ensures { well_formed_lent numbers.now bytes.now ≡ result }
 {
     if !numbers_fit(numbers) {
@@ -111,8 +109,7 @@ pub extern "C" fn siengulot_well_formed(numbers: &[usize; NUMBERS], bytes: &[u8;
 // row, of so many bits in `found`.
 // Refuses with 1 a state that is not well formed, with 2 a read that is no level, with place 0: receiver and row are
 // left, and `event` and `found` are 0.
-#[unsafe(no_mangle)]
-pub extern "C" fn siengulot_step(
+pub fn siengulot_step(
     numbers: &mut [usize; NUMBERS],
     bytes: &mut [u8; 128],
     read: u8,
@@ -142,8 +139,7 @@ pub extern "C" fn siengulot_step(
 // and in `used` how many reads that took.
 // Refuses with 1 a state that is not well formed, 3 (more than 1,048,576 reads), 2 (the place of the first read that is
 // no level where no event comes before it): receiver and row are left, and `event`, `found` and `used` are 0.
-#[unsafe(no_mangle)]
-pub extern "C" fn siengulot_listen(
+pub fn siengulot_listen(
     numbers: &mut [usize; NUMBERS],
     bytes: &mut [u8; 128],
     reads: &[u8],

@@ -76,8 +76,7 @@ fn of_put(answer: Put, place: &mut usize, count: &mut usize) -> usize
 // the first place that has it. With no boards `count` is 0, and the margins and places are left.
 // Refuses with 1 at place 0 lists of unequal length, with 1 at its place the first board that has a setting out of
 // range, 3 (more than 4,096 boards): the margins and places are left, and `count` and `accepted` are 0.
-#[unsafe(no_mangle)]
-pub extern "C" fn siengulot_survey(
+pub fn siengulot_survey(
     a: &[usize],
     b: &[usize],
     g: &[usize],
@@ -107,8 +106,7 @@ pub extern "C" fn siengulot_survey(
 // The survey of a region as lines: how many boards are accepted, and the smallest of M1, M2 and M3, each with the first
 // place that has it. Gives the lines at the output's front, and in `count` how many bytes they have.
 // Refuses as `siengulot_survey` does, then with 4: the output is left, and `count` is 0.
-#[unsafe(no_mangle)]
-pub extern "C" fn siengulot_survey_lines(
+pub fn siengulot_survey_lines(
     a: &[usize],
     b: &[usize],
     g: &[usize],

@@ -29,8 +29,7 @@ fn of_decoded(answer: Decoded, place: &mut usize, count: &mut usize) -> usize
 
 // Encodes a message. Gives a word of half cells for each byte.
 // Refuses with 3 (more than 128 bytes), 4: the output is left, and `count` is 0.
-#[unsafe(no_mangle)]
-pub extern "C" fn siengulot_encode(
+pub fn siengulot_encode(
     bytes: &[u8],
     out: &mut [u16],
     place: &mut usize,
@@ -46,8 +45,7 @@ pub extern "C" fn siengulot_encode(
 // Decodes words of half cells. Gives a byte for each word.
 // Refuses with 3 (more than 128 words), 11 (the place of the first cell with no edge at its start), 4: the output is
 // left, and `count` is 0.
-#[unsafe(no_mangle)]
-pub extern "C" fn siengulot_decode(
+pub fn siengulot_decode(
     words: &[u16],
     out: &mut [u8],
     place: &mut usize,

@@ -1,4 +1,6 @@
 // Stored plans: they have a trail pad after each row, and are read into plans that have none.
+#![tactic(auto)]
+
 ghost use Rattle.std.specs.Prelude.{◌≡◌, true, ◌≤◌, length};
 ghost use Rattle.measure.specs.Ranges.{pad_most};
 ghost use Rattle.measure.specs.Lists.{first_above, onto};

@@ -1,5 +1,7 @@
 // Text as bytes: words, and numbers in decimal, put from a place of a lent output on. A line is put piece by piece,
 // each where the one before it ends; whoever puts it asks first for the sizes, and so knows whether all of it has room.
+#![tactic(auto)]
+
 ghost use Rattle.std.specs.Prelude.{◌≡◌, true, ◌+◌, ◌≤◌, leb, length};
 ghost use Rattle.std.proofs.lemmas.List.Edits.{sets};
 ghost use Rattle.text.specs.Decimal.{decimal, depth, is_below, signed_decimal};

@@ -9,8 +9,8 @@ use native.Mathlib.Nat.{pow-succ'}
 use native.Mathlib.Decide.{ℕ_discrete}
 use native.Mathlib.Omega.{arith}
 use lib.Dec.{T, eqb}
-use lib.ListN.{length, take, drop, get_or, length-drop}
-use lib.Seq.{drop-cons, length-take-le}
+use lib.ListN.{length, take, drop, length-drop}
+use lib.Seq.{length-take-le}
 use borrow.Author.Tests.{eq-eqb, ne_eqb}
 use Rattle.measure.specs.Levels.{Levels}
 use Rattle.measure.proofs.LevelLaws.{most_take, most_drop}

@@ -1,5 +1,7 @@
 // Linear time code (SMPTE 12M, 25 frames a second): from decoded bits to times, and from a time to the bits of its
 // word.
+#![tactic(auto)]
+
 ghost use Rattle.std.specs.Prelude.{◌≡◌, true, [], ◌∷◌, ◌+◌, ◌*◌, ◌≤◌, ◌<◌, leb, length, take, drop};
 ghost use Rattle.std.proofs.lemmas.List.Edits.{sets};
 ghost use Rattle.measure.specs.Lists.{onto};
@@ -13,7 +15,7 @@ ghost use Rattle.timecode.specs.Carried.{carried, words_from, word_then};
 use measure::{ENTRIES_MOST, HIGH, Refusal};
 
 // A time of day. At 25 frames a second a frame is a 25th of a second.
-#[derive(Drop)]
+#[derive(Clone, Copy)]
 pub struct Time {
     pub hours: u8,
     pub minutes: u8,
