@@ -32,7 +32,7 @@ pub enum Mode {
 }
 
 // A receiver. An operation takes it whole and gives the next one back.
-#[derive(Drop)]
+#[derive(Clone, Copy)]
 pub struct Receiver {
     // The settings: sampling count, bits of a row, quiet count.
     pub k: ReadCycles,
@@ -52,7 +52,7 @@ pub struct Receiver {
 }
 
 // What a read brings.
-#[derive(Drop)]
+#[derive(Clone, Copy)]
 pub enum Event {
     Nothing,
     // A row is delivered; its bits stand beside the event.
@@ -63,21 +63,21 @@ pub enum Event {
 }
 
 // What starting answers.
-#[derive(Drop)]
+#[derive(Clone, Copy)]
 pub enum Start {
     Fresh,
     Refused(Refusal),
 }
 
 // A receiver with which to start, and the answer.
-#[derive(Drop)]
+#[derive(Clone, Copy)]
 pub struct Started {
     pub receiver: Receiver,
     pub start: Start,
 }
 
 // After one read: the next receiver, its event, and the row's bits where the event is a row (otherwise all 0).
-#[derive(Drop)]
+#[derive(Clone, Copy)]
 pub struct Stepped {
     pub receiver: Receiver,
     pub event: Event,
@@ -85,7 +85,7 @@ pub struct Stepped {
 }
 
 // After reads up to and with the first that brings an event: the same, and how many reads were used.
-#[derive(Drop)]
+#[derive(Clone, Copy)]
 pub struct Listened {
     pub receiver: Receiver,
     pub event: Event,
@@ -94,7 +94,7 @@ pub struct Listened {
 }
 
 // A receiver without its bits, for a caller that lends them where they lie.
-#[derive(Drop)]
+#[derive(Clone, Copy)]
 pub struct Bare {
     pub k: ReadCycles,
     pub n: usize,
@@ -108,7 +108,7 @@ pub struct Bare {
 }
 
 // After reads up to and with the first that brings an event, where the bits and a row's bytes are lent.
-#[derive(Drop)]
+#[derive(Clone, Copy)]
 pub struct Told {
     pub bare: Bare,
     pub event: Event,
