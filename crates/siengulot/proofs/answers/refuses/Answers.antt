@@ -1,0 +1,6 @@
+-- `refuses` meets its contract: number and place are those of the refusal.
+use borrow.Author.Rules.{rules}
+use Rattle.siengulot.proofs.answers.refuses.Goals as goal
+
+pub returns : goal.returns
+returns c = rw (c.number.ensures, c.place.ensures)
