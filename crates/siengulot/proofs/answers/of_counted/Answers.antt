@@ -1,5 +1,4 @@
 -- `of_counted` meets its contract: each case is handed over as what it says.
-use borrow.Author.Rules.{rules}
 use Rattle.siengulot.proofs.answers.of_counted.Goals as goal
 
 pub returns-in-Refused : goal.returns-in-Refused

@@ -1,5 +1,4 @@
 -- `of_read` meets its contract, as `of_sent` does.
-use borrow.Author.Rules.{rules}
 use Rattle.siengulot.proofs.answers.of_read.Goals as goal
 
 pub returns-in-Reads : goal.returns-in-Reads

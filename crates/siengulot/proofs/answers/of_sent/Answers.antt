@@ -1,5 +1,4 @@
 -- `of_sent` meets its contract: each case is handed over as what it says.
-use borrow.Author.Rules.{rules}
 use Rattle.siengulot.proofs.answers.of_sent.Goals as goal
 
 pub returns-in-Wave : goal.returns-in-Wave

@@ -1,5 +1,4 @@
 -- `of_smoothed` meets its contract, as `of_sent` does.
-use borrow.Author.Rules.{rules}
 use Rattle.siengulot.proofs.answers.of_smoothed.Goals as goal
 
 pub returns-in-Wave : goal.returns-in-Wave

@@ -1,5 +1,4 @@
 -- `of_written` meets its contract, as `of_sent` does.
-use borrow.Author.Rules.{rules}
 use Rattle.siengulot.proofs.answers.of_written.Goals as goal
 
 pub returns-in-Bytes : goal.returns-in-Bytes

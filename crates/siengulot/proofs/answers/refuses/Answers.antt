@@ -1,5 +1,4 @@
 -- `refuses` meets its contract: number and place are those of the refusal.
-use borrow.Author.Rules.{rules}
 use Rattle.siengulot.proofs.answers.refuses.Goals as goal
 
 pub returns : goal.returns

@@ -1,5 +1,4 @@
 -- `of_checked` meets its contract: a summary is laid out whole, and a refusal's number and place are its own.
-use borrow.Author.Rules.{rules}
 use Rattle.siengulot.proofs.captures.of_checked.Goals as goal
 
 pub returns-in-Capture : goal.returns-in-Capture

@@ -1,5 +1,4 @@
 -- `siengulot_capture_check` meets its contract: the operation's answer crosses.
-use borrow.Author.Rules.{rules}
 use Rattle.siengulot.proofs.captures.siengulot_capture_check.Goals as goal
 
 pub returns : goal.returns

@@ -1,5 +1,4 @@
 -- `siengulot_capture_read` meets its contract: the operation's answer crosses.
-use borrow.Author.Rules.{rules}
 use Rattle.siengulot.specs.Crossing.{summed}
 use Rattle.siengulot.proofs.Across.{across}
 use Rattle.siengulot.proofs.captures.siengulot_capture_read.Goals as goal

@@ -1,5 +1,4 @@
 -- `of_times` meets its contract: each case is handed over as what it says.
-use borrow.Author.Rules.{rules}
 use Rattle.siengulot.proofs.clock.of_times.Goals as goal
 
 pub returns-in-Times : goal.returns-in-Times

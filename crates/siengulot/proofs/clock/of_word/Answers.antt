@@ -1,5 +1,4 @@
 -- `of_word` meets its contract: each case is handed over as what it says.
-use borrow.Author.Rules.{rules}
 use Rattle.siengulot.proofs.clock.of_word.Goals as goal
 
 pub returns-in-Bits : goal.returns-in-Bits

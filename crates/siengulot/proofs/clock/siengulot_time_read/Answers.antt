@@ -1,7 +1,6 @@
 -- `siengulot_time_read` meets its contract: the operation's answer crosses.
 use Rattle.siengulot.specs.Crossing.{crossed}
 use Rattle.siengulot.proofs.Across.{across}
-use borrow.Author.Rules.{rules}
 use Rattle.siengulot.proofs.clock.siengulot_time_read.Goals as goal
 
 pub returns : goal.returns

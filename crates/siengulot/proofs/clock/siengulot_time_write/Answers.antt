@@ -5,7 +5,6 @@ use mathlib.Core.Path.{sym, ◌∙◌}
 use Rattle.timecode.proofs.TimeLaws.{fit_hours, fit_minutes, fit_seconds, fit_frames, unfit_refused}
 use Rattle.siengulot.specs.Crossing.{crossed}
 use Rattle.siengulot.proofs.Across.{across}
-use borrow.Author.Rules.{rules}
 use Rattle.siengulot.proofs.clock.siengulot_time_write.Goals as goal
 
 pub returns-then-not-in_range : goal.returns-then-not-in_range

@@ -1,6 +1,5 @@
 -- `of_judged` meets its contract: each case of the answer is laid out as what it says.
 use mathlib.Core.Path.{refl, sym}
-use borrow.Author.Rules.{rules}
 use Rattle.siengulot.proofs.Across.{laid_out}
 use Rattle.siengulot.proofs.judging.of_judged.Goals as goal
 

@@ -1,5 +1,4 @@
 -- `siengulot_judge_ends` meets its contract: the operation's answer is laid out.
-use borrow.Author.Rules.{rules}
 use Rattle.siengulot.proofs.judging.siengulot_judge_ends.Goals as goal
 
 pub returns : goal.returns

@@ -1,6 +1,5 @@
 -- `siengulot_counted` meets its contract: a level that is no byte is refused before the operation is asked, and
 -- otherwise the operation's answer crosses.
-use borrow.Author.Rules.{rules}
 use Rattle.siengulot.specs.Crossing.{crossed_bits}
 use Rattle.siengulot.proofs.Across.{across}
 use Rattle.siengulot.proofs.Levels.{no_level}

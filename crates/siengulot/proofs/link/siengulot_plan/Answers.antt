@@ -1,5 +1,4 @@
 -- `siengulot_plan` meets its contract: the operation's answer crosses.
-use borrow.Author.Rules.{rules}
 use Rattle.siengulot.specs.Crossing.{crossed}
 use Rattle.siengulot.proofs.Across.{across}
 use Rattle.siengulot.proofs.link.siengulot_plan.Goals as goal

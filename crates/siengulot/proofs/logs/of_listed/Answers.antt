@@ -1,5 +1,4 @@
 -- `of_listed` meets its contract: what is told is laid out, and a refusal's number is its own.
-use borrow.Author.Rules.{rules}
 use Rattle.siengulot.proofs.logs.of_listed.Goals as goal
 
 pub returns-in-Refused : goal.returns-in-Refused

@@ -1,5 +1,4 @@
 -- `siengulot_log_event` meets its contract: the operation's answer crosses, with the log that it leaves.
-use borrow.Author.Rules.{rules}
 use Rattle.siengulot.specs.Logs.{logged_over}
 use Rattle.siengulot.proofs.Across.{across_log}
 use Rattle.siengulot.proofs.logs.siengulot_log_event.Goals as goal

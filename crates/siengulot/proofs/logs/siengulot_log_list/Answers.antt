@@ -1,5 +1,4 @@
 -- `siengulot_log_list` meets its contract: the operation's answer crosses.
-use borrow.Author.Rules.{rules}
 use Rattle.siengulot.specs.Logs.{logged_over}
 use Rattle.siengulot.proofs.Across.{across}
 use Rattle.siengulot.proofs.logs.siengulot_log_list.Goals as goal

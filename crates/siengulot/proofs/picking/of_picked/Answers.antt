@@ -1,5 +1,4 @@
 -- `of_picked` meets its contract: each case of the answer is handed over as what it says.
-use borrow.Author.Rules.{rules}
 use Rattle.siengulot.proofs.picking.of_picked.Goals as goal
 
 pub returns-in-K : goal.returns-in-K

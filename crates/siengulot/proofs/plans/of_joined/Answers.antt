@@ -1,5 +1,4 @@
 -- `of_joined` meets its contract: what is told is laid out, and a refusal's number and place are its own.
-use borrow.Author.Rules.{rules}
 use Rattle.siengulot.proofs.plans.of_joined.Goals as goal
 
 pub returns-in-Plan : goal.returns-in-Plan

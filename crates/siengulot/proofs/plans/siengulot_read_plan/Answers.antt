@@ -1,5 +1,4 @@
 -- `siengulot_read_plan` meets its contract: the operation's answer crosses.
-use borrow.Author.Rules.{rules}
 use Rattle.siengulot.specs.StoredPlans.{joined_over}
 use Rattle.siengulot.proofs.Across.{across}
 use Rattle.siengulot.proofs.plans.siengulot_read_plan.Goals as goal

@@ -1,6 +1,5 @@
 -- `hand_over` meets its contract: each case of the event is handed over as what it says, and a refusal writes nothing
 -- but its number and place.
-use borrow.Author.Rules.{rules}
 use Rattle.siengulot.proofs.receiver.hand_over.Goals as goal
 
 pub returns-in-Nothing : goal.returns-in-Nothing

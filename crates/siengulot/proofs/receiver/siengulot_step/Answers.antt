@@ -1,22 +1,18 @@
 -- `siengulot_step` meets its contract: numbers that make no receiver are refused, and otherwise what the operation
 -- brings is handed over.
-use borrow.Author.Rules.{rules}
-use Rattle.measure.proofs.Both.{passed, failed}
+use mathlib.Core.Path.{sym, ◌∙◌}
 use Rattle.siengulot.proofs.Brought.{step_refused, step_brought}
 use Rattle.siengulot.proofs.receiver.siengulot_step.Goals as goal
 
 pub returns-then-not-numbers_fit : goal.returns-then-not-numbers_fit
-returns-then-not-numbers_fit c = let tested = c in
-    step_refused _ (failed tested.before.numbers_fit.ensures tested.if1.true) _ c.no_receiver.ensures
+returns-then-not-numbers_fit c =
+    step_refused _ (sym c.numbers_fit.ensures ∙ c.if-not-numbers_fit.true) _ c.no_receiver.ensures
 
 pub bare_lent-bare-requires : goal.bare_lent-bare-requires
-bare_lent-bare-requires c = passed c.numbers_fit.ensures c.if1.false
+bare_lent-bare-requires c = sym c.numbers_fit.ensures ∙ c.if-not-numbers_fit.false
 
 pub returns : goal.returns
 returns c =
-    let heard = c in
-    let lent = heard.before.before.before in
-    let tested = lent.before.before in
-    step_brought _ lent.bare-lent.result heard.step.result
-    (passed tested.before.numbers_fit.ensures tested.if1.false) lent.bare-lent.ensures
-    c.hand_over.ensures _ heard.step.ensures
+    step_brought _ c.bare_lent-bare.result c.step-told.result
+    (sym c.numbers_fit.ensures ∙ c.if-not-numbers_fit.false) c.bare_lent-bare.ensures
+    c.hand_over.ensures _ c.step-told.ensures

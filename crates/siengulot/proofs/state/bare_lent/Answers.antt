@@ -1,5 +1,4 @@
 -- `bare_lent` meets its contract: each number is copied to its field, and both levels are bytes.
-use borrow.Author.Rules.{rules}
 use native.Mathlib.Omega.{arith}
 use Rattle.siengulot.specs.Receivers.{named, receiver_lent}
 use Rattle.siengulot.proofs.Recovered.{run_level_byte, level_byte}

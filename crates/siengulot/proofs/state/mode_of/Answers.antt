@@ -1,5 +1,4 @@
 -- `mode_of` meets its contract: each test is one of the definition's, in its order.
-use borrow.Author.Rules.{rules}
 use borrow.Author.Tests.{ne_eqb}
 use Rattle.siengulot.proofs.state.mode_of.Goals as goal
 

@@ -1,5 +1,4 @@
 -- `numbers_fit` meets its contract: each test is one of the definition's, in its order.
-use borrow.Author.Rules.{rules}
 use borrow.Author.Tests.{le-leb, lt-leb}
 use Rattle.siengulot.proofs.state.numbers_fit.Goals as goal
 

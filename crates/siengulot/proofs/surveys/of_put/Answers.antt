@@ -1,5 +1,4 @@
 -- `of_put` meets its contract: each case is handed over as what it says.
-use borrow.Author.Rules.{rules}
 use Rattle.siengulot.proofs.surveys.of_put.Goals as goal
 
 pub returns-in-Lines : goal.returns-in-Lines

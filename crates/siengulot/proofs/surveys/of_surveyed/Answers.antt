@@ -1,5 +1,4 @@
 -- `of_surveyed` meets its contract: the figures are laid out, and what is not given is left.
-use borrow.Author.Rules.{rules}
 use Rattle.siengulot.proofs.surveys.of_surveyed.Goals as goal
 
 pub returns-in-NoBoards : goal.returns-in-NoBoards

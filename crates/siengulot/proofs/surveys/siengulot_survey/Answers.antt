@@ -1,5 +1,4 @@
 -- `siengulot_survey` meets its contract: the operation's answer is laid out.
-use borrow.Author.Rules.{rules}
 use Rattle.siengulot.proofs.surveys.siengulot_survey.Goals as goal
 
 pub returns : goal.returns

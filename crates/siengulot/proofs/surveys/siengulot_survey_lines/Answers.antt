@@ -1,7 +1,6 @@
 -- `siengulot_survey_lines` meets its contract: the operation's answer crosses.
 use Rattle.siengulot.specs.Crossing.{crossed}
 use Rattle.siengulot.proofs.Across.{across}
-use borrow.Author.Rules.{rules}
 use Rattle.siengulot.proofs.surveys.siengulot_survey_lines.Goals as goal
 
 pub returns : goal.returns

@@ -1,5 +1,4 @@
 -- `of_decoded` meets its contract: each case is handed over as what it says.
-use borrow.Author.Rules.{rules}
 use Rattle.siengulot.proofs.words.of_decoded.Goals as goal
 
 pub returns-in-Bytes : goal.returns-in-Bytes

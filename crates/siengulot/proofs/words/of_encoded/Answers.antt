@@ -1,5 +1,4 @@
 -- `of_encoded` meets its contract: each case is handed over as what it says.
-use borrow.Author.Rules.{rules}
 use Rattle.siengulot.proofs.words.of_encoded.Goals as goal
 
 pub returns-in-Words : goal.returns-in-Words

@@ -1,5 +1,4 @@
 -- `siengulot_encode` meets its contract: the operation's answer crosses.
-use borrow.Author.Rules.{rules}
 use Rattle.siengulot.proofs.Across.{across}
 use Rattle.siengulot.specs.Crossing.{crossed}
 use Rattle.siengulot.proofs.words.siengulot_encode.Goals as goal
