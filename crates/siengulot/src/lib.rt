@@ -1,5 +1,7 @@
 // The way in from C: one entry point for each operation, thin over the proved rooms. Each returns the refusal's number,
 // 0 for none; each says what it leaves in what it was lent. `include/siengulot.h` declares them.
+#![tactic(auto)]
+
 mod answers;
 mod captures;
 mod clock;
