@@ -1,7 +1,7 @@
 -- The count of broken records: where one record changes, what the old one added goes and what the new one adds comes;
 -- and it is never above the records.
 use Prim.Native.Nat.{ℕ, zero, suc, ◌+◌, ◌<◌, ◌≤◌}
-use mathlib.Core.Path.{◌≡◌, refl, ap}
+use mathlib.Core.Path.{◌≡◌, refl}
 use mathlib.Core.Bool.{Bool, true, false, not, ◌&&◌, and-false}
 use mathlib.Core.Logic.{dite}
 use mathlib.Core.List.{List}

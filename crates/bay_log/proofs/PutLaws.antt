@@ -1,11 +1,11 @@
 -- A record that is put at a place stands there, every other record is as it was, and the lists keep their lengths.
 use Prim.Native.Nat.{ℕ, zero, suc, ◌+◌, ◌*◌, ◌<◌, ◌≤◌}
-use mathlib.Core.Path.{◌≡◌, refl, sym, ap, ◌∙◌}
+use mathlib.Core.Path.{◌≡◌, refl, ap, ◌∙◌}
 use mathlib.Core.Logic.{dite}
 use mathlib.Core.List.{List, [], ◌∷◌, ◌++◌, append_assoc}
 use native.Mathlib.Decide.{dec_le}
 use native.Mathlib.Omega.{arith}
-use lib.ListN.{length, take, drop, get_or, set, length-set}
+use lib.ListN.{length, take, drop, set, length-set}
 use lib.Seq.{sets, sets-eq, length-sets, take-set-le, drop-set-lt, take_at, drop_at, length-take-le}
 use lib.Seq.{get_or-set_same, get_or-set_other}
 use Rattle.measure.specs.Ranges.{log_records, record_bytes}

@@ -90,6 +90,7 @@ fn count_into(k: ReadCycles, n: usize, level: u8, reads: &[u8], out: &mut [u8]) 
 // The place of the current read, which is the last sample, or 0 where no bit was found, comes with both. To go on, lend
 // the reads from there on, with that sample as the level, or the same level as before where no bit was found: n bits
 // and then m are the n + m bits that one call would find, also where n + m is above 1,024.
+#[tactic(auto, unfolding(crate::specs::Answers::counted_bits))]
 pub fn count_bits(k: ReadCycles, n: usize, level: u8, reads: &[u8], out: &mut [u8]) -> Received
     ensures { counted_bits k.0 n level reads.now out.old
         ≡ (counted_says result, out.new) }

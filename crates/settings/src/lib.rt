@@ -37,7 +37,7 @@ pub struct QuietMargins {
 }
 
 // What the judge answers.
-#[derive(Drop)]
+#[derive(Clone, Copy)]
 pub enum Judged {
     // Accepted: the three margins are zero or more.
     Yes(Margins),
@@ -47,7 +47,7 @@ pub enum Judged {
 }
 
 // What the quiet judge answers.
-#[derive(Drop)]
+#[derive(Clone, Copy)]
 pub enum QuietJudged {
     // Accepted: all five margins are zero or more.
     Yes(QuietMargins),
@@ -190,19 +190,8 @@ fn cell_margins(
     ensures { result ≡ cell_margins a.0 b.0 g.0 k.0 (ends w1.0 w2.0 r1.0 r2.0) }
 {
     Margins {
-        m1: margin1(
-            WriterCycles(a.0),
-            WriterCycles(g.0),
-            TimeUnits(w1.0),
-            TimeUnits(r2.0),
-        ),
-        m2: margin2(
-            WriterCycles(a.0),
-            WriterCycles(g.0),
-            ReadCycles(k.0),
-            TimeUnits(w2.0),
-            TimeUnits(r1.0),
-        ),
+        m1: margin1(a, g, w1, r2),
+        m2: margin2(a, g, k, w2, r1),
         m3: margin3(a, b, g, k, w1, r2),
     }
 }
@@ -226,35 +215,10 @@ fn all_margins(
         ≡ all_margins a.0 b.0 g.0 k.0 (ends w1.0 w2.0 r1.0 r2.0) q.0 p1.0 }
 {
     QuietMargins {
-        m1: margin1(
-            WriterCycles(a.0),
-            WriterCycles(g.0),
-            TimeUnits(w1.0),
-            TimeUnits(r2.0),
-        ),
-        m2: margin2(
-            WriterCycles(a.0),
-            WriterCycles(g.0),
-            ReadCycles(k.0),
-            TimeUnits(w2.0),
-            TimeUnits(r1.0),
-        ),
-        m3: margin3(
-            WriterCycles(a.0),
-            WriterCycles(b.0),
-            WriterCycles(g.0),
-            ReadCycles(k.0),
-            TimeUnits(w1.0),
-            TimeUnits(r2.0),
-        ),
-        m4: margin4(
-            WriterCycles(a.0),
-            WriterCycles(b.0),
-            WriterCycles(g.0),
-            TimeUnits(w2.0),
-            TimeUnits(r1.0),
-            ReadCycles(q.0),
-        ),
+        m1: margin1(a, g, w1, r2),
+        m2: margin2(a, g, k, w2, r1),
+        m3: margin3(a, b, g, k, w1, r2),
+        m4: margin4(a, b, g, w2, r1, q),
         m5: margin5(g, w1, r2, q, p1),
     }
 }
@@ -300,16 +264,7 @@ pub fn judge_ends(
 ) -> Judged
     ensures { judgement a.0 b.0 g.0 k.0 (ends w1.0 w2.0 r1.0 r2.0) ≡ judged_says result }
 {
-    if !in_range(
-        WriterCycles(a.0),
-        WriterCycles(b.0),
-        WriterCycles(g.0),
-        ReadCycles(k.0),
-        TimeUnits(w1.0),
-        TimeUnits(w2.0),
-        TimeUnits(r1.0),
-        TimeUnits(r2.0),
-    ) {
+    if !in_range(a, b, g, k, w1, w2, r1, r2) {
         return Judged::Refused(Refusal::Setting(0));
     }
     let m = cell_margins(a, b, g, k, w1, w2, r1, r2);
@@ -332,16 +287,7 @@ pub fn judge(
 ) -> Judged
     ensures { judgement a.0 b.0 g.0 k.0 (steady w.0 r.0) ≡ judged_says result }
 {
-    judge_ends(
-        a,
-        b,
-        g,
-        k,
-        TimeUnits(w.0),
-        TimeUnits(w.0),
-        TimeUnits(r.0),
-        TimeUnits(r.0),
-    )
+    judge_ends(a, b, g, k, w, w, r, r)
 }
 
 // The quiet judge over ends. Gives all five margins over the ends of two clocks, and yes exactly if all five are
@@ -361,18 +307,7 @@ pub fn judge_quiet_ends(
     ensures { quiet_judgement a.0 b.0 g.0 k.0 (ends w1.0 w2.0 r1.0 r2.0) q.0 p1.0
         ≡ quiet_judged_says result }
 {
-    if !quiet_in_range(
-        WriterCycles(a.0),
-        WriterCycles(b.0),
-        WriterCycles(g.0),
-        ReadCycles(k.0),
-        TimeUnits(w1.0),
-        TimeUnits(w2.0),
-        TimeUnits(r1.0),
-        TimeUnits(r2.0),
-        ReadCycles(q.0),
-        WriterCycles(p1.0),
-    ) {
+    if !quiet_in_range(a, b, g, k, w1, w2, r1, r2, q, p1) {
         return QuietJudged::Refused(Refusal::Setting(0));
     }
     let m = all_margins(a, b, g, k, w1, w2, r1, r2, q, p1);
@@ -398,16 +333,5 @@ pub fn judge_quiet(
     ensures { quiet_judgement a.0 b.0 g.0 k.0 (steady w.0 r.0) q.0 p1.0
         ≡ quiet_judged_says result }
 {
-    judge_quiet_ends(
-        a,
-        b,
-        g,
-        k,
-        TimeUnits(w.0),
-        TimeUnits(w.0),
-        TimeUnits(r.0),
-        TimeUnits(r.0),
-        q,
-        p1,
-    )
+    judge_quiet_ends(a, b, g, k, w, w, r, r, q, p1)
 }

@@ -13,7 +13,7 @@ use measure::{
 };
 
 // What picking answers.
-#[derive(Drop)]
+#[derive(Clone, Copy)]
 pub enum Picked {
     // The best sampling count.
     K(ReadCycles),
@@ -64,22 +64,8 @@ fn least_margin(
     ensures { result ≡ least a.0 b.0 g.0 k.0 (ends w1.0 w2.0 r1.0 r2.0) }
 {
     lower(
-        margin1(
-            WriterCycles(a.0),
-            WriterCycles(g.0),
-            TimeUnits(w1.0),
-            TimeUnits(r2.0),
-        ),
-        lower(
-            margin2(
-                WriterCycles(a.0),
-                WriterCycles(g.0),
-                ReadCycles(k.0),
-                TimeUnits(w2.0),
-                TimeUnits(r1.0),
-            ),
-            margin3(a, b, g, k, w1, r2),
-        ),
+        margin1(a, g, w1, r2),
+        lower(margin2(a, g, k, w2, r1), margin3(a, b, g, k, w1, r2)),
     )
 }
 
@@ -157,32 +143,12 @@ fn best_count(
     ensures { Picks a.0 b.0 g.0 (ends w1.0 w2.0 r1.0 r2.0) (picked_says result) }
 {
     // M1 is the same for every k.
-    if margin1(
-        WriterCycles(a.0),
-        WriterCycles(g.0),
-        TimeUnits(w1.0),
-        TimeUnits(r2.0),
-    ) < 0
-    {
+    if margin1(a, g, w1, r2) < 0 {
         return Picked::Refused(Refusal::NoCount);
     }
-    let last = turning(
-        WriterCycles(a.0),
-        WriterCycles(b.0),
-        WriterCycles(g.0),
-        TimeUnits(w1.0),
-        TimeUnits(w2.0),
-        TimeUnits(r1.0),
-        TimeUnits(r2.0),
-    );
+    let last = turning(a, b, g, w1, w2, r1, r2);
     let next = last + 1;
-    let here = margin2(
-        WriterCycles(a.0),
-        WriterCycles(g.0),
-        ReadCycles(last),
-        TimeUnits(w2.0),
-        TimeUnits(r1.0),
-    );
+    let here = margin2(a, g, ReadCycles(last), w2, r1);
     let there = least_margin(a, b, g, ReadCycles(next), w1, w2, r1, r2);
     if here < there {
         return offered(ReadCycles(next), there);
@@ -204,15 +170,7 @@ pub fn pick_ends(
 ) -> Picked
     ensures { Picks a.0 b.0 g.0 (ends w1.0 w2.0 r1.0 r2.0) (picked_says result) }
 {
-    if !pickable(
-        WriterCycles(a.0),
-        WriterCycles(b.0),
-        WriterCycles(g.0),
-        TimeUnits(w1.0),
-        TimeUnits(w2.0),
-        TimeUnits(r1.0),
-        TimeUnits(r2.0),
-    ) {
+    if !pickable(a, b, g, w1, w2, r1, r2) {
         return Picked::Refused(Refusal::Setting(0));
     }
     best_count(a, b, g, w1, w2, r1, r2)
@@ -224,24 +182,8 @@ pub fn pick_ends(
 pub fn pick(a: WriterCycles, b: WriterCycles, g: WriterCycles, w: TimeUnits, r: TimeUnits) -> Picked
     ensures { Picks a.0 b.0 g.0 (steady w.0 r.0) (picked_says result) }
 {
-    if !pickable(
-        WriterCycles(a.0),
-        WriterCycles(b.0),
-        WriterCycles(g.0),
-        TimeUnits(w.0),
-        TimeUnits(w.0),
-        TimeUnits(r.0),
-        TimeUnits(r.0),
-    ) {
+    if !pickable(a, b, g, w, w, r, r) {
         return Picked::Refused(Refusal::Setting(0));
     }
-    best_count(
-        a,
-        b,
-        g,
-        TimeUnits(w.0),
-        TimeUnits(w.0),
-        TimeUnits(r.0),
-        TimeUnits(r.0),
-    )
+    best_count(a, b, g, w, w, r, r)
 }

@@ -31,7 +31,7 @@ pub struct Figures {
 }
 
 // What the survey answers.
-#[derive(Drop)]
+#[derive(Clone, Copy)]
 pub enum Surveyed {
     // There is no board, so there is no smallest margin.
     NoBoards,
@@ -97,28 +97,10 @@ fn survey_boards(
         let sampling = ReadCycles(k[i]);
         let cycle = TimeUnits(w[i]);
         let read = TimeUnits(r[i]);
-        if !in_range(
-            WriterCycles(mark.0),
-            WriterCycles(code.0),
-            WriterCycles(settling.0),
-            ReadCycles(sampling.0),
-            TimeUnits(cycle.0),
-            TimeUnits(cycle.0),
-            TimeUnits(read.0),
-            TimeUnits(read.0),
-        ) {
+        if !in_range(mark, code, settling, sampling, cycle, cycle, read, read) {
             return Surveyed::Refused(Refusal::Setting(i));
         }
-        let m = cell_margins(
-            mark,
-            code,
-            settling,
-            sampling,
-            TimeUnits(cycle.0),
-            TimeUnits(cycle.0),
-            TimeUnits(read.0),
-            TimeUnits(read.0),
-        );
+        let m = cell_margins(mark, code, settling, sampling, cycle, cycle, read, read);
         if cell_accepted(m) {
             accepted += 1;
         }
