@@ -1,7 +1,7 @@
 /*
  * siengulot.h: the link software of a departure board, for C and C++.
  *
- * Link with libsiengulot.a, which `rt staticlib siengulot` leaves in target/staticlib. The archive is for x86-64 Linux.
+ * Link with libsiengulot.a, which `tools/archive` leaves in target/staticlib. The archive is for x86-64 Linux.
  *
  * What holds of every function here:
  *

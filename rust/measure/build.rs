@@ -1,4 +1,4 @@
-//! Finds the static library where `rt staticlib siengulot` leaves it.
+//! Finds the static library where `tools/archive` leaves it.
 
 use std::env;
 use std::path::Path;

@@ -32,20 +32,25 @@ module _ (k n Q : ℕ) (D : ℕ → ℕ) where
   forward here = omega arith
   forward (then p f) = omega (arith, forward f)
 
-  -- it goes one way only
-  pub one_way : {j i : ℕ} {s t u : State} {es fs : List Report} → Goes j s es i t → Goes j s fs i u
+  one_way_at : {j i h : ℕ} {s t u : State} {es fs : List Report} → i ≡ h → Goes j s es i t → Goes j s fs h u
       → (es ≡ fs) × (t ≡ u)
-  one_way here here = (refl, refl)
-  one_way here (then q g) = absurd (omega (arith, forward g))
-  one_way (then p f) here = absurd (omega (arith, forward f))
-  one_way {i = i} {t = t} {u = u} (then {j = j} {t = t1} {e = d} {es = es} p f) (then {t = t2} {e = e} {es = fs} q g) =
-      go (one_way f (subst (λ (s : State). Goes (suc j) s fs i u) (sym (ap (λ (m : Moved). m.state) same)) g))
+  one_way_at z here here = (refl, refl)
+  one_way_at z here (then q g) = absurd (omega (arith, forward g))
+  one_way_at z (then p f) here = absurd (omega (arith, forward f))
+  one_way_at {h = h} {t = t} {u = u} z (then {j = j} {t = t1} {e = d} {es = es} p f)
+      (then {t = t2} {e = e} {es = fs} q g) =
+      go (one_way_at z f (subst (λ (s : State). Goes (suc j) s fs h u) (sym (ap (λ (m : Moved). m.state) same)) g))
     where
       same : ◌≡◌ {A = Moved} (record { state = t1; event = d }) (record { state = t2; event = e })
       same = sym p ∙ q
 
       go : (es ≡ fs) × (t ≡ u) → (noted j d es ≡ noted j e fs) × (t ≡ u)
       go (x, y) = (ap (λ (l : List Report). noted j d l) x ∙ ap (λ (m : Moved). noted j m.event fs) same, y)
+
+  -- it goes one way only
+  pub one_way : {j i : ℕ} {s t u : State} {es fs : List Report} → Goes j s es i t → Goes j s fs i u
+      → (es ≡ fs) × (t ≡ u)
+  one_way f g = one_way_at refl f g
 
   -- a step where read j is x
   pub step : {j i x : ℕ} {s t u : State} {e : Event} {es : List Report} → D j ≡ x

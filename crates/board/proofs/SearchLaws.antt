@@ -11,7 +11,7 @@ use Rattle.board.specs.declared.listening.Heard.TheVariants.{Ended, Bad, Broken}
 use Rattle.board.specs.declared.listening.Sought.TheVariants.{Found, Stopped}
 use Rattle.board.specs.Rows.{Settings, Run, run_of, State, nothing, broken, Moved, ready, next}
 use Rattle.board.specs.Packed.{kept}
-use Rattle.board.specs.Answers.{Outcome, reached}
+use Rattle.board.specs.Answers.{reached}
 use Rattle.board.specs.Listening.{settings_from, heard_from, moved_from, heard_says, Seeks}
 use Rattle.board.proofs.ListeningLaws.{heard_end, heard_bad, heard_move, grown, longer_most, longer_least}
 

@@ -12,9 +12,9 @@ use Rattle.measure.specs.Levels.{Levels}
 use Rattle.measure.specs.Cells.{bit_of}
 use Rattle.board.specs.declared.Mode.{Mode}
 use Rattle.board.specs.declared.Mode.TheVariants.{Hunting, Ready, Counting, Waiting}
-use Rattle.board.specs.Rows.{Settings, Run, run_of, State, Event, Moved, run_after, hunting, quietened, listening}
+use Rattle.board.specs.Rows.{Settings, Run, run_of, State, Moved, run_after, quietened, listening}
 use Rattle.board.specs.Rows.{fresh, next}
-use Rattle.board.specs.Feeding.{Report, noted, reports_by, reports}
+use Rattle.board.specs.Feeding.{noted, reports_by, reports}
 use Rattle.board.specs.Crossed.{turned, SameCrossed}
 
 -- the level that a mode keeps, turned over: in hunting it is high, and stays so

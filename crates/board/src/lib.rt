@@ -1,4 +1,6 @@
 // The row receiver of a board: rows of n bits out of reads that come one by one.
+#![tactic(auto)]
+
 ghost use Rattle.std.specs.Prelude.{◌≡◌, List, [], ◌∷◌, ℕ};
 ghost use Rattle.board.specs.Packed.{whole};
 ghost use Rattle.board.specs.WellFormed.{well_formed};
@@ -17,7 +19,7 @@ use single::hear_one;
 use state::{Numbers, fits, idle, none};
 
 // What the receiver is doing. It is in the middle of a row in two of the four.
-#[derive(Drop)]
+#[derive(Clone, Copy)]
 pub enum Mode {
     // Listening for quiet.
     Hunting,
@@ -152,9 +154,9 @@ fn after_all(numbers: Numbers, k: usize, n: usize, q: usize) -> Bare
 
 impl Bare {
     // What a read can change beside the bits.
-    fn numbers(self) -> Numbers
-        ensures { (bits : List ℕ) → keeping (settings_from self.k.0 self.n self.q.0) result bits
-            ≡ whole self bits }
+    fn numbers(&self) -> Numbers
+        ensures { (bits : List ℕ) → keeping (settings_from self.now.k.0 self.now.n self.now.q.0) result bits
+            ≡ whole self.now bits }
     {
         let mode = self.mode;
         Numbers {
@@ -291,7 +293,7 @@ impl Receiver {
         ensures { begun k.0 n q.0 ≡ (start_says result.start, result.receiver) }
     {
         let zeros = none();
-        if measure::row_settings_fit(k, n, q) {
+        if measure::row_settings_fit(ReadCycles(k.0), n, ReadCycles(q.0)) {
             let bare = idle(Mode::Hunting, 0, HIGH, HIGH, k.0, n, q.0);
             let receiver = with_bits(bare, zeros);
             return Started {
@@ -330,8 +332,8 @@ impl Receiver {
     pub fn well_formed(self) -> bool
         ensures { result ≡ well_formed self }
     {
-        let bare = self.bare();
         let bits = self.bits;
+        let bare = self.bare();
         bare.well_formed(&bits)
     }
 
@@ -344,8 +346,8 @@ impl Receiver {
     pub fn listen(self, reads: &[u8]) -> Listened
         ensures { listened self reads.now ≡ listened_says result }
     {
-        let bare = self.bare();
         let mut bits = self.bits;
+        let bare = self.bare();
         let mut row = none();
         let told = bare.listen(reads, &mut bits, &mut row);
         let next = told.bare;
@@ -365,8 +367,8 @@ impl Receiver {
     pub fn step(self, read: u8) -> Stepped
         ensures { stepped self read ≡ stepped_says result }
     {
-        let bare = self.bare();
         let mut bits = self.bits;
+        let bare = self.bare();
         let mut row = none();
         let told = bare.step(read, &mut bits, &mut row);
         let next = told.bare;

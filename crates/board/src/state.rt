@@ -12,7 +12,7 @@ use crate::{Bare, Mode};
 use measure::{HIGH, ReadCycles};
 
 // What a read can change beside the bits. Kept apart from the 128 bytes, so that a read moves none of them.
-#[derive(Drop)]
+#[derive(Clone, Copy)]
 pub struct Numbers {
     pub mode: Mode,
     pub run: usize,

@@ -4,25 +4,26 @@ use capture::{Checked, Summary};
 use cases::reading::Numbers;
 use cases::{reading, show};
 use measure::ReadCycles;
+use std::io;
 
 // The captures that are fed have so many reads at most.
 const READS: usize = 20000;
 
 // k n Q
-pub fn fresh(n: Numbers) -> usize {
+pub fn fresh(rt: &impl Print, n: Numbers) -> io::Result<usize> {
     let started = Receiver::fresh(ReadCycles(n.n0), n.n1, ReadCycles(n.n2));
     let receiver = started.receiver;
     let start = started.start;
     match start {
         Start::Fresh => {}
-        Start::Refused(refusal) => show::refused(refusal),
+        Start::Refused(refusal) => show::refused(rt, refusal)?,
     }
-    crate::state::shown(receiver);
-    0
+    crate::state::shown(rt, receiver)?;
+    Ok(0)
 }
 
 // Feeds reads one by one.
-fn by_steps(start: Receiver, reads: &[u8]) -> Receiver {
+fn by_steps(rt: &impl Print, start: Receiver, reads: &[u8]) -> io::Result<Receiver> {
     let n = start.n;
     let mut receiver = start;
     let mut i = 0;
@@ -31,14 +32,14 @@ fn by_steps(start: Receiver, reads: &[u8]) -> Receiver {
         let event = stepped.event;
         let row = stepped.row;
         receiver = stepped.receiver;
-        crate::state::reported(i, event, n, &row);
+        crate::state::reported(rt, i, event, n, &row)?;
         i += 1;
     }
-    receiver
+    Ok(receiver)
 }
 
 // Feeds reads as lists, up to each event. Ends early where listening uses no read, as after a refusal.
-fn by_lists(start: Receiver, reads: &[u8]) -> Receiver {
+fn by_lists(rt: &impl Print, start: Receiver, reads: &[u8]) -> io::Result<Receiver> {
     let n = start.n;
     let mut receiver = start;
     let mut at = 0;
@@ -46,37 +47,37 @@ fn by_lists(start: Receiver, reads: &[u8]) -> Receiver {
         let heard = receiver.listen(&reads[at..]);
         let used = heard.used.0;
         if used < 1 {
-            return receiver;
+            return Ok(receiver);
         }
         if reads.len() - at < used {
-            return receiver;
+            return Ok(receiver);
         }
         let event = heard.event;
         let row = heard.row;
         receiver = heard.receiver;
         at += used;
-        crate::state::reported(at - 1, event, n, &row);
+        crate::state::reported(rt, at - 1, event, n, &row)?;
     }
-    receiver
+    Ok(receiver)
 }
 
-fn both(summary: Summary, reads: &[u8]) {
+fn both(rt: &impl Print, summary: Summary, reads: &[u8]) -> io::Result<()> {
     let started = Receiver::fresh(summary.k, summary.n, summary.q);
     let receiver = started.receiver;
-    crate::state::shown(by_steps(receiver, reads));
-    show::text(b" by lists");
-    crate::state::shown(by_lists(receiver, reads));
+    crate::state::shown(rt, by_steps(rt, receiver, reads)?)?;
+    show::text(rt, b" by lists")?;
+    crate::state::shown(rt, by_lists(rt, receiver, reads)?)
 }
 
 // the bytes of a capture, whose reads are fed in both ways
-pub fn hear(bytes: &[u8]) -> usize {
+pub fn hear(rt: &impl Print, bytes: &[u8]) -> io::Result<usize> {
     let mut reads = [9u8; READS];
     let checked = capture::read_capture(bytes, &mut reads);
     match checked {
-        Checked::Capture(summary) => both(summary, reading::front(&reads, summary.reads.0)),
-        Checked::Refused(refusal) => show::refused(refusal),
+        Checked::Capture(summary) => both(rt, summary, reading::front(&reads, summary.reads.0))?,
+        Checked::Refused(refusal) => show::refused(rt, refusal)?,
     }
-    0
+    Ok(0)
 }
 
 // The bytes of a state, which are the second list of a case.
@@ -86,15 +87,15 @@ fn packed(case: &[u8]) -> [u8; 128] {
     bits
 }
 
-fn stepped(state: Receiver, read: u8) {
+fn stepped(rt: &impl Print, state: Receiver, read: u8) -> io::Result<()> {
     let n = state.n;
     let out = state.step(read);
     let event = out.event;
     let row = out.row;
     let after = out.receiver;
-    show::text(b" step");
-    crate::state::reported(0, event, n, &row);
-    crate::state::shown(after);
+    show::text(rt, b" step")?;
+    crate::state::reported(rt, 0, event, n, &row)?;
+    crate::state::shown(rt, after)
 }
 
 // The place of the last of so many reads.
@@ -102,30 +103,36 @@ fn last(used: usize) -> usize {
     if 0 < used { used - 1 } else { 0 }
 }
 
-fn listened(state: Receiver, reads: &[u8]) {
+fn listened(rt: &impl Print, state: Receiver, reads: &[u8]) -> io::Result<()> {
     let n = state.n;
     let out = state.listen(reads);
     let event = out.event;
     let row = out.row;
     let after = out.receiver;
     let used = out.used.0;
-    show::text(b" listen");
-    crate::state::reported(last(used), event, n, &row);
-    show::named(b" used ", used);
-    crate::state::shown(after);
+    show::text(rt, b" listen")?;
+    crate::state::reported(rt, last(used), event, n, &row)?;
+    show::named(rt, b" used ", used)?;
+    crate::state::shown(rt, after)
 }
 
-fn formed(state: Receiver) {
+fn formed(rt: &impl Print, state: Receiver) -> io::Result<()> {
     if state.well_formed() {
-        show::text(b" well formed");
+        show::text(rt, b" well formed")
     } else {
-        show::text(b" ill formed");
+        show::text(rt, b" ill formed")
     }
 }
 
 // k n Q run runlevel left level found of a state in this mode, and reads and the state's bytes: it takes the first
 // read, if there is one, and listens to all.
-pub fn tried(mode: Mode, n: Numbers, case: &[u8], reads: &[u8]) -> usize {
+pub fn tried(
+    rt: &impl Print,
+    mode: Mode,
+    n: Numbers,
+    case: &[u8],
+    reads: &[u8],
+) -> io::Result<usize> {
     let state = Receiver {
         k: ReadCycles(n.n0),
         n: n.n1,
@@ -138,10 +145,10 @@ pub fn tried(mode: Mode, n: Numbers, case: &[u8], reads: &[u8]) -> usize {
         found: n.n7,
         bits: packed(case),
     };
-    formed(state);
+    formed(rt, state)?;
     if 0 < reads.len() {
-        stepped(state, reads[0]);
+        stepped(rt, state, reads[0])?;
     }
-    listened(state, reads);
-    0
+    listened(rt, state, reads)?;
+    Ok(0)
 }

@@ -1,9 +1,10 @@
 // The log of a bay: an event logged, a record cleared, the records listed. A case gives the read numbers of its records
 // as a list, in which 0 stands for a free record.
+use bay_log::{Cleared, Listed, Logged};
 use cases::reading::Numbers;
 use cases::{reading, show};
-use bay_log::{Cleared, Listed, Logged};
 use measure::RECORDS;
+use std::io;
 
 // One entry more than the lists of a log have.
 const MOST: usize = 65;
@@ -39,62 +40,66 @@ fn made(text: &[u8], numbers: &mut [u64], free: &mut [u8]) {
     lay(&said, numbers, free);
 }
 
-fn logged(answer: Logged) -> usize {
+fn logged(rt: &impl Print, answer: Logged) -> io::Result<usize> {
     match answer {
         Logged::At(place) => {
-            show::named(b" at ", place);
-            place
+            show::named(rt, b" at ", place)?;
+            Ok(place)
         }
         Logged::Refused(refusal) => {
-            show::refused(refusal);
-            RECORDS
+            show::refused(rt, refusal)?;
+            Ok(RECORDS)
         }
     }
 }
 
-fn cleared(answer: Cleared, place: usize) -> usize {
+fn cleared(rt: &impl Print, answer: Cleared, place: usize) -> io::Result<usize> {
     match answer {
-        Cleared::Done => place,
+        Cleared::Done => Ok(place),
         Cleared::Refused(refusal) => {
-            show::refused(refusal);
-            RECORDS
+            show::refused(rt, refusal)?;
+            Ok(RECORDS)
         }
     }
 }
 
-fn listed(answer: Listed) {
+fn listed(rt: &impl Print, answer: Listed) -> io::Result<()> {
     match answer {
-        Listed::Places(count) => show::count(count),
-        Listed::Refused(refusal) => show::refused(refusal),
+        Listed::Places(count) => show::count(rt, count),
+        Listed::Refused(refusal) => show::refused(rt, refusal),
     }
 }
 
 // An entry of a list after its name.
-fn number(name: &[u8], numbers: &[u64], place: usize) {
+fn number(rt: &impl Print, name: &[u8], numbers: &[u64], place: usize) -> io::Result<()> {
     if place < numbers.len() {
-        show::named(name, numbers[place] as usize);
+        show::named(rt, name, numbers[place] as usize)?;
     }
+    Ok(())
 }
 
-fn count(name: &[u8], counts: &[usize], place: usize) {
+fn count(rt: &impl Print, name: &[u8], counts: &[usize], place: usize) -> io::Result<()> {
     if place < counts.len() {
-        show::named(name, counts[place]);
+        show::named(rt, name, counts[place])?;
     }
+    Ok(())
 }
 
-fn named_byte(name: &[u8], value: u8) {
-    show::named(name, value as usize);
+fn named_byte(rt: &impl Print, name: &[u8], value: u8) -> io::Result<()> {
+    show::named(rt, name, value as usize)
 }
 
-fn byte(name: &[u8], bytes: &[u8], place: usize) {
+fn byte(rt: &impl Print, name: &[u8], bytes: &[u8], place: usize) -> io::Result<()> {
     if place < bytes.len() {
-        named_byte(name, bytes[place]);
+        named_byte(rt, name, bytes[place])?;
     }
+    Ok(())
 }
 
 // The record at a place, if there is one: its read number, bit count, broken mark and free mark, and the first of its
 // bytes; and the count that is stored then.
 fn record(
+    rt: &impl Print,
     place: usize,
     numbers: &[u64],
     bits: &[u8],
@@ -102,19 +107,20 @@ fn record(
     broken: &[u8],
     free: &[u8],
     stored: usize,
-) {
+) -> io::Result<()> {
     if RECORDS <= place {
-        return;
+        return Ok(());
     }
-    number(b" number ", numbers, place);
-    count(b" count ", counts, place);
-    byte(b" broken ", broken, place);
-    byte(b" free ", free, place);
-    byte(b" byte ", bits, 128 * place);
-    show::named(b" stored ", stored);
+    number(rt, b" number ", numbers, place)?;
+    count(rt, b" count ", counts, place)?;
+    byte(rt, b" broken ", broken, place)?;
+    byte(rt, b" free ", free, place)?;
+    byte(rt, b" byte ", bits, 128 * place)?;
+    show::named(rt, b" stored ", stored)
 }
 
 fn event_in(
+    rt: &impl Print,
     n: Numbers,
     row: &[u8],
     text: &[u8],
@@ -123,16 +129,16 @@ fn event_in(
     counts: &mut [usize],
     broken: &mut [u8],
     free: &mut [u8],
-) {
+) -> io::Result<()> {
     let from = 0;
     let size = n.n3;
     let mut stored = n.n4;
     made(text, numbers, free);
     if numbers.len() < size {
-        return;
+        return Ok(());
     }
     if free.len() < size {
-        return;
+        return Ok(());
     }
     let answer = bay_log::log_event(
         n.n0 as u64,
@@ -146,10 +152,20 @@ fn event_in(
         &mut free[from..size],
         &mut stored,
     );
-    record(logged(answer), numbers, bits, counts, broken, free, stored);
+    record(
+        rt,
+        logged(rt, answer)?,
+        numbers,
+        bits,
+        counts,
+        broken,
+        free,
+        stored,
+    )
 }
 
 fn clear_in(
+    rt: &impl Print,
     n: Numbers,
     text: &[u8],
     numbers: &mut [u64],
@@ -157,16 +173,16 @@ fn clear_in(
     counts: &mut [usize],
     broken: &mut [u8],
     free: &mut [u8],
-) {
+) -> io::Result<()> {
     let from = 0;
     let size = n.n1;
     let mut stored = n.n2;
     made(text, numbers, free);
     if numbers.len() < size {
-        return;
+        return Ok(());
     }
     if free.len() < size {
-        return;
+        return Ok(());
     }
     let answer = bay_log::clear(
         n.n0,
@@ -178,41 +194,52 @@ fn clear_in(
         &mut stored,
     );
     record(
-        cleared(answer, n.n0),
+        rt,
+        cleared(rt, answer, n.n0)?,
         numbers,
         bits,
         counts,
         broken,
         free,
         stored,
-    );
+    )
 }
 
-fn list_in(n: Numbers, text: &[u8], numbers: &mut [u64], free: &mut [u8], places: &mut [usize]) {
+fn list_in(
+    rt: &impl Print,
+    n: Numbers,
+    text: &[u8],
+    numbers: &mut [u64],
+    free: &mut [u8],
+    places: &mut [usize],
+) -> io::Result<()> {
     let from = 0;
     let room = n.n0;
     let size = n.n1;
     made(text, numbers, free);
     if numbers.len() < size {
-        return;
+        return Ok(());
     }
     if free.len() < size {
-        return;
+        return Ok(());
     }
     if places.len() < room {
-        return;
+        return Ok(());
     }
-    listed(bay_log::list(
-        &numbers[from..size],
-        &free[from..size],
-        &mut places[from..room],
-    ));
-    show::text(b" places");
-    show::numbers(&places[from..room]);
+    listed(
+        rt,
+        bay_log::list(
+            &numbers[from..size],
+            &free[from..size],
+            &mut places[from..room],
+        ),
+    )?;
+    show::text(rt, b" places")?;
+    show::numbers(rt, &places[from..room])
 }
 
 // number count broken records stored, the event's bits, and the read numbers of the log
-fn log_event(n: Numbers, case: &[u8], row: &[u8]) -> usize {
+fn log_event(rt: &impl Print, n: Numbers, case: &[u8], row: &[u8]) -> io::Result<usize> {
     let mut numbers = [0u64; MOST];
     let mut bits = [5u8; ALL_BYTES];
     let mut counts = [7usize; RECORDS];
@@ -220,6 +247,7 @@ fn log_event(n: Numbers, case: &[u8], row: &[u8]) -> usize {
     let mut free = [0u8; MOST];
     let text = reading::after(reading::after(case, b'|'), b'|');
     event_in(
+        rt,
         n,
         row,
         text,
@@ -228,12 +256,12 @@ fn log_event(n: Numbers, case: &[u8], row: &[u8]) -> usize {
         &mut counts,
         &mut broken,
         &mut free,
-    );
-    0
+    )?;
+    Ok(0)
 }
 
 // place records stored, and the read numbers of the log
-fn log_clear(n: Numbers, case: &[u8]) -> usize {
+fn log_clear(rt: &impl Print, n: Numbers, case: &[u8]) -> io::Result<usize> {
     let mut numbers = [0u64; MOST];
     let mut bits = [5u8; ALL_BYTES];
     let mut counts = [7usize; RECORDS];
@@ -241,6 +269,7 @@ fn log_clear(n: Numbers, case: &[u8]) -> usize {
     let mut free = [0u8; MOST];
     let text = reading::after(case, b'|');
     clear_in(
+        rt,
         n,
         text,
         &mut numbers,
@@ -248,31 +277,32 @@ fn log_clear(n: Numbers, case: &[u8]) -> usize {
         &mut counts,
         &mut broken,
         &mut free,
-    );
-    0
+    )?;
+    Ok(0)
 }
 
 // room records, and the read numbers of the log
-fn log_list(n: Numbers, case: &[u8]) -> usize {
+fn log_list(rt: &impl Print, n: Numbers, case: &[u8]) -> io::Result<usize> {
     let mut numbers = [0u64; MOST];
     let mut free = [0u8; MOST];
     let mut places = [99usize; MOST];
     list_in(
+        rt,
         n,
         reading::after(case, b'|'),
         &mut numbers,
         &mut free,
         &mut places,
-    );
-    0
+    )?;
+    Ok(0)
 }
 
 // Runs the operation that a case names, and gives how many entries of the output it has written, which is none.
-pub fn operate(n: Numbers, case: &[u8], list: &[u8]) -> usize {
+pub fn operate(rt: &impl Print, n: Numbers, case: &[u8], list: &[u8]) -> io::Result<usize> {
     match reading::operation(case, b"log_event log_clear log_list ") {
-        0 => log_event(n, case, list),
-        1 => log_clear(n, case),
-        2 => log_list(n, case),
-        _ => 0,
+        0 => log_event(rt, n, case, list),
+        1 => log_clear(rt, n, case),
+        2 => log_list(rt, n, case),
+        _ => Ok(0),
     }
 }

@@ -61,6 +61,10 @@ following_on (suc more) b l p h =
     let fewer : suc more - 1 ≡ more = omega arith in
     simp (ne_eqb b 0 n, le-ltb b 128 h, fewer)
 
+-- a last byte of 0, at a place of the bytes
+pub following_zero_at : (more at : ℕ) (s : List ℕ) → at < length s → get_or s at 0 ≡ 0 → following more (drop at s) ≡ long
+following_zero_at more at s h e = rw (from_byte s at _ h refl) (following_zero more _ _ e)
+
 -- a number's first byte
 pub group_none : (more : ℕ) → group more [] ≡ cut
 unfolding group

@@ -2,8 +2,6 @@ pub mod CasesHold
 pub mod Groups
 pub mod Places
 pub mod Reaching
-pub mod ByWalk
-pub mod TakenApart
 pub mod Headings
 pub mod Runs
 pub mod Judging

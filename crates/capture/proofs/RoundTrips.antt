@@ -2,7 +2,6 @@
 use Prim.Native.Nat.{ℕ, ◌≤◌}
 use mathlib.Core.Path.{◌≡◌, refl, sym, ap, ◌∙◌}
 use mathlib.Core.List.{List}
-use mathlib.Core.Bool.{false}
 use native.Mathlib.Omega.{arith}
 use lib.Dec.{ltb}
 use lib.ListN.{length, take, drop}
@@ -44,7 +43,7 @@ bytes_read_back bytes e c g = capture_again bytes c (all_bytes bytes e) g
 
 -- what writing did, where it gave a size
 record Wrote (k n Q : ℕ) (reads out out' : List ℕ) (size : ℕ) : Type 0 where
-  in_range_lem : InRange k n Q
+  in_range : InRange k n Q
   few : length reads ≤ entries_most
   low : Levels reads
   sized : length (capture_of k n Q reads) ≡ size
@@ -60,7 +59,7 @@ wrote k n Q reads out out' size e =
     let room = failed 4 0 out out' size (ltb (length out) (length (capture_of k n Q reads))) _ low.1 in
     let f : given (length (capture_of k n Q reads)) ≡ given size = ap (λ (p : Answer ℕ × List ℕ). p.0) room.1 in
     record {
-      in_range_lem = fit.0;
+      in_range = fit.0;
       few = ltb-false entries_most (length reads) few.0;
       low = most_none_some 1 reads low.0;
       sized = cc;
@@ -74,7 +73,7 @@ written_read_back k n Q reads out out' room size e h =
     let same : reads_of_runs (first_level reads) (runs_of reads) ≡ reads = reads_back reads w.low in
     let bytes : take size out' ≡ capture_of k n Q reads = ap (take size) (sym w.laid)
     ∙ take_at (capture_of k n Q reads) (drop (length (capture_of k n Q reads)) out) size w.sized in
-    rw (bytes, capture_back k n Q reads w.in-range w.few w.low, same, le-ltb (length room) (length reads) h)
+    rw (bytes, capture_back k n Q reads w.in_range w.few w.low, same, le-ltb (length room) (length reads) h)
 
 -- what reading did, where it gave a summary
 record Read (bytes room room' : List ℕ) (s : Summary) : Type 0 where
@@ -125,6 +124,6 @@ read_written_back bytes room room' out s e f h =
     let front : take (length reads) room' ≡ reads = ap (take (length reads)) (sym r.laid)
     ∙ take_at reads (drop (length reads) room) (length reads) refl in
     rw (← r.summed_up, front)
-    (write_whole c.k c.n c.Q reads out a.in_range_lem
+    (write_whole c.k c.n c.Q reads out a.in_range
     (omega (arith, a.few, length_reads c.level c.runs))
     (omega (arith, none_above 1 reads (reads_levels c.level c.runs a.low))) (rw same h) ∙ rw same)

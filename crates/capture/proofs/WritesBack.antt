@@ -111,7 +111,7 @@ first_of level (suc run ∷ runs) p e = refl
 
 -- what an accepted capture is made of
 pub record Accepted (s : List ℕ) (c : Capture) : Type 0 where
-  pub in_range_lem : InRange c.k c.n c.Q
+  pub in_range : InRange c.k c.n c.Q
   pub low : c.level ≤ 1
   pub some : Some c.runs
   pub few : sum c.runs ≤ total_most
@@ -167,7 +167,7 @@ accepted s c b e =
         ∙ ap (λ (x : List ℕ). spelled four.Q.value ++ x) (number_again s four.Q.after four.level b level.0
         ∙ ap (λ (x : List ℕ). spelled four.level.value ++ x) r.bytes))) in
         let a : Accepted s (captured front runs) = record {
-          in_range_lem =
+          in_range =
               all_true (sampling four.k.value) (row_bits four.n.value) (quiet four.Q.value) k.1 n.1
               Q.1;
           low = l;

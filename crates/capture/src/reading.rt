@@ -19,6 +19,9 @@ const FURTHER: usize = 2;
 
 const LAST_MOST: usize = 127;
 
+// The least length of a run.
+const RUN_LEAST: usize = 1;
+
 // The greatest total of the runs.
 const TOTAL_MOST: usize = ENTRIES_MOST;
 
@@ -42,6 +45,7 @@ fn prefixed(byte: usize, rest: Front) -> Front
 }
 
 // A byte that follows another of its number, and at most `more` after it. A last byte of 0 is not the shortest form.
+#[tactic(auto, using(crate::proofs::Groups::following_zero_at))]
 fn following_at(bytes: &[u8], at: usize, more: usize) -> Front
     requires { more < further }
     ensures { following more (drop at bytes.now) ≡ front_says result }
@@ -168,6 +172,7 @@ fn head_refusal(head: Head) -> Refusal
 // Gives the first four numbers of a capture, with the level's place and the place after it. Refuses with 3 for too many
 // bytes, and then, from the left, with 6 or 7 where one cannot be read and with 8 where one is out of range, each at
 // the number's first byte.
+#[tactic(auto, using(crate::proofs::Captures::header_long))]
 pub fn read_header(bytes: &[u8]) -> Head
     ensures { header bytes.now ≡ head_says result }
 {
@@ -195,7 +200,7 @@ fn check_runs(bytes: &[u8], head: Header) -> Checked
         let Number::Is(run, next) = number else {
             return Checked::Refused(number_refusal(number));
         };
-        if run < 1 {
+        if run < RUN_LEAST {
             return Checked::Refused(Refusal::Range(at));
         }
         let total = reads + run;

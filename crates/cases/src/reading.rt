@@ -1,5 +1,39 @@
 // Taking a case apart: its operation, its numbers and its lists.
-ghost use Rattle.std.specs.Prelude.{◌≤◌, length};
+ghost use Rattle.std.specs.Prelude.{◌≤◌, IfOk, length};
+
+use std::io;
+use std::io::Read;
+
+// Reads until a list is full or the input ends, and gives how many bytes it has read.
+pub fn whole<R: Read>(from: &mut R, into: &mut [u8]) -> io::Result<usize>
+    ensures { IfOk result (λ n. n ≤ length into.old) }
+{
+    let mut done = 0;
+    while done < into.len() {
+        let n = from.read(&mut into[done..])?;
+        if n == 0 {
+            break;
+        }
+        done += n;
+    }
+    Ok(done)
+}
+
+// The first place of a text from this one on that has a sign, and its end where none has.
+pub fn find(text: &[u8], from: usize, sign: u8) -> usize
+    requires { from ≤ length text.now }
+    ensures from_there { from ≤ result }
+    ensures within { result ≤ length text.now }
+{
+    let mut at = from;
+    while at < text.len() {
+        if text[at] == sign {
+            return at;
+        }
+        at += 1;
+    }
+    at
+}
 
 // Whether a line is a case.
 pub fn is_case(line: &[u8]) -> bool {
@@ -12,13 +46,13 @@ pub fn is_case(line: &[u8]) -> bool {
 // The text before the first of a sign, or all of it where there is none.
 pub fn until(text: &[u8], sign: u8) -> &[u8] {
     let from = 0;
-    let end = bytes::scan::find(text, 0, text.len(), sign);
+    let end = find(text, 0, sign);
     &text[from..end]
 }
 
 // The text after the first of a sign, and nothing where there is none.
 pub fn after(text: &[u8], sign: u8) -> &[u8] {
-    let at = bytes::scan::find(text, 0, text.len(), sign);
+    let at = find(text, 0, sign);
     if at < text.len() {
         let start = at + 1;
         &text[start..]
@@ -301,7 +335,9 @@ fn copied(list: &[u8], size: usize, to: &mut [u8]) -> usize
     if to.len() < from.len() {
         return 0;
     }
-    bytes::copy(from, to)
+    let count = from.len();
+    to[..count].copy_from_slice(from);
+    count
 }
 
 // The same as `list`, but for the word `out`: so many entries of another list, and then those that follow the word.

@@ -1,39 +1,40 @@
 // Printing what a case gives, on standard output.
-use libc::STDOUT_FILENO;
 use measure::Refusal;
+use std::io;
 
 // A list of more entries is printed as a summary.
 const SHOWN: usize = 32;
 
-pub fn text(words: &[u8]) {
-    io::write_all(STDOUT_FILENO, words);
+pub fn text(rt: &impl Print, words: &[u8]) -> io::Result<()> {
+    rt.write_all(words)
 }
 
-pub fn number(n: usize) {
-    io::print_decimal(STDOUT_FILENO, n as u64);
+pub fn number(rt: &impl Print, n: usize) -> io::Result<()> {
+    rt.print(n)
 }
 
 // A number after its name.
-pub fn named(name: &[u8], n: usize) {
-    text(name);
-    number(n);
+pub fn named(rt: &impl Print, name: &[u8], n: usize) -> io::Result<()> {
+    text(rt, name)?;
+    number(rt, n)
 }
 
-pub fn refused(refusal: Refusal) {
-    named(b" refused ", measure::number(refusal));
-    named(b" at ", measure::place(refusal));
+pub fn refused(rt: &impl Print, refusal: Refusal) -> io::Result<()> {
+    named(rt, b" refused ", measure::number(refusal))?;
+    named(rt, b" at ", measure::place(refusal))
 }
 
-fn entry(x: u8) {
-    count(x as usize);
+fn entry(rt: &impl Print, x: u8) -> io::Result<()> {
+    count(rt, x as usize)
 }
 
-fn entries(list: &[u8]) {
+fn entries(rt: &impl Print, list: &[u8]) -> io::Result<()> {
     let mut i = 0;
     while i < list.len() {
-        entry(list[i]);
+        entry(rt, list[i])?;
         i += 1;
     }
+    Ok(())
 }
 
 // How many entries of a list are this one.
@@ -64,63 +65,64 @@ fn digest(list: &[u8]) -> usize {
     sum
 }
 
-fn summary(list: &[u8]) {
-    named(b" low ", times(list, 0));
-    named(b" high ", times(list, 1));
-    named(b" unknown ", times(list, 2));
-    named(b" digest ", digest(list));
+fn summary(rt: &impl Print, list: &[u8]) -> io::Result<()> {
+    named(rt, b" low ", times(list, 0))?;
+    named(rt, b" high ", times(list, 1))?;
+    named(rt, b" unknown ", times(list, 2))?;
+    named(rt, b" digest ", digest(list))
 }
 
 // The entries of a list of numbers.
-pub fn numbers(list: &[usize]) {
+pub fn numbers(rt: &impl Print, list: &[usize]) -> io::Result<()> {
     let mut i = 0;
     while i < list.len() {
-        count(list[i]);
+        count(rt, list[i])?;
         i += 1;
     }
+    Ok(())
 }
 
-fn left(list: &[u8]) {
+fn left(rt: &impl Print, list: &[u8]) -> io::Result<()> {
     if SHOWN < list.len() {
-        summary(list);
+        summary(rt, list)
     } else {
-        entries(list);
+        entries(rt, list)
     }
 }
 
 // A count after a space.
-pub fn count(n: usize) {
-    named(b" ", n);
+pub fn count(rt: &impl Print, n: usize) -> io::Result<()> {
+    named(rt, b" ", n)
 }
 
 // A number after a space, with a minus sign where it is below zero.
-pub fn signed(n: i64) {
+pub fn signed(rt: &impl Print, n: i64) -> io::Result<()> {
     if n < 0 {
-        named(b" -", (-1 - n) as usize + 1);
+        named(rt, b" -", (-1 - n) as usize + 1)
     } else {
-        count(n as usize);
+        count(rt, n as usize)
     }
 }
 
 // A case as it is written, before what it gives.
-pub fn case(line: &[u8]) {
-    text(line);
-    text(b" ->");
+pub fn case(rt: &impl Print, line: &[u8]) -> io::Result<()> {
+    text(rt, line)?;
+    text(rt, b" ->")
 }
 
 // The end of a case: so many entries of its lent output, if it has one. Many are summed up.
-pub fn end(out: &[u8], size: usize) {
+pub fn end(rt: &impl Print, out: &[u8], size: usize) -> io::Result<()> {
     if 0 < size {
-        text(b" |");
-        left(crate::reading::front(out, size));
+        text(rt, b" |")?;
+        left(rt, crate::reading::front(out, size))?;
     }
-    text(b"\n");
+    text(rt, b"\n")
 }
 
-pub fn yes() {
-    text(b" yes");
+pub fn yes(rt: &impl Print) -> io::Result<()> {
+    text(rt, b" yes")
 }
 
-pub fn no() {
-    text(b" no");
+pub fn no(rt: &impl Print) -> io::Result<()> {
+    text(rt, b" no")
 }

@@ -1,4 +1,6 @@
 // Words of half cells, for a shifter that clocks sixteen of them out at a time: bytes to such words, and back.
+#![tactic(auto)]
+
 ghost use Rattle.std.specs.Prelude.{◌≡◌, true, ◌+◌, ◌*◌, ◌^◌, ◌/◌, ◌%◌, ◌<◌, ◌≤◌, length};
 ghost use Rattle.measure.specs.Lists.{onto};
 ghost use Rattle.halfcells.specs.HalfCells.{bits_of, word_from, words_of, no_edge_from, first_no_edge};

@@ -8,10 +8,10 @@ use native.Mathlib.Decide.{ℕ_discrete, dec_le}
 use native.Mathlib.Omega.{arith}
 use lib.Dec.{eqb}
 use lib.ListN.{length, get_or, take, drop, length-append, get_or-append, take-append-drop}
-use lib.Seq.{length-take-le, get_or-take, ext_get_or, take-append_seam}
+use lib.Seq.{length-take-le, get_or-take, ext_get_or}
 use borrow.Author.Tests.{eq-eqb, ne_eqb}
 use Rattle.line.specs.Smooth.{unknown, seen, smooth_from, smooth}
-use Rattle.line.specs.Warp.{cycle_start, read_start, warp_by}
+use Rattle.line.specs.Warp.{warp_by}
 use Rattle.line.specs.Settle.{next_choice, settle}
 use Rattle.line.specs.Passes.{over_the_line}
 use Rattle.line.specs.Sharing.{Shares, ReadIs}

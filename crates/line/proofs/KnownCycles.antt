@@ -3,7 +3,7 @@
 use mathlib.Core.Path.{◌≡◌, ◌∙◌}
 use mathlib.Core.Logic.{dite}
 use mathlib.Core.List.{List, [], ◌∷◌}
-use Prim.Native.Nat.{ℕ, zero, suc, ◌+◌, ◌-◌, ◌≤◌, ◌<◌}
+use Prim.Native.Nat.{ℕ, zero, suc, ◌+◌, ◌≤◌, ◌<◌}
 use native.Mathlib.Decide.{ℕ_discrete, dec_le}
 use native.Mathlib.Omega.{arith}
 use lib.ListN.{length, get_or, replicate, get_or-eq_default}

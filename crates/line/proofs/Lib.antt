@@ -7,6 +7,7 @@ pub mod FirstLeft
 pub mod ReadsThere
 pub mod SharedCycles
 pub mod WarpLaws
+pub mod Counted
 pub mod SmoothLaws
 pub mod Windows
 pub mod Blocks

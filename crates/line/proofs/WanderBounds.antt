@@ -4,7 +4,7 @@ use mathlib.Core.Path.{◌≡◌, ◌∙◌}
 use mathlib.Core.Logic.{dite}
 use mathlib.Core.Bool.{true}
 use mathlib.Core.List.{List, [], ◌∷◌}
-use Prim.Native.Nat.{ℕ, ◌<◌, ◌≤◌, suc}
+use Prim.Native.Nat.{ℕ, ◌<◌, ◌≤◌}
 use native.Mathlib.Decide.{dec_le}
 use native.Mathlib.Omega.{arith}
 use lib.ListN.{length, take}
@@ -15,7 +15,7 @@ use Rattle.line.specs.Wander.{start_of, warp_by_lengths}
 use Rattle.line.specs.Answers.{all_between, phase_fits}
 use Rattle.line.specs.Running.{clock_of}
 use Rattle.line.proofs.Clocks.{Clocks}
-use Rattle.line.proofs.ClockBounds.{Clock, within_bounds, mono}
+use Rattle.line.proofs.ClockBounds.{Clock, within_bounds}
 use Rattle.line.proofs.ReadsThere.{read_ends}
 use Rattle.line.proofs.WanderLaws.{lengths_by}
 use Rattle.line.proofs.WanderClocks.{clock_first, clock_next, clock_start, clock_bounds}

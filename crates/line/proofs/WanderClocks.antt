@@ -1,25 +1,19 @@
 -- The clocks that lists of lengths make: as far as there are lengths they have the rules' times, and after them they go
 -- on.
-use mathlib.Core.Path.{◌≡◌, refl, sym, ◌∙◌}
+use mathlib.Core.Path.{◌≡◌, refl}
 use mathlib.Core.Logic.{⊎_elim, dite}
-use mathlib.Core.List.{List, [], ◌∷◌}
-use Prim.Native.Nat.{ℕ, zero, suc, ◌+◌, ◌*◌, ◌<◌, ◌≤◌}
+use mathlib.Core.List.{List}
+use Prim.Native.Nat.{ℕ, zero, suc, ◌+◌, ◌<◌, ◌≤◌}
 use native.Mathlib.Nat.{zero-add, eq-or-lt_of_le}
 use native.Mathlib.Decide.{dec_lt}
 use native.Mathlib.Numerals.{add-one}
 use native.Mathlib.Omega.{arith}
-use lib.ListN.{length, get_or, take, replicate, length-take, length-replicate, get_or-replicate, get_or-eq_default}
-use lib.Seq.{take_all}
-use Rattle.measure.specs.Ranges.{entries_most}
+use lib.ListN.{length, get_or, get_or-eq_default}
 use Rattle.measure.proofs.LevelLaws.{get_d_any}
-use Rattle.line.specs.Warp.{cycle_start, read_start, warp_by, warp}
-use Rattle.line.specs.Wander.{start_of, warp_by_lengths, EqualLengthsWarp}
-use Rattle.line.specs.Running.{clock_of, Lengths, EndBy}
-use Rattle.line.proofs.Clocks.{Clocks, even_clocks}
+use Rattle.line.specs.Wander.{start_of}
+use Rattle.line.specs.Running.{clock_of, Lengths}
+use Rattle.line.proofs.Clocks.{Clocks}
 use Rattle.line.proofs.ClockBounds.{Clock, within_bounds, span_high, mono}
-use Rattle.line.proofs.ReadsThere.{read_there, read_ends}
-use Rattle.line.proofs.WarpLaws.{warp_by_lem}
-use Rattle.line.proofs.WanderLaws.{lengths_by}
 
 module _ (past from : ℕ) (lengths : List ℕ) where
   pub clock_first : clock_of past from lengths 0 ≡ from

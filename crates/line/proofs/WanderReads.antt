@@ -8,12 +8,12 @@ use Prim.Native.Nat.{ℕ, zero, suc, ◌+◌, ◌*◌, ◌<◌, ◌≤◌}
 use native.Mathlib.Nat.{zero-add, eq-or-lt_of_le}
 use native.Mathlib.Decide.{dec_le}
 use native.Mathlib.Omega.{arith}
-use lib.ListN.{length, get_or, take, replicate, length-take, length-replicate, get_or-replicate}
+use lib.ListN.{length, take, replicate, length-take, length-replicate, get_or-replicate}
 use lib.Seq.{take_all, length-take-le}
 use borrow.Author.Tests.{le-ltb, lt-leb}
 use Rattle.measure.specs.Lists.{onto}
-use Rattle.measure.specs.Refusals.{Answer, given, lent}
-use Rattle.line.specs.Warp.{cycle_start, read_start, warp_by, warp}
+use Rattle.measure.specs.Refusals.{given, lent}
+use Rattle.line.specs.Warp.{warp_by, warp}
 use Rattle.line.specs.Wander.{start_of, share_from, warp_by_lengths, EqualLengthsWarp}
 use Rattle.line.specs.Answers.{phase_fits}
 use Rattle.line.specs.Running.{clock_of, Lengths, EndBy, Counts}

@@ -4,23 +4,24 @@ ghost use Rattle.std.specs.Prelude.{◌≤◌};
 use crate::numbers::{MOST, count};
 use cases::reading::Numbers;
 use cases::{reading, show};
+use std::io;
 use stored::Joined;
 
-fn joined(answer: Joined) {
+fn joined(rt: &impl Print, answer: Joined) -> io::Result<()> {
     match answer {
         Joined::Plan(rows, cycles) => {
-            show::count(rows);
-            show::named(b" dropped ", cycles.0);
+            show::count(rt, rows)?;
+            show::named(rt, b" dropped ", cycles.0)
         }
-        Joined::Refused(refusal) => show::refused(refusal),
+        Joined::Refused(refusal) => show::refused(rt, refusal),
     }
 }
 
 // Reads a plan, and shows what the output holds then.
-fn read(leads: &[usize], trails: &[usize], out: &mut [usize]) {
-    joined(stored::read_plan(leads, trails, out));
-    show::text(b" |");
-    show::numbers(out);
+fn read(rt: &impl Print, leads: &[usize], trails: &[usize], out: &mut [usize]) -> io::Result<()> {
+    joined(rt, stored::read_plan(leads, trails, out))?;
+    show::text(rt, b" |")?;
+    show::numbers(rt, out)
 }
 
 // How many places an output has, no more than there are.
@@ -31,7 +32,7 @@ fn places(room: usize) -> usize
 }
 
 // how many places the output has, and the leads and the trails
-pub fn read_plan(case: &[u8], n: Numbers) -> usize {
+pub fn read_plan(rt: &impl Print, case: &[u8], n: Numbers) -> io::Result<usize> {
     let from = 0;
     let first = reading::after(case, b'|');
     let second = reading::after(first, b'|');
@@ -44,9 +45,10 @@ pub fn read_plan(case: &[u8], n: Numbers) -> usize {
     let mut out = [9usize; MOST];
     let room = places(n.n0);
     read(
+        rt,
         &leads[from..rows],
         &trails[from..ends],
         &mut out[from..room],
-    );
-    0
+    )?;
+    Ok(0)
 }

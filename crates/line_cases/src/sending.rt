@@ -4,48 +4,67 @@ use cases::reading::Numbers;
 use cases::{reading, show};
 use measure::WriterCycles;
 use sender::Sent;
+use std::io;
 
-fn sent(answer: Sent) -> usize {
+fn sent(rt: &impl Print, answer: Sent) -> io::Result<usize> {
     match answer {
         Sent::Wave(cycles) => {
-            show::count(cycles.0);
-            cycles.0
+            show::count(rt, cycles.0)?;
+            Ok(cycles.0)
         }
         Sent::Refused(refusal) => {
-            show::refused(refusal);
-            0
+            show::refused(rt, refusal)?;
+            Ok(0)
         }
     }
 }
 
 // a b lead, and the bits
-pub fn send(n: Numbers, bits: &[u8], out: &mut [u8]) -> usize {
-    sent(sender::send(
-        WriterCycles(n.n0),
-        WriterCycles(n.n1),
-        WriterCycles(n.n2),
-        bits,
-        out,
-    ))
+pub fn send(rt: &impl Print, n: Numbers, bits: &[u8], out: &mut [u8]) -> io::Result<usize> {
+    sent(
+        rt,
+        sender::send(
+            WriterCycles(n.n0),
+            WriterCycles(n.n1),
+            WriterCycles(n.n2),
+            bits,
+            out,
+        ),
+    )
 }
 
-fn plan(n: Numbers, leads: &[usize], bits: &[u8], out: &mut [u8]) -> usize {
-    sent(sender::send_plan(
-        WriterCycles(n.n0),
-        WriterCycles(n.n1),
-        n.n2,
-        leads,
-        bits,
-        out,
-    ))
+fn plan(
+    rt: &impl Print,
+    n: Numbers,
+    leads: &[usize],
+    bits: &[u8],
+    out: &mut [u8],
+) -> io::Result<usize> {
+    sent(
+        rt,
+        sender::send_plan(
+            WriterCycles(n.n0),
+            WriterCycles(n.n1),
+            n.n2,
+            leads,
+            bits,
+            out,
+        ),
+    )
 }
 
 // a b n, and the bits and the leads
-pub fn send_plan(case: &[u8], n: Numbers, bits: &[u8], out: &mut [u8]) -> usize {
+pub fn send_plan(
+    rt: &impl Print,
+    case: &[u8],
+    n: Numbers,
+    bits: &[u8],
+    out: &mut [u8],
+) -> io::Result<usize> {
     let from = 0;
     let list = reading::after(reading::after(case, b'|'), b'|');
     let mut leads = [0usize; MOST];
     let rows = count(list);
     reading::number_list(reading::until(list, b'>'), &mut leads);
-    plan(n, &leads[from..rows], bits, out)
+    plan(rt, n, &leads[from..rows], bits, out)
 }

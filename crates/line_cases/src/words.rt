@@ -4,6 +4,7 @@ ghost use Rattle.std.specs.Prelude.{◌≤◌};
 use cases::show;
 use halfcells::{Decoded, Encoded};
 use measure::WORDS_MOST;
+use std::io;
 
 // No list of words is longer: one more than there may be.
 const WORDS: usize = WORDS_MOST + 1;
@@ -18,28 +19,28 @@ fn count(entries: usize) -> usize
     WORDS
 }
 
-fn encoded(answer: Encoded) -> usize {
+fn encoded(rt: &impl Print, answer: Encoded) -> io::Result<usize> {
     match answer {
         Encoded::Words(words) => {
-            show::count(words);
-            words
+            show::count(rt, words)?;
+            Ok(words)
         }
         Encoded::Refused(refusal) => {
-            show::refused(refusal);
-            0
+            show::refused(rt, refusal)?;
+            Ok(0)
         }
     }
 }
 
-fn decoded(answer: Decoded) -> usize {
+fn decoded(rt: &impl Print, answer: Decoded) -> io::Result<usize> {
     match answer {
         Decoded::Bytes(bytes) => {
-            show::count(bytes);
-            bytes
+            show::count(rt, bytes)?;
+            Ok(bytes)
         }
         Decoded::Refused(refusal) => {
-            show::refused(refusal);
-            0
+            show::refused(rt, refusal)?;
+            Ok(0)
         }
     }
 }
@@ -78,24 +79,24 @@ fn give(words: &[u16; WORDS], entries: &mut [u8]) {
 }
 
 // the bytes
-pub fn encode(bytes: &[u8], out: &mut [u8]) -> usize {
+pub fn encode(rt: &impl Print, bytes: &[u8], out: &mut [u8]) -> io::Result<usize> {
     let from = 0;
     let mut words = [0u16; WORDS];
     let room = count(out.len());
     take(out, &mut words);
-    let made = encoded(halfcells::encode(bytes, &mut words[from..room]));
+    let made = encoded(rt, halfcells::encode(bytes, &mut words[from..room]))?;
     give(&words, out);
     if made <= WORDS {
-        return made * 2;
+        return Ok(made * 2);
     }
-    0
+    Ok(0)
 }
 
 // the words
-pub fn decode(entries: &[u8], out: &mut [u8]) -> usize {
+pub fn decode(rt: &impl Print, entries: &[u8], out: &mut [u8]) -> io::Result<usize> {
     let from = 0;
     let mut words = [0u16; WORDS];
     let size = count(entries.len());
     take(entries, &mut words);
-    decoded(halfcells::decode(&words[from..size], out))
+    decoded(rt, halfcells::decode(&words[from..size], out))
 }

@@ -4,7 +4,7 @@ use mathlib.Core.Path.{◌≡◌, refl, sym, ◌∙◌}
 use mathlib.Core.Logic.{dite}
 use mathlib.Core.Bool.{false, false≢true}
 use mathlib.Core.List.{List, [], ◌∷◌}
-use Prim.Native.Nat.{ℕ, suc, ◌+◌, ◌*◌, ◌-◌, ◌≤◌, ◌<◌}
+use Prim.Native.Nat.{ℕ, zero, suc, ◌+◌, ◌*◌, ◌-◌, ◌≤◌, ◌<◌}
 use native.Mathlib.Nat.{mul-le-mul_left, mul-le-mul_right}
 use native.Mathlib.Decide.{dec_le}
 use native.Mathlib.Omega.{arith}
@@ -174,6 +174,7 @@ module _ (a b g k w r : ℕ) (range : InRange a b g k (steady w r))
       )))
     where
       small : (n w r : ℕ) → 0 < w → n * w < r - 1 + w → r ≤ 65535 → n ≤ pad_most
+      small n zero r hw v h = elim hw [ ]
       small n (suc w) r hw v h =
           dite (dec_le n r) (λ z. omega arith) (λ z. absurd (omega (arith, mul-le-mul_right w (under n r z))))
         where

@@ -18,7 +18,7 @@ pub data Samples (k : ℕ) (D : ℕ → ℕ) : ℕ → ℕ → ℕ → ℕ → T
   more : {n v j m s : ℕ} → j ≤ m → ((i : ℕ) → j ≤ i → i < m → D i ≡ v) → D m ≢ v → Samples k D n (D (m + k)) (m + k) s
       → Samples k D (suc n) v j s
 
-pub samples_on : {k n v j s : ℕ} {D : ℕ → ℕ} → Samples k D n v j s → j ≤ s
+pub samples_on : {k : ℕ} {D : ℕ → ℕ} {n v j s : ℕ} → Samples k D n v j s → j ≤ s
 samples_on none = omega arith
 samples_on (more h same differs next) = omega (arith, samples_on next)
 

@@ -4,7 +4,7 @@
 -- The definitions are those that the operations' contracts cite: the sender leaves `plan_wave` in the lent output, each
 -- pass of the line leaves its list, and the receiver, given one read a call, reports what feeding `next` reports
 -- (Hearing).
-use Rattle.std.specs.Prelude.{ℕ, ◌+◌, ◌-◌, ◌≤◌, ◌<◌, ◌≡◌, true, List, [], ◌∷◌, ◌++◌, length}
+use Rattle.std.specs.Prelude.{ℕ, ◌+◌, ◌-◌, ◌≤◌, ◌≡◌, true, List, [], ◌∷◌, ◌++◌, length}
 use Rattle.settings.specs.Margins.{steady, m1 as M1, m2 as M2, m3 as M3, m4 as M4, m5 as M5, zero_or_more}
 use Rattle.sender.specs.Sending.{Row}
 use Rattle.board.specs.Rows.{Settings, fresh}

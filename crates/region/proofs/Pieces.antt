@@ -1,13 +1,12 @@
 -- Pieces of text put one after another, each where the one before it ends, are their joined list put there: five from
 -- any place on, and six that are lent whole.
-use mathlib.Core.Path.{◌≡◌, sym, ap, ◌∙◌}
+use mathlib.Core.Path.{◌≡◌, ap, ◌∙◌}
 use mathlib.Core.List.{List, [], ◌++◌, append_assoc, append-nil}
 use Prim.Native.Nat.{ℕ, suc, ◌+◌, ◌≤◌, ◌<◌}
 use native.Mathlib.Omega.{arith}
 use borrow.Author.Tests.{le-leb}
 use lib.IntN.{ℤ, pos, negsuc}
 use lib.ListN.{length, length-append}
-use lib.Seq.{sets}
 use Rattle.measure.specs.Refusals.{given, refused, lent}
 use Rattle.measure.proofs.Stores.{Stored, stored_none, stored_part, stored_next, stored_all}
 use Rattle.settings.specs.declared.surveying.Smallest.{Smallest}

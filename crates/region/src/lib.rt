@@ -1,4 +1,6 @@
 // The report of a region: what the survey finds, as four lines on the front of a lent output.
+#![tactic(auto)]
+
 ghost use Rattle.std.specs.Prelude.{◌≡◌, length};
 ghost use Rattle.measure.specs.Refusals.{lent};
 ghost use Rattle.text.specs.Putting.{put_at};
@@ -27,7 +29,7 @@ const FEED: [u8; 1] = *b"\n";
 const NO_BOARDS: [u8; 41] = *b"accepted 0\nM1 - at -\nM2 - at -\nM3 - at -\n";
 
 // What putting the lines answers.
-#[derive(Drop)]
+#[derive(Clone, Copy)]
 pub enum Put {
     // The lines stand at the front of the lent output and have so many bytes.
     Lines(usize),
@@ -66,6 +68,7 @@ fn put_line(out: &mut [u8], at: usize, name: &[u8], m: Smallest) -> usize
 }
 
 // Puts the lines of a region with no boards.
+#[tactic(auto, using(crate::proofs::NoBoards::none_short))]
 fn put_none(out: &mut [u8]) -> Put
     ensures { lent (report_lines none) out.old ≡ (put_says result, out.new) }
 {

@@ -83,7 +83,7 @@ module _ (a b g : ℕ) (e : Ends) (h : Rising a b g e) where
 
   best_of : (k : ℕ) → Greatest height 511 k → Best a b g k e
   best_of k greatest = record {
-    in_range_lem = rw (le-leb 1 k greatest.first, le-leb k 511 greatest.last);
+    in_range = rw (le-leb 1 k greatest.first, le-leb k 511 greatest.last);
     none_better = λ j s. record {
       le =
           rw (

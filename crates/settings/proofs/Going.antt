@@ -12,7 +12,7 @@ use lib.IntN.{ℤ}
 use lib.ListN.{length, get_or}
 use lib.Signed.{mag, lt_z}
 use Rattle.measure.specs.Choose.{choose}
-use Rattle.measure.specs.Refusals.{Answer, given, refused}
+use Rattle.measure.specs.Refusals.{given, refused}
 use Rattle.settings.specs.Margins.{zero_or_more, accepted}
 use Rattle.settings.specs.Answers.{cell_margins}
 use Rattle.measure.proofs.Both.{each}

@@ -1,5 +1,5 @@
 -- What is answered of settings in range: their margins, and whether all of these are zero or more.
-use mathlib.Core.Path.{◌≡◌, refl, sym, ◌∙◌}
+use mathlib.Core.Path.{◌≡◌}
 use mathlib.Core.Bool.{Bool, true, ◌&&◌}
 use Prim.Native.Nat.{ℕ}
 use Rattle.measure.specs.Refusals.{given}

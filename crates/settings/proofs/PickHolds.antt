@@ -47,7 +47,7 @@ same_best a b g j k e one other = go (dec_le j k)
   where
     go : Dec (j ≤ k) → j ≤ k
     go (yes h) = h
-    go (no h) = clash_ℤ (one.smaller_worse k other.in_range_lem (omega arith)) (other.none_better j one.in_range_lem)
+    go (no h) = clash_ℤ (one.smaller_worse k other.in_range (omega arith)) (other.none_better j one.in_range)
 
 differ : {X : Type 0} {t : Bool} → t ≡ true → t ≡ false → X
 differ e f = absurd (subst T (sym e ∙ f) tt)
@@ -59,10 +59,10 @@ only_one a b g e x y (out_of_range o) (best f h l) = differ f o
 only_one a b g e x y (none o h) (out_of_range f) = differ o f
 only_one a b g e x y (none o h) (none f l) = refl
 only_one a b g e x y (none o h) (best {k} f l z) =
-    differ (accepted_least a b g k e ∙ z) (h k l.in_range_lem)
+    differ (accepted_least a b g k e ∙ z) (h k l.in_range)
 only_one a b g e x y (best o h z) (out_of_range f) = differ o f
 only_one a b g e x y (best {k} o h z) (none f l) =
-    differ (accepted_least a b g k e ∙ z) (l k h.in_range_lem)
+    differ (accepted_least a b g k e ∙ z) (l k h.in_range)
 only_one a b g e x y (best {k = j} o h z) (best {k} f l y') =
     let one = same_best a b g j k e h l in
     let other = same_best a b g k j e l h in
@@ -125,7 +125,7 @@ best_10 = (best_turning 5 13 1 (ends 95 105 95 105) (rising 5 13 1 (ends 95 105 
 best_1 : Best 1 1 1 1 (steady 1 1)
 unfolding m1 m2 m3 least
 best_1 = record {
-  in_range_lem = refl;
+  in_range = refl;
   none_better = λ other s. below_two (lower (m2 1 1 other (steady 1 1)) (m3 1 1 1 other (steady 1 1)));
   smaller_worse = λ other s l. absurd (omega (arith, (range_ends 1 511 other s).0));
 }

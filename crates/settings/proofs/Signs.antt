@@ -12,7 +12,7 @@ use mir.Facts.{to_z-of_z}
 use Rattle.settings.specs.Margins.{zero_or_more}
 
 pub read_back : (z : ℤ) → mag z < 2 ^ 63 → to_z w64 (of_z w64 z) ≡ z
-read_back z h = to_z-of_z (record { sfits = h })
+read_back z h = to_z-of_z {w = w64} (record { sfits = h })
 
 pub by_sign : (z : ℤ) → le_z (pos 0) z ≡ zero_or_more z
 by_sign (pos n) = le-leb 0 n (omega arith)

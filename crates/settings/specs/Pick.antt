@@ -19,7 +19,7 @@ least a b g k e = lower (m1 a g e) (lower (m2 a g k e) (m3 a b g k e))
 
 -- M30: k is the best: it is in range, none in range has a greater least margin, and each smaller one has a lesser
 pub record Best (a b g k : ℕ) (e : Ends) : Type 0 where
-  pub in_range_lem : sampling k ≡ true
+  pub in_range : sampling k ≡ true
   pub none_better : (other : ℕ) → sampling other ≡ true → least a b g other e ≤ℤ least a b g k e
   pub smaller_worse : (other : ℕ) → sampling other ≡ true → other < k → least a b g other e <ℤ least a b g k e
 

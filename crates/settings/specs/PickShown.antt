@@ -1,5 +1,5 @@
 -- What is shown of the picked sampling count.
-use Rattle.std.specs.Prelude.{ℕ, ◌≡◌, true, false, ◌≤ℤ◌}
+use Rattle.std.specs.Prelude.{ℕ, ◌≡◌, true, ◌≤ℤ◌}
 use Rattle.measure.specs.Ranges.{sampling}
 use Rattle.measure.specs.Refusals.{Answer, given, refused}
 use Rattle.settings.specs.Margins.{Ends, ends, steady, accepted}

@@ -1,6 +1,6 @@
 -- Rules V1 to V4 and R90: the survey of a region: how many boards are accepted, and of each margin the smallest with
 -- the first place that has it, said by comparing each board with all others.
-use Rattle.std.specs.Prelude.{ℕ, zero, suc, Bool, true, false, not, ◌&&◌, List, ltb, eqb, ℤ, length, get_or}
+use Rattle.std.specs.Prelude.{ℕ, zero, suc, Bool, true, not, ◌&&◌, List, ltb, eqb, ℤ, length, get_or}
 use Rattle.std.specs.Int.Signed.{le_z}
 use Rattle.measure.specs.Choose.{choose}
 use Rattle.measure.specs.Refusals.{Answer, given, refused, denied}

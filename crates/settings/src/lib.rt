@@ -1,5 +1,7 @@
 // Judging settings: the margins of the rules as signed numbers, and yes or no. Each margin is over the ends of the two
 // clocks, w1 to w2 and r1 to r2; steady clocks are those whose ends are equal.
+#![tactic(auto)]
+
 mod picking;
 mod surveying;
 
@@ -17,7 +19,7 @@ pub use picking::{Picked, pick, pick_ends};
 pub use surveying::{Figures, Smallest, Surveyed, survey};
 
 // M1, M2 and M3, in time units.
-#[derive(Drop)]
+#[derive(Clone, Copy)]
 pub struct Margins {
     pub m1: i64,
     pub m2: i64,
@@ -25,7 +27,7 @@ pub struct Margins {
 }
 
 // All five margins, in time units.
-#[derive(Drop)]
+#[derive(Clone, Copy)]
 pub struct QuietMargins {
     pub m1: i64,
     pub m2: i64,
@@ -35,7 +37,7 @@ pub struct QuietMargins {
 }
 
 // What the judge answers.
-#[derive(Drop)]
+#[derive(Clone, Copy)]
 pub enum Judged {
     // Accepted: the three margins are zero or more.
     Yes(Margins),
@@ -45,7 +47,7 @@ pub enum Judged {
 }
 
 // What the quiet judge answers.
-#[derive(Drop)]
+#[derive(Clone, Copy)]
 pub enum QuietJudged {
     // Accepted: all five margins are zero or more.
     Yes(QuietMargins),

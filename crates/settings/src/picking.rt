@@ -13,7 +13,7 @@ use measure::{
 };
 
 // What picking answers.
-#[derive(Drop)]
+#[derive(Clone, Copy)]
 pub enum Picked {
     // The best sampling count.
     K(ReadCycles),

@@ -15,14 +15,14 @@ const BOARDS_MOST: usize = 4096;
 const MARGIN_MOST: i64 = 9223372036854775807;
 
 // A margin in time units, and the first board that has it, counted from 0.
-#[derive(Drop)]
+#[derive(Clone, Copy)]
 pub struct Smallest {
     pub margin: i64,
     pub place: usize,
 }
 
 // What is told of a region: how many boards are accepted, and the smallest of each margin.
-#[derive(Drop)]
+#[derive(Clone, Copy)]
 pub struct Figures {
     pub accepted: usize,
     pub m1: Smallest,
@@ -31,7 +31,7 @@ pub struct Figures {
 }
 
 // What the survey answers.
-#[derive(Drop)]
+#[derive(Clone, Copy)]
 pub enum Surveyed {
     // There is no board, so there is no smallest margin.
     NoBoards,

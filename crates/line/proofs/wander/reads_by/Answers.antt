@@ -1,0 +1,39 @@
+-- `reads_by` meets its contract: each turn adds a read's length, and the first read that ends too late is found, or
+-- there is none.
+use Rattle.std.proofs.Common.{add-one, arith}
+use Rattle.line.specs.Running.{clock_of}
+use Rattle.line.proofs.WanderClocks.{clock_first, next_time, next_most, end_one}
+use Rattle.line.proofs.wander.reads_by.Goals as goal
+
+pub loop-j-init : goal.loop-j-init
+loop-j-init c = (omega arith, clock_first 1 _ _, λ k h. absurd (omega arith))
+
+pub overflow_add-t : goal.overflow_add-t
+overflow_add-t c =
+    omega (
+      arith,
+      c.requires.1,
+      next_most c.requires.0 c.args.p.0 c.loop-j.j c.loop-j.t c.loop-j-test.true c.loop-j.invariant.1,
+    )
+
+pub returns-then-until-t : goal.returns-then-until-t
+returns-then-until-t c =
+    record {
+      within = c.loop-j.invariant.0;
+      ends = c.loop-j.invariant.2;
+      late = λ h.
+          rw (
+            ← add-one c.loop-j.j,
+            next_time c.requires.0 c.args.p.0 c.loop-j.j c.loop-j.t h c.loop-j.invariant.1,
+          )
+          c.if-until-t.true;
+    }
+
+pub loop-j-preserved : goal.loop-j-preserved
+loop-j-preserved c =
+    let next =
+    next_time c.requires.0 c.args.p.0 c.loop-j.j c.loop-j.t c.loop-j-test.true c.loop-j.invariant.1 in (
+      omega arith,
+      next,
+      end_one (clock_of 1 c.args.p.0 c.args.reads.now) _ _ _ c.loop-j.invariant.2 next c.if-until-t.false,
+    )

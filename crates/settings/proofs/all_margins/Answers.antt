@@ -1,0 +1,62 @@
+-- `all_margins` meets its contract: it puts the five margins into one value.
+use native.Mathlib.Omega.{arith}
+use Rattle.settings.specs.Margins.{ends}
+use Rattle.settings.proofs.BothEnds.{quiet_in_range_lem}
+use Rattle.settings.proofs.Signs.{read_back}
+use Rattle.settings.proofs.all_margins.Goals as goal
+
+pub margin1-requires : goal.margin1-requires
+margin1-requires c =
+    let args = c.args in
+    omega (
+      arith,
+      quiet_in_range_lem args.a.0 args.b.0 args.g.0 args.k.0 (ends args.w1.0 args.w2.0 args.r1.0 args.r2.0) args.q.0 args.p1.0 c.requires,
+    )
+
+pub margin2-requires : goal.margin2-requires
+margin2-requires c =
+    let args = c.args in
+    omega (
+      arith,
+      quiet_in_range_lem args.a.0 args.b.0 args.g.0 args.k.0 (ends args.w1.0 args.w2.0 args.r1.0 args.r2.0) args.q.0 args.p1.0 c.requires,
+    )
+
+pub margin3-requires : goal.margin3-requires
+margin3-requires c =
+    let args = c.args in
+    omega (
+      arith,
+      quiet_in_range_lem args.a.0 args.b.0 args.g.0 args.k.0 (ends args.w1.0 args.w2.0 args.r1.0 args.r2.0) args.q.0 args.p1.0 c.requires,
+    )
+
+pub margin4-requires : goal.margin4-requires
+margin4-requires c =
+    let args = c.args in
+    omega (
+      arith,
+      quiet_in_range_lem args.a.0 args.b.0 args.g.0 args.k.0 (ends args.w1.0 args.w2.0 args.r1.0 args.r2.0) args.q.0 args.p1.0 c.requires,
+    )
+
+pub margin5-requires : goal.margin5-requires
+margin5-requires c =
+    let args = c.args in
+    omega (
+      arith,
+      quiet_in_range_lem args.a.0 args.b.0 args.g.0 args.k.0 (ends args.w1.0 args.w2.0 args.r1.0 args.r2.0) args.q.0 args.p1.0 c.requires,
+    )
+
+pub returns : goal.returns
+returns c =
+    let args = c.args in
+    rw (
+      read_back c.margin1.result c.margin1.type_inv,
+      c.margin1.ensures args.w2.0 args.r1.0,
+      read_back c.margin2.result c.margin2.type_inv,
+      c.margin2.ensures args.w1.0 args.r2.0,
+      read_back c.margin3.result c.margin3.type_inv,
+      c.margin3.ensures args.w2.0 args.r1.0,
+      read_back c.margin4.result c.margin4.type_inv,
+      c.margin4.ensures args.w1.0 args.r2.0,
+      read_back c.margin5.result c.margin5.type_inv,
+      c.margin5.ensures args.w2.0 args.r1.0,
+    )
