@@ -8,7 +8,7 @@ ghost use Rattle.capture.specs.Held.{advanced, begun_reader, place_after};
 use crate::Number;
 use crate::reading::number_at;
 
-#[derive(Drop)]
+#[derive(Clone, Copy)]
 pub struct CaptureReader<'a> {
     src: &'a [u8],
     at: usize,

@@ -16,7 +16,7 @@ pub use writing::write_capture;
 const TOP_BIT: usize = 128;
 
 // What stands at a place of a capture.
-#[derive(Drop)]
+#[derive(Clone, Copy)]
 pub enum Number {
     // A number's value, and the place after its last byte.
     Is(usize, usize),
@@ -24,7 +24,7 @@ pub enum Number {
 }
 
 // The first four numbers of a capture, the place of the level, and the place of the first run.
-#[derive(Drop)]
+#[derive(Clone, Copy)]
 pub struct Header {
     pub k: ReadCycles,
     pub n: usize,
@@ -35,14 +35,14 @@ pub struct Header {
 }
 
 // What reading the header answers.
-#[derive(Drop)]
+#[derive(Clone, Copy)]
 pub enum Head {
     Found(Header),
     Refused(Refusal),
 }
 
 // What a whole capture says of itself: its settings, and how many reads and runs it has.
-#[derive(Drop)]
+#[derive(Clone, Copy)]
 pub struct Summary {
     pub k: ReadCycles,
     pub n: usize,
@@ -52,14 +52,14 @@ pub struct Summary {
 }
 
 // What checking a capture answers, and reading one.
-#[derive(Drop)]
+#[derive(Clone, Copy)]
 pub enum Checked {
     Capture(Summary),
     Refused(Refusal),
 }
 
 // What writing a capture answers.
-#[derive(Drop)]
+#[derive(Clone, Copy)]
 pub enum Written {
     // The capture stands at the front of the lent output and has so many bytes.
     Bytes(usize),
@@ -68,7 +68,7 @@ pub enum Written {
 
 // What stands at the front of bytes, whatever their place: a number and how many bytes it has; a number that is cut off
 // by the end; or no number, for a long form or too many bytes.
-#[derive(Drop)]
+#[derive(Clone, Copy)]
 enum Front {
     Value(usize, usize),
     Cut,

@@ -283,8 +283,6 @@ pub fn read_capture(bytes: &[u8], out: &mut [u8]) -> Checked
     let Head::Found(h) = head else {
         return Checked::Refused(head_refusal(head));
     };
-    let after = h.after;
-    let first = h.level;
     let found = check_runs(bytes, h);
     let Checked::Capture(s) = found else {
         return found;
@@ -293,7 +291,9 @@ pub fn read_capture(bytes: &[u8], out: &mut [u8]) -> Checked
     if out.len() < reads {
         return Checked::Refused(Refusal::Room);
     }
+    let after = h.after;
+    let first = h.level;
     let level = first as u8;
     unroll_into(bytes, after, level, out);
-    Checked::Capture(s)
+    found
 }

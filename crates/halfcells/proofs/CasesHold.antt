@@ -8,5 +8,6 @@ use Rattle.halfcells.specs.Answers.{encoded, decoded}
 use Rattle.halfcells.specs.Cases.{cases}
 
 pub cases_hold : Agree cases
-unfolding encoded decoded cells bits_of from_bits high_word words_from half_cells no_edge_from cell_bits byte_of bytes_of
+unfolding encoded decoded cells bits_of from_bits high_word words_from half_cells no_edge_from cell_bits byte_of
+    bytes_of
 cases_hold = (refl, (refl, (refl, (refl, (refl, (refl, tt))))))

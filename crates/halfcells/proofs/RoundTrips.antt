@@ -34,7 +34,8 @@ unfolding encoded
 encode_whole bytes room few h =
     rw (le-ltb words_most (length bytes) few, length_words 1 bytes, le-ltb (length room) (length bytes) h)
 
-decode_whole : (words room : List ℕ) → length words ≤ words_most → some_no_edge words ≡ false → length words ≤ length room
+decode_whole : (words room : List ℕ) → length words ≤ words_most → some_no_edge words ≡ false
+    → length words ≤ length room
     → decoded words room ≡ (given (length words), onto (bytes_of words) room)
 unfolding decoded
 decode_whole words room few edges h =

@@ -200,7 +200,6 @@ fn look_block(wave: &[u8], looking: Looking, w: TimeUnits, span: TimeUnits, t: T
     ensures { Onward w.0 t.0 wave.now looking result }
 {
     let until = t.0;
-    let cycle = w.0;
     let begun = looking.end.0;
     let most = span.0;
     let block = begun + most;
@@ -210,7 +209,7 @@ fn look_block(wave: &[u8], looking: Looking, w: TimeUnits, span: TimeUnits, t: T
     }
     let mut at = looking;
     while at.end.0 < stop {
-        at = look_on(wave, at, TimeUnits(cycle));
+        at = look_on(wave, at, w);
     }
     at
 }
@@ -223,20 +222,12 @@ fn reconcile(wave: &[u8], looking: Looking, w: TimeUnits, span: TimeUnits, t: Ti
         (left_from w.0 t.0 wave.now looking.next.0) result }
 {
     let until = t.0;
-    let cycle = w.0;
-    let block = span.0;
     let at = look_block(wave, looking, w, span, t);
     let over = at.end.0;
     if over < until {
-        return reconcile(
-            wave,
-            at,
-            TimeUnits(cycle),
-            TimeUnits(block),
-            TimeUnits(until),
-        );
+        return reconcile(wave, at, w, span, t);
     }
-    leave(at, TimeUnits(cycle), TimeUnits(until))
+    leave(at, w, t)
 }
 
 // One read, which ends at `t`: it looks at the cycles left over, one after another, of which the first ends at `end`. A
@@ -257,8 +248,6 @@ fn one_read(
         (left_from w.0 t.0 wave.now first.0) result }
 {
     let until = t.0;
-    let cycle = w.0;
-    let block = span.0;
     let over = end.0;
     let i = first.0;
     let level = wave[i];
@@ -272,42 +261,30 @@ fn one_read(
         return keep_last(one);
     }
     if until == over {
-        return drop_last(one, TimeUnits(cycle));
+        return drop_last(one, w);
     }
-    let two = look_on(wave, one, TimeUnits(cycle));
+    let two = look_on(wave, one, w);
     let over_two = two.end.0;
     if until < over_two {
         return keep_last(two);
     }
     if until == over_two {
-        return drop_last(two, TimeUnits(cycle));
+        return drop_last(two, w);
     }
-    let three = look_on(wave, two, TimeUnits(cycle));
+    let three = look_on(wave, two, w);
     let over_three = three.end.0;
     if until < over_three {
         return keep_last(three);
     }
     if until == over_three {
-        return drop_last(three, TimeUnits(cycle));
+        return drop_last(three, w);
     }
-    let at = look_block(
-        wave,
-        three,
-        TimeUnits(cycle),
-        TimeUnits(block),
-        TimeUnits(until),
-    );
+    let at = look_block(wave, three, w, span, t);
     let over_block = at.end.0;
     if over_block < until {
-        return reconcile(
-            wave,
-            at,
-            TimeUnits(cycle),
-            TimeUnits(block),
-            TimeUnits(until),
-        );
+        return reconcile(wave, at, w, span, t);
     }
-    leave(at, TimeUnits(cycle), TimeUnits(until))
+    leave(at, w, t)
 }
 
 // Writes the reads one after another. The end of the current read and that of the first cycle left are carried along:
@@ -321,20 +298,14 @@ fn warp_into(wave: &[u8], w: TimeUnits, r: TimeUnits, p: TimeUnits, n: ReadCycle
     let read = r.0;
     let cycle = w.0;
     let block = BLOCK * cycle;
+    let span = TimeUnits(block);
     let mut t = p.0;
     let mut first = WriterCycles(0);
-    let mut end = TimeUnits(cycle);
+    let mut end = w;
     let mut j = 0;
     while j < all {
         t += read;
-        let looked = one_read(
-            wave,
-            first,
-            end,
-            TimeUnits(cycle),
-            TimeUnits(block),
-            TimeUnits(t),
-        );
+        let looked = one_read(wave, first, end, w, span, TimeUnits(t));
         out[j] = looked.level;
         first = looked.left;
         end = looked.end;
@@ -351,21 +322,13 @@ pub fn warp(wave: &[u8], w: TimeUnits, r: TimeUnits, p: TimeUnits, out: &mut [u8
     ensures { warped w.0 r.0 p.0 wave.now out.old
         ≡ (read_says result, out.new) }
 {
-    let cycle = w.0;
-    let read = r.0;
-    let phase = p.0;
     if !timed(w, r, p) {
         return Read::Refused(Refusal::Setting(0));
     }
     if ENTRIES_MOST < wave.len() {
         return Read::Refused(Refusal::Limit);
     }
-    let n = count(
-        WriterCycles(wave.len()),
-        TimeUnits(cycle),
-        TimeUnits(read),
-        TimeUnits(phase),
-    );
+    let n = count(WriterCycles(wave.len()), w, r, p);
     if ENTRIES_MOST < n.0 {
         return Read::Refused(Refusal::Limit);
     }
@@ -373,19 +336,11 @@ pub fn warp(wave: &[u8], w: TimeUnits, r: TimeUnits, p: TimeUnits, out: &mut [u8
     if bad < wave.len() {
         return Read::Refused(Refusal::Entry(bad));
     }
-    let reads = n.0;
-    if out.len() < reads {
+    if out.len() < n.0 {
         return Read::Refused(Refusal::Room);
     }
-    warp_into(
-        wave,
-        TimeUnits(cycle),
-        TimeUnits(read),
-        TimeUnits(phase),
-        n,
-        out,
-    );
-    Read::Reads(ReadCycles(reads))
+    warp_into(wave, w, r, p, n, out);
+    Read::Reads(n)
 }
 
 // The choice after those used, or low where there is none.

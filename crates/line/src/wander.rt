@@ -214,14 +214,10 @@ fn lengths_fit(
     ensures { lengths_fit w1.0 w2.0 r1.0 r2.0 p.0 cycles.now reads.now
         ≡ result }
 {
-    let least_cycle = w1.0;
-    let most_cycle = w2.0;
-    let least_read = r1.0;
-    let most_read = r2.0;
     bounds_fit(w1, w2)
         & bounds_fit(r1, r2)
-        & all_between(cycles, TimeUnits(least_cycle), TimeUnits(most_cycle))
-        & all_between(reads, TimeUnits(least_read), TimeUnits(most_read))
+        & all_between(cycles, w1, w2)
+        & all_between(reads, r1, r2)
         & phase_fits(p, cycles)
 }
 
@@ -247,7 +243,6 @@ pub fn warp_by_lengths(
     ensures { warped_by_lengths w1.0 w2.0 r1.0 r2.0 p.0 cycles.now reads.now
         wave.now out.old ≡ (read_says result, out.new) }
 {
-    let phase = p.0;
     if !lengths_fit(w1, w2, r1, r2, p, cycles, reads) {
         return Read::Refused(Refusal::Setting(0));
     }
@@ -265,8 +260,7 @@ pub fn warp_by_lengths(
         return Read::Refused(Refusal::Entry(bad));
     }
     let all = cycles_with_both(wave, cycles);
-    let end = all.0;
-    let n = count_by_lengths(all, cycles, reads, TimeUnits(phase));
+    let n = count_by_lengths(all, cycles, reads, p);
     let room = n.0;
     if out.len() < room {
         return Read::Refused(Refusal::Room);
@@ -274,7 +268,8 @@ pub fn warp_by_lengths(
     if room == 0 {
         return Read::Reads(n);
     }
+    let end = all.0;
     let levels = &wave[..end];
-    warp_along(levels, cycles, reads, TimeUnits(phase), n, out);
-    Read::Reads(ReadCycles(room))
+    warp_along(levels, cycles, reads, p, n, out);
+    Read::Reads(n)
 }

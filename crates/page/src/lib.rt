@@ -1,4 +1,6 @@
 // The rows program's lines, put on the front of a lent buffer one at a time.
+#![tactic(auto)]
+
 ghost use Rattle.std.specs.Prelude.{◌≡◌, ◌+◌, ◌/◌, ◌≤◌, ◌<◌, length, take, get_or};
 ghost use Rattle.measure.specs.Refusals.{number_of, place_of, lent};
 ghost use Rattle.board.specs.Rows.{row, broken};

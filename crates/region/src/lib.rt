@@ -68,6 +68,7 @@ fn put_line(out: &mut [u8], at: usize, name: &[u8], m: Smallest) -> usize
 }
 
 // Puts the lines of a region with no boards.
+#[tactic(auto, using(crate::proofs::NoBoards::none_short))]
 fn put_none(out: &mut [u8]) -> Put
     ensures { lent (report_lines none) out.old ≡ (put_says result, out.new) }
 {

@@ -15,7 +15,8 @@ use Rattle.sender.specs.Answers.{message_in_range, fitting, padded, plan_in_rang
 -- each pad of a list that is in range
 pub pads_most : (pads : List ℕ) → padded pads ≡ true → (i : ℕ) → i < length pads → get_or pads i 0 ≤ 65535
 pads_most pads e =
-    above_none pad_most pads (ltb-false (first_above pad_most pads) (length pads) (not-true (some_above pad_most pads) e))
+    above_none pad_most pads
+    (ltb-false (first_above pad_most pads) (length pads) (not-true (some_above pad_most pads) e))
 
 pub record Message (a b p1 : ℕ) : Type 0 where
   pub a_most : a ≤ 255

@@ -29,6 +29,7 @@ fn in_range(leads: &[usize], trails: &[usize]) -> bool
 }
 
 // Gives the first row whose joined lead pad is over the greatest, or the number of rows where there is none.
+#[tactic(auto, using(crate::proofs::Over::over_found))]
 fn first_over(leads: &[usize], trails: &[usize]) -> usize
     requires { (length trails.now ≡ length leads.now) × (padded leads.now ≡ true)
         × (padded trails.now ≡ true) }

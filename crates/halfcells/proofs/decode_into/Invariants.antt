@@ -6,7 +6,9 @@ use Rattle.halfcells.specs.HalfCells.{bytes_of}
 use Rattle.halfcells.proofs.decode_into.Given as goal
 
 abbrev pub invariant-loop-i : goal.invariant-loop-i
-invariant-loop-i l = (l.i ≤ length l.words) × Wrote (bytes_of l.words) l.initial.out l.out (bytes_of (drop l.i l.words)) l.i
+invariant-loop-i l =
+    (l.i ≤ length l.words)
+    × Wrote (bytes_of l.words) l.initial.out l.out (bytes_of (drop l.i l.words)) l.i
 
 abbrev pub decreases-loop-i : goal.decreases-loop-i
 decreases-loop-i l = length l.words - l.i

@@ -10,7 +10,8 @@ returns-then-bytes-gt-WORDS_MOST c = simp (lt-ltb _ _ c.if-bytes-gt-WORDS_MOST.t
 
 pub returns-then-out-bytes : goal.returns-then-out-bytes
 unfolding encoded
-returns-then-out-bytes c = simp (le-ltb _ _ c.if-bytes-gt-WORDS_MOST.false, length_words, lt-ltb _ _ c.if-out-bytes.true)
+returns-then-out-bytes c =
+    simp (le-ltb _ _ c.if-bytes-gt-WORDS_MOST.false, length_words, lt-ltb _ _ c.if-out-bytes.true)
 
 pub returns : goal.returns
 unfolding encoded

@@ -39,15 +39,15 @@ returns-then-bad-wave c =
       lt-ltb _ _ c.if-bad-wave.true,
     )
 
-pub returns-then-out-reads : goal.returns-then-out-reads
-returns-then-out-reads c =
+pub returns-then-out-n : goal.returns-then-out-n
+returns-then-out-n c =
     let fits = c.timed.ensures ∙ c.if-not-timed.false in
     judged c.args.w.0 c.args.r.0 c.args.p.0 c.args.wave.now c.args.out.now _ _ fits
     c.if-wave-gt-ENTRIES_MOST.false c.count-n.ensures c.if-n-gt-ENTRIES_MOST.false c.first_above-bad.ensures
     c.if-bad-wave.false
     ∙ simp (
       timed_count c.args.w.0 c.args.r.0 c.args.p.0 c.args.wave.now fits ∙ c.count-n.ensures,
-      lt-ltb _ _ c.if-out-reads.true,
+      lt-ltb _ _ c.if-out-n.true,
     )
 
 pub returns : goal.returns
@@ -59,5 +59,5 @@ returns c =
     ∙ simp (
       ← c.warp_into.ensures,
       timed_count c.args.w.0 c.args.r.0 c.args.p.0 c.args.wave.now fits ∙ c.count-n.ensures,
-      le-ltb _ _ c.if-out-reads.false,
+      le-ltb _ _ c.if-out-n.false,
     )

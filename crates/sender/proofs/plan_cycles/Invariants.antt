@@ -7,7 +7,8 @@ use Rattle.sender.proofs.plan_cycles.Given as goal
 
 abbrev pub invariant-loop-i : goal.invariant-loop-i
 invariant-loop-i l =
-    (l.i ≤ length l.leads) × (l.cycles ≤ l.i * 587775) × (l.cycles + total (drop l.i l.leads) ≡ l.i * l.row + total l.leads)
+    (l.i ≤ length l.leads) × (l.cycles ≤ l.i * 587775)
+    × (l.cycles + total (drop l.i l.leads) ≡ l.i * l.row + total l.leads)
 
 abbrev pub decreases-loop-i : goal.decreases-loop-i
 decreases-loop-i l = length l.leads - l.i

@@ -18,7 +18,7 @@ there : (i start n : ℕ) (leads bits : List ℕ) → length bits ≡ length lea
 there i start n leads bits fit from h = omega (arith, mul-le-mul_right n h)
 
 -- what a turn writes, and what is left after it
-module _ (a b n i start at : ℕ) (leads bits out : List ℕ) (h : i < length leads) (within : start + n ≤ length bits) where
+module _ (a b n i start : ℕ) (leads bits : List ℕ) (h : i < length leads) (within : start + n ≤ length bits) where
   abbrev row : List ℕ
   row = take n (drop start bits)
 
@@ -45,9 +45,10 @@ module _ (a b n i start at : ℕ) (leads bits out : List ℕ) (h : i < length le
   parts : plan_wave a b (rows_of n (drop i leads) (drop start bits)) ≡ this ++ rest
   parts = plan_step a b n leads bits i start h
 
-  room : at + length (plan_wave a b (rows_of n (drop i leads) (drop start bits))) ≤ length out
+  room : (at : ℕ) (out : List ℕ)
+      → at + length (plan_wave a b (rows_of n (drop i leads) (drop start bits))) ≤ length out
       → at + length this + length rest ≤ length out
-  room q = omega (arith, rw (parts, length-append) at q)
+  room at out q = omega (arith, rw (parts, length-append) at q)
 
 pub loop-i-init : goal.loop-i-init
 loop-i-init c = (omega arith, omega arith, refl, omega arith, refl)
@@ -70,12 +71,15 @@ pub wave_into-at-requires : goal.wave_into-at-requires
 wave_into-at-requires c =
     let args = c.args in
     let loop = c.loop-i in
-    let inside = there _ _ args.n args.leads.now args.bits.now c.requires.0 loop.invariant.1 c.loop-i-test.true in
-    rw (row_length args.a args.b args.n loop.i loop.start loop.at args.leads.now args.bits.now loop.out c.loop-i-test.true inside)
+    let leads = args.leads.now in
+    let bits = args.bits.now in
+    let more = c.loop-i-test.true in
+    let inside = there _ _ args.n leads bits c.requires.0 loop.invariant.1 more in
+    rw (row_length args.a args.b args.n loop.i loop.start leads bits more inside)
     (omega (
       arith,
-      room args.a args.b args.n loop.i loop.start loop.at args.leads.now args.bits.now loop.out c.loop-i-test.true inside loop.invariant.3,
-      this_size args.a args.b args.n loop.i loop.start loop.at args.leads.now args.bits.now loop.out c.loop-i-test.true inside,
+      room args.a args.b args.n loop.i loop.start leads bits more inside loop.at loop.out loop.invariant.3,
+      this_size args.a args.b args.n loop.i loop.start leads bits more inside,
     ))
 
 pub loop-i-preserved : goal.loop-i-preserved
@@ -83,14 +87,16 @@ loop-i-preserved c =
     let written = c.wave_into-at in
     let args = c.args in
     let loop = c.loop-i in
+    let leads = args.leads.now in
+    let bits = args.bits.now in
     let more = c.loop-i-test.true in
-    let inside = there _ _ args.n args.leads.now args.bits.now c.requires.0 loop.invariant.1 more in
-    let this = this args.a args.b args.n loop.i loop.start loop.at args.leads.now args.bits.now loop.out more inside in
-    let rest = rest args.a args.b args.n loop.i loop.start loop.at args.leads.now args.bits.now loop.out more inside in
-    let size = this_size args.a args.b args.n loop.i loop.start loop.at args.leads.now args.bits.now loop.out more inside in
-    let left = room args.a args.b args.n loop.i loop.start loop.at args.leads.now args.bits.now loop.out more inside loop.invariant.3 in
-    let same = row_same args.a args.b args.n loop.i loop.start loop.at args.leads.now args.bits.now loop.out more inside in
-    let long = row_length args.a args.b args.n loop.i loop.start loop.at args.leads.now args.bits.now loop.out more inside in
+    let inside = there _ _ args.n leads bits c.requires.0 loop.invariant.1 more in
+    let this = this args.a args.b args.n loop.i loop.start leads bits more inside in
+    let rest = rest args.a args.b args.n loop.i loop.start leads bits more inside in
+    let size = this_size args.a args.b args.n loop.i loop.start leads bits more inside in
+    let left = room args.a args.b args.n loop.i loop.start leads bits more inside loop.at loop.out loop.invariant.3 in
+    let same = row_same args.a args.b args.n loop.i loop.start leads bits more inside in
+    let long = row_length args.a args.b args.n loop.i loop.start leads bits more inside in
     let after : loop.at + length this ≡ written.result = omega (arith, size, rw long at written.ensures.0) in (
       omega arith,
       omega arith,
@@ -98,7 +104,7 @@ loop-i-preserved c =
       omega (arith, left),
       loop.invariant.4
           ∙ ap (λ (l : List ℕ). sets loop.out loop.at l)
-          (parts args.a args.b args.n loop.i loop.start loop.at args.leads.now args.bits.now loop.out more inside)
+          (parts args.a args.b args.n loop.i loop.start leads bits more inside)
           ∙ placed_next loop.out written.new.out loop.at written.result this rest
           (rw same at written.ensures.1) after,
     )

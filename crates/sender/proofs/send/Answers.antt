@@ -55,17 +55,13 @@ overflow_add-cell c =
 
 pub overflow_mul-cycles : goal.overflow_mul-cycles
 overflow_mul-cycles c =
-    omega (
-      arith,
-      most c.args.a.0 c.args.b.0 c.args.p1.0 c.args.bits.now (sym c.in_range.ensures ∙ c.if-not-in_range.false) c.if-bits-gt-BITS_MOST.false,
-    )
+    let accepts = sym c.in_range.ensures ∙ c.if-not-in_range.false in
+    omega (arith, most c.args.a.0 c.args.b.0 c.args.p1.0 c.args.bits.now accepts c.if-bits-gt-BITS_MOST.false)
 
 pub overflow_add-cycles : goal.overflow_add-cycles
 overflow_add-cycles c =
-    omega (
-      arith,
-      most c.args.a.0 c.args.b.0 c.args.p1.0 c.args.bits.now (sym c.in_range.ensures ∙ c.if-not-in_range.false) c.if-bits-gt-BITS_MOST.false,
-    )
+    let accepts = sym c.in_range.ensures ∙ c.if-not-in_range.false in
+    omega (arith, most c.args.a.0 c.args.b.0 c.args.p1.0 c.args.bits.now accepts c.if-bits-gt-BITS_MOST.false)
 
 pub returns-then-out-cycles : goal.returns-then-out-cycles
 unfolding sent_message

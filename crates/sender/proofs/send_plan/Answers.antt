@@ -28,7 +28,8 @@ pub returns-then-total-gt-ENTRIES_MOST : goal.returns-then-total-gt-ENTRIES_MOST
 unfolding sent_plan
 returns-then-total-gt-ENTRIES_MOST c =
     let accepts = sym c.plan_in_range.ensures ∙ c.if-not-plan_in_range.false in
-    let cycles = c.plan_cycles-total.ensures c.args.bits.now (plan_bounded c.args.a.0 c.args.b.0 _ _ _ accepts).bits_fit in
+    let ok = plan_bounded c.args.a.0 c.args.b.0 _ _ _ accepts in
+    let cycles = c.plan_cycles-total.ensures c.args.bits.now ok.bits_fit in
     let plan = plan_wave c.args.a.0 c.args.b.0 (rows_of c.args.n c.args.leads.now c.args.bits.now) in
     simp (
       accepts,
@@ -40,7 +41,8 @@ pub returns-then-place-bits : goal.returns-then-place-bits
 unfolding sent_plan
 returns-then-place-bits c =
     let accepts = sym c.plan_in_range.ensures ∙ c.if-not-plan_in_range.false in
-    let cycles = c.plan_cycles-total.ensures c.args.bits.now (plan_bounded c.args.a.0 c.args.b.0 _ _ _ accepts).bits_fit in
+    let ok = plan_bounded c.args.a.0 c.args.b.0 _ _ _ accepts in
+    let cycles = c.plan_cycles-total.ensures c.args.bits.now ok.bits_fit in
     let plan = plan_wave c.args.a.0 c.args.b.0 (rows_of c.args.n c.args.leads.now c.args.bits.now) in
     simp (
       accepts,
@@ -54,7 +56,8 @@ pub returns-then-out-total : goal.returns-then-out-total
 unfolding sent_plan
 returns-then-out-total c =
     let accepts = sym c.plan_in_range.ensures ∙ c.if-not-plan_in_range.false in
-    let cycles = c.plan_cycles-total.ensures c.args.bits.now (plan_bounded c.args.a.0 c.args.b.0 _ _ _ accepts).bits_fit in
+    let ok = plan_bounded c.args.a.0 c.args.b.0 _ _ _ accepts in
+    let cycles = c.plan_cycles-total.ensures c.args.bits.now ok.bits_fit in
     let plan = plan_wave c.args.a.0 c.args.b.0 (rows_of c.args.n c.args.leads.now c.args.bits.now) in
     simp (
       accepts,
@@ -75,7 +78,8 @@ pub returns : goal.returns
 unfolding sent_plan
 returns c =
     let accepts = sym c.plan_in_range.ensures ∙ c.if-not-plan_in_range.false in
-    let cycles = c.plan_cycles-total.ensures c.args.bits.now (plan_bounded c.args.a.0 c.args.b.0 _ _ _ accepts).bits_fit in
+    let ok = plan_bounded c.args.a.0 c.args.b.0 _ _ _ accepts in
+    let cycles = c.plan_cycles-total.ensures c.args.bits.now ok.bits_fit in
     let plan = plan_wave c.args.a.0 c.args.b.0 (rows_of c.args.n c.args.leads.now c.args.bits.now) in
     simp (
       accepts,

@@ -10,7 +10,8 @@ use Rattle.stored.proofs.join_into.Given as goal
 abbrev pub invariant-loop-i : goal.invariant-loop-i
 invariant-loop-i l =
     (l.i ≤ length l.leads) × (l.before ≤ 65535)
-    × Wrote (joined l.leads l.trails) l.initial.out l.out (joined_leads l.before (drop l.i l.leads) (drop l.i l.trails)) l.i
+    × Wrote (joined l.leads l.trails) l.initial.out l.out
+    (joined_leads l.before (drop l.i l.leads) (drop l.i l.trails)) l.i
     × (dropped l.trails ≡ last_trail l.before (drop l.i l.trails))
 
 abbrev pub decreases-loop-i : goal.decreases-loop-i

@@ -17,7 +17,9 @@ use Rattle.stored.proofs.read_plan.Goals as goal
 fits : (leads trails : List ℕ) → stored_in_range leads trails ≡ true
     → (length trails ≡ length leads) × (padded leads ≡ true) × (padded trails ≡ true)
 fits leads trails accepts =
-    let test = each (leb 1 (length leads)) (eqb (length trails) (length leads) ∷ padded leads ∷ padded trails ∷ []) accepts in
+    let row = leb 1 (length leads) in
+    let same = eqb (length trails) (length leads) in
+    let test = each row (same ∷ padded leads ∷ padded trails ∷ []) accepts in
     (eqb-true (length trails) (length leads) (test 1), test 2, test 3)
 
 rows : (leads trails : List ℕ) → stored_in_range leads trails ≡ true → length (joined leads trails) ≡ length leads
@@ -34,7 +36,12 @@ pub returns-then-row-leads : goal.returns-then-row-leads
 unfolding read_plan
 returns-then-row-leads c =
     let accepts = sym c.in_range.ensures ∙ c.if-not-in_range.false in
-    simp (accepts, rows c.args.leads.now c.args.trails.now accepts, ← c.first_over-row.ensures, lt-ltb _ _ c.if-row-leads.true)
+    simp (
+      accepts,
+      rows c.args.leads.now c.args.trails.now accepts,
+      ← c.first_over-row.ensures,
+      lt-ltb _ _ c.if-row-leads.true,
+    )
 
 pub returns-then-leads-gt-ROWS_MOST : goal.returns-then-leads-gt-ROWS_MOST
 unfolding read_plan
