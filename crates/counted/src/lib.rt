@@ -9,7 +9,7 @@ ghost use Rattle.counted.specs.Answers.{counted_in_range, counted_into, counted_
 use measure::{BITS_MOST, ENTRIES_MOST, HIGH, ReadCycles, Refusal, SAMPLING_LEAST, SAMPLING_MOST};
 
 // What the counted receiver answers.
-#[derive(Drop)]
+#[derive(Clone, Copy)]
 pub enum Received {
     // All n bits were found and stand at the front of the lent output; and the place of the current read.
     Bits(usize, usize),
@@ -73,7 +73,7 @@ fn count_into(k: ReadCycles, n: usize, level: u8, reads: &[u8], out: &mut [u8]) 
         if left <= k.0 {
             return Received::RanOut(i, current);
         }
-        current = sample_after(mark, ReadCycles(k.0));
+        current = sample_after(mark, k);
         held = reads[current];
         out[i] = bit(reads[mark], held);
         i += 1;
@@ -95,7 +95,7 @@ pub fn count_bits(k: ReadCycles, n: usize, level: u8, reads: &[u8], out: &mut [u
     ensures { counted_bits k.0 n level reads.now out.old
         ≡ (counted_says result, out.new) }
 {
-    if !in_range(ReadCycles(k.0), n, level) {
+    if !in_range(k, n, level) {
         return Received::Refused(Refusal::Setting(0));
     }
     if reads.len() > ENTRIES_MOST {
