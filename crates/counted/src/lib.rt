@@ -73,7 +73,7 @@ fn count_into(k: ReadCycles, n: usize, level: u8, reads: &[u8], out: &mut [u8]) 
         if left <= k.0 {
             return Received::RanOut(i, current);
         }
-        current = sample_after(mark, ReadCycles(k.0));
+        current = sample_after(mark, k);
         held = reads[current];
         out[i] = bit(reads[mark], held);
         i += 1;
@@ -95,7 +95,7 @@ pub fn count_bits(k: ReadCycles, n: usize, level: u8, reads: &[u8], out: &mut [u
     ensures { counted_bits k.0 n level reads.now out.old
         ≡ (counted_says result, out.new) }
 {
-    if !in_range(ReadCycles(k.0), n, level) {
+    if !in_range(k, n, level) {
         return Received::Refused(Refusal::Setting(0));
     }
     if reads.len() > ENTRIES_MOST {
