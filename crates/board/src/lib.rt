@@ -32,7 +32,7 @@ pub enum Mode {
 }
 
 // A receiver. An operation takes it whole and gives the next one back.
-#[derive(Drop)]
+#[derive(Clone, Copy)]
 pub struct Receiver {
     // The settings: sampling count, bits of a row, quiet count.
     pub k: ReadCycles,
@@ -52,7 +52,7 @@ pub struct Receiver {
 }
 
 // What a read brings.
-#[derive(Drop)]
+#[derive(Clone, Copy)]
 pub enum Event {
     Nothing,
     // A row is delivered; its bits stand beside the event.
@@ -63,21 +63,21 @@ pub enum Event {
 }
 
 // What starting answers.
-#[derive(Drop)]
+#[derive(Clone, Copy)]
 pub enum Start {
     Fresh,
     Refused(Refusal),
 }
 
 // A receiver with which to start, and the answer.
-#[derive(Drop)]
+#[derive(Clone, Copy)]
 pub struct Started {
     pub receiver: Receiver,
     pub start: Start,
 }
 
 // After one read: the next receiver, its event, and the row's bits where the event is a row (otherwise all 0).
-#[derive(Drop)]
+#[derive(Clone, Copy)]
 pub struct Stepped {
     pub receiver: Receiver,
     pub event: Event,
@@ -85,7 +85,7 @@ pub struct Stepped {
 }
 
 // After reads up to and with the first that brings an event: the same, and how many reads were used.
-#[derive(Drop)]
+#[derive(Clone, Copy)]
 pub struct Listened {
     pub receiver: Receiver,
     pub event: Event,
@@ -94,7 +94,7 @@ pub struct Listened {
 }
 
 // A receiver without its bits, for a caller that lends them where they lie.
-#[derive(Drop)]
+#[derive(Clone, Copy)]
 pub struct Bare {
     pub k: ReadCycles,
     pub n: usize,
@@ -108,7 +108,7 @@ pub struct Bare {
 }
 
 // After reads up to and with the first that brings an event, where the bits and a row's bytes are lent.
-#[derive(Drop)]
+#[derive(Clone, Copy)]
 pub struct Told {
     pub bare: Bare,
     pub event: Event,
@@ -154,9 +154,9 @@ fn after_all(numbers: Numbers, k: usize, n: usize, q: usize) -> Bare
 
 impl Bare {
     // What a read can change beside the bits.
-    fn numbers(&self) -> Numbers
-        ensures { (bits : List ℕ) → keeping (settings_from self.now.k.0 self.now.n self.now.q.0) result bits
-            ≡ whole self.now bits }
+    fn numbers(self) -> Numbers
+        ensures { (bits : List ℕ) → keeping (settings_from self.k.0 self.n self.q.0) result bits
+            ≡ whole self bits }
     {
         let mode = self.mode;
         Numbers {
@@ -293,7 +293,7 @@ impl Receiver {
         ensures { begun k.0 n q.0 ≡ (start_says result.start, result.receiver) }
     {
         let zeros = none();
-        if measure::row_settings_fit(ReadCycles(k.0), n, ReadCycles(q.0)) {
+        if measure::row_settings_fit(k, n, q) {
             let bare = idle(Mode::Hunting, 0, HIGH, HIGH, k.0, n, q.0);
             let receiver = with_bits(bare, zeros);
             return Started {
@@ -332,8 +332,8 @@ impl Receiver {
     pub fn well_formed(self) -> bool
         ensures { result ≡ well_formed self }
     {
-        let bits = self.bits;
         let bare = self.bare();
+        let bits = self.bits;
         bare.well_formed(&bits)
     }
 
@@ -346,8 +346,8 @@ impl Receiver {
     pub fn listen(self, reads: &[u8]) -> Listened
         ensures { listened self reads.now ≡ listened_says result }
     {
-        let mut bits = self.bits;
         let bare = self.bare();
+        let mut bits = self.bits;
         let mut row = none();
         let told = bare.listen(reads, &mut bits, &mut row);
         let next = told.bare;
@@ -367,8 +367,8 @@ impl Receiver {
     pub fn step(self, read: u8) -> Stepped
         ensures { stepped self read ≡ stepped_says result }
     {
-        let mut bits = self.bits;
         let bare = self.bare();
+        let mut bits = self.bits;
         let mut row = none();
         let told = bare.step(read, &mut bits, &mut row);
         let next = told.bare;

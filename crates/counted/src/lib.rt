@@ -9,7 +9,7 @@ ghost use Rattle.counted.specs.Answers.{counted_in_range, counted_into, counted_
 use measure::{BITS_MOST, ENTRIES_MOST, HIGH, ReadCycles, Refusal, SAMPLING_LEAST, SAMPLING_MOST};
 
 // What the counted receiver answers.
-#[derive(Drop)]
+#[derive(Clone, Copy)]
 pub enum Received {
     // All n bits were found and stand at the front of the lent output; and the place of the current read.
     Bits(usize, usize),

@@ -28,7 +28,7 @@ const MARKS: u16 = 0xaaaa;
 const CODES: u16 = 0x5555;
 
 // What encoding answers.
-#[derive(Drop)]
+#[derive(Clone, Copy)]
 pub enum Encoded {
     // The words stand at the front of the lent output, so many of them.
     Words(usize),
@@ -36,7 +36,7 @@ pub enum Encoded {
 }
 
 // What decoding answers.
-#[derive(Drop)]
+#[derive(Clone, Copy)]
 pub enum Decoded {
     // The bytes stand at the front of the lent output, so many of them.
     Bytes(usize),

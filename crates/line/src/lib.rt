@@ -22,7 +22,7 @@ use measure::{
 pub use wander::warp_by_lengths;
 
 // What smooth answers.
-#[derive(Drop)]
+#[derive(Clone, Copy)]
 pub enum Smoothed {
     // The smoothed wave stands at the front of the lent output and has so many cycles.
     Wave(WriterCycles),
@@ -30,7 +30,7 @@ pub enum Smoothed {
 }
 
 // What warp and settle answer.
-#[derive(Drop)]
+#[derive(Clone, Copy)]
 pub enum Read {
     // The reads stand at the front of the lent output, so many of them.
     Reads(ReadCycles),

@@ -24,6 +24,7 @@ fn bounds_fit(least: TimeUnits, most: TimeUnits) -> bool
 }
 
 // Tells whether each length of a list is from the least to the greatest.
+#[tactic(auto, using(crate::proofs::LengthsFit::between_on, crate::proofs::LengthsFit::below_least, crate::proofs::LengthsFit::above_most, crate::proofs::LengthsFit::between_end))]
 fn all_between(lengths: &[usize], least: TimeUnits, most: TimeUnits) -> bool
     ensures { all_between least.0 most.0 lengths.now ≡ result }
 {

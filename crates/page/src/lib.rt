@@ -34,7 +34,7 @@ const FEED: [u8; 1] = *b"\n";
 const ZERO: u8 = b'0';
 
 // What putting a line answers.
-#[derive(Drop)]
+#[derive(Clone, Copy)]
 pub enum Put {
     // The line stands at the front of the lent buffer and has so many bytes.
     Line(usize),

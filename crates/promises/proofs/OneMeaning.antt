@@ -309,6 +309,10 @@ one_meaning = record {
     always = λ κs a. tt;
     once = λ κs a x y left right h h'. leaves written_said (λ l. (tt, (tt, (tt, (tt, (l, tt)))))) h h';
   };
+  reader_new = record { always = λ κs a. tt; once = λ κs a x y left right h h'. (h ∙ sym h', refl) };
+  reader_place = record { always = λ κs a. tt; once = λ κs a x y left right h h'. (h ∙ sym h', refl) };
+  reader_next = record { always = λ κs a. tt; once = λ κs a x y left right h h'. (same number_said h h', refl) };
+  reader_advance = record { always = λ κs a. tt; once = λ κs a x y left right h h'. (h ∙ sym h', refl) };
   log_event_says = record {
     always = λ κs a. tt;
     once = λ κs a x y left right h h'.

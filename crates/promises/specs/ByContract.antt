@@ -24,7 +24,9 @@ use Rattle.board.specs.WellFormed.{well_formed}
 use Rattle.board.specs.Answers.{begun, start_says, stepped, stepped_says, listened, listened_says, in_lent, told_says}
 use Rattle.capture.specs.Capture.{header}
 use Rattle.bay_log.specs.Answers.{logged, logged_says, cleared, cleared_says, listed, listed_says}
-use Rattle.capture.specs.Answers.{head_says, checked, read_back, checked_says, written, written_says}
+use Rattle.capture.specs.Numbers.{number_at}
+use Rattle.capture.specs.Held.{begun_reader, advanced}
+use Rattle.capture.specs.Answers.{number_says, head_says, checked, read_back, checked_says, written, written_says}
 use Rattle.timecode.specs.Answers.{read_times, write_time, read_says as times_says, written_says as word_says}
 use Rattle.text.specs.Decimal.{decimal, signed_decimal}
 use Rattle.text.specs.Putting.{put_at}
@@ -37,20 +39,35 @@ use Rattle.siengulot.specs.Picking.{PickCrosses}
 use Rattle.siengulot.specs.StoredPlans.{joined_over}
 use Rattle.siengulot.specs.Logs.{logged_over, cleared_over, leaving}
 use Rattle.siengulot.specs.Surveys.{surveyed_over}
+use Rattle.measure.specs.contracts as MeasureCalls
 use Rattle.measure.proofs as Measure
+use Rattle.settings.specs.contracts as SettingsCalls
 use Rattle.settings.proofs as Settings
+use Rattle.sender.specs.contracts as SenderCalls
 use Rattle.sender.proofs as Sender
+use Rattle.stored.specs.contracts as StoredCalls
 use Rattle.stored.proofs as Stored
+use Rattle.halfcells.specs.contracts as HalfCellsCalls
 use Rattle.halfcells.proofs as HalfCells
+use Rattle.line.specs.contracts as LineCalls
 use Rattle.line.proofs as Line
+use Rattle.counted.specs.contracts as CountedCalls
 use Rattle.counted.proofs as Counted
+use Rattle.board.specs.contracts as BoardCalls
 use Rattle.board.proofs as Board
+use Rattle.capture.specs.contracts as CaptureCalls
 use Rattle.capture.proofs as Capture
+use Rattle.timecode.specs.contracts as TimecodeCalls
 use Rattle.timecode.proofs as Timecode
+use Rattle.bay_log.specs.contracts as LogCalls
 use Rattle.bay_log.proofs as Log
+use Rattle.text.specs.contracts as TextCalls
 use Rattle.text.proofs as Text
+use Rattle.page.specs.contracts as PageCalls
 use Rattle.page.proofs as Page
+use Rattle.region.specs.contracts as RegionCalls
 use Rattle.region.proofs as Region
+use Rattle.siengulot.specs.contracts as CCalls
 use Rattle.siengulot.proofs as C
 use Rattle.promises.specs.OneMeaning.{Clause}
 
@@ -66,131 +83,144 @@ Says function clause said =
 -- D30
 pub record ByContract : Type 0 where
   -- measure
-  pub number : Says Measure.number.ended Measure.number.Reads.Post
+  pub number : Says MeasureCalls.number.ended Measure.number.Reads.Post
       λ κs (refusal, _) x _.
       x ≡ number_of refusal
-  pub place : Says Measure.place.ended Measure.place.Reads.Post
+  pub place : Says MeasureCalls.place.ended Measure.place.Reads.Post
       λ κs (refusal, _) x _.
       x ≡ place_of refusal
-  pub between : Says Measure.between.ended Measure.between.Reads.Post
+  pub between : Says MeasureCalls.between.ended Measure.between.Reads.Post
       λ κs (least, (most, (n, _))) x _.
       x ≡ is_between least most n
-  pub row_settings_fit_says : Says Measure.row_settings_fit.ended Measure.row_settings_fit.Reads.Post
+  pub row_settings_fit_says : Says MeasureCalls.row_settings_fit.ended Measure.row_settings_fit.Reads.Post
       λ κs (k, (n, (Q, _))) x _.
       x ≡ row_settings_fit k.0 n Q.0
-  pub first_above : Says Measure.first_above.ended Measure.first_above.Reads.Post
+  pub first_above : Says MeasureCalls.first_above.ended Measure.first_above.Reads.Post
       λ κs (entries, (most, _)) x _.
       x ≡ first_above most entries.now
   -- settings
-  pub judge : Says Settings.judge.ended Settings.judge.Reads.Post
+  pub judge : Says SettingsCalls.judge.ended Settings.judge.Reads.Post
       λ κs (a, (b, (g, (k, (w, (r, _)))))) x _.
       judgement a.0 b.0 g.0 k.0 (steady w.0 r.0) ≡ judged_says x
-  pub judge_quiet_says : Says Settings.judge_quiet.ended Settings.judge_quiet.Reads.Post
+  pub judge_quiet_says : Says SettingsCalls.judge_quiet.ended Settings.judge_quiet.Reads.Post
       λ κs (a, (b, (g, (k, (w, (r, (Q, (p1, _)))))))) x _.
       quiet_judgement a.0 b.0 g.0 k.0 (steady w.0 r.0) Q.0 p1.0 ≡ quiet_judged_says x
-  pub pick : Says Settings.pick.ended Settings.pick.Reads.Post
+  pub pick : Says SettingsCalls.pick.ended Settings.pick.Reads.Post
       λ κs (a, (b, (g, (w, (r, _))))) x _.
       Picks a.0 b.0 g.0 (steady w.0 r.0) (picked_says x)
-  pub judge_ends : Says Settings.judge_ends.ended Settings.judge_ends.Reads.Post
+  pub judge_ends : Says SettingsCalls.judge_ends.ended Settings.judge_ends.Reads.Post
       λ κs (a, (b, (g, (k, (w1, (w2, (r1, (r2, _)))))))) x _.
       judgement a.0 b.0 g.0 k.0 (ends w1.0 w2.0 r1.0 r2.0) ≡ judged_says x
-  pub judge_quiet_ends : Says Settings.judge_quiet_ends.ended Settings.judge_quiet_ends.Reads.Post
+  pub judge_quiet_ends : Says SettingsCalls.judge_quiet_ends.ended Settings.judge_quiet_ends.Reads.Post
       λ κs (a, (b, (g, (k, (w1, (w2, (r1, (r2, (Q, (p1, _)))))))))) x _.
       quiet_judgement a.0 b.0 g.0 k.0 (ends w1.0 w2.0 r1.0 r2.0) Q.0 p1.0
       ≡ quiet_judged_says x
-  pub pick_ends : Says Settings.pick_ends.ended Settings.pick_ends.Reads.Post
+  pub pick_ends : Says SettingsCalls.pick_ends.ended Settings.pick_ends.Reads.Post
       λ κs (a, (b, (g, (w1, (w2, (r1, (r2, _))))))) x _.
       Picks a.0 b.0 g.0 (ends w1.0 w2.0 r1.0 r2.0) (picked_says x)
-  pub survey : Says Settings.survey.ended Settings.survey.Reads.Post
+  pub survey : Says SettingsCalls.survey.ended Settings.survey.Reads.Post
       λ κs (a, (b, (g, (k, (w, (r, _)))))) x _.
       surveyed (region a.now b.now g.now k.now w.now r.now) ≡ surveyed_says x
   -- sender
-  pub send : Says Sender.send.ended Sender.send.Reads.Post
+  pub send : Says SenderCalls.send.ended Sender.send.Reads.Post
       λ κs (a, (b, (p1, (bits, (out, _))))) x (_, (_, (_, (_, (out', _))))).
       sent_message a.0 b.0 p1.0 bits.now out.now ≡ (sent_says x, out')
-  pub send_plan_says : Says Sender.send_plan.ended Sender.send_plan.Reads.Post
+  pub send_plan_says : Says SenderCalls.send_plan.ended Sender.send_plan.Reads.Post
       λ κs (a, (b, (n, (leads, (bits, (out, _)))))) x (_, (_, (_, (_, (_, (out', _)))))).
       sent_plan a.0 b.0 n leads.now bits.now out.now ≡ (sent_says x, out')
-  pub pads_in_range : Says Sender.pads_in_range.ended Sender.pads_in_range.Reads.Post
+  pub pads_in_range : Says SenderCalls.pads_in_range.ended Sender.pads_in_range.Reads.Post
       λ κs (pads, _) x _.
       x ≡ padded pads.now
   -- stored
-  pub read_plan_says : Says Stored.read_plan.ended Stored.read_plan.Reads.Post
+  pub read_plan_says : Says StoredCalls.read_plan.ended Stored.read_plan.Reads.Post
       λ κs (leads, (trails, (out, _))) x (_, (_, (out', _))).
       read_plan leads.now trails.now out.now ≡ (joined_says x, out')
   -- halfcells
-  pub encode : Says HalfCells.encode.ended HalfCells.encode.Reads.Post
+  pub encode : Says HalfCellsCalls.encode.ended HalfCells.encode.Reads.Post
       λ κs (bytes, (out, _)) x (_, (out', _)).
       encoded bytes.now out.now ≡ (encoded_says x, out')
-  pub decode : Says HalfCells.decode.ended HalfCells.decode.Reads.Post
+  pub decode : Says HalfCellsCalls.decode.ended HalfCells.decode.Reads.Post
       λ κs (words, (out, _)) x (_, (out', _)).
       decoded words.now out.now ≡ (decoded_says x, out')
   -- line
-  pub smooth : Says Line.smooth.ended Line.smooth.Reads.Post
+  pub smooth : Says LineCalls.smooth.ended Line.smooth.Reads.Post
       λ κs (wave, (g, (out, _))) x (_, (_, (out', _))).
       smoothed g.0 wave.now out.now ≡ (smoothed_says x, out')
-  pub warp : Says Line.warp.ended Line.warp.Reads.Post
+  pub warp : Says LineCalls.warp.ended Line.warp.Reads.Post
       λ κs (wave, (w, (r, (p, (out, _))))) x (_, (_, (_, (_, (out', _))))).
       warped w.0 r.0 p.0 wave.now out.now ≡ (read_says x, out')
-  pub warp_by_lengths_says : Says Line.warp_by_lengths.ended Line.warp_by_lengths.Reads.Post
+  pub warp_by_lengths_says : Says LineCalls.warp_by_lengths.ended Line.warp_by_lengths.Reads.Post
       λ κs (wave, (w1, (w2, (r1, (r2, (p, (cycles, (reads, (out, _))))))))) x
       (_, (_, (_, (_, (_, (_, (_, (_, (out', _))))))))).
       warped_by_lengths w1.0 w2.0 r1.0 r2.0 p.0 cycles.now reads.now wave.now out.now
       ≡ (read_says x, out')
-  pub settle : Says Line.settle.ended Line.settle.Reads.Post
+  pub settle : Says LineCalls.settle.ended Line.settle.Reads.Post
       λ κs (reads, (choices, (out, _))) x (_, (_, (out', _))).
       settled reads.now choices.now out.now ≡ (read_says x, out')
   -- counted
-  pub count_bits : Says Counted.count_bits.ended Counted.count_bits.Reads.Post
+  pub count_bits : Says CountedCalls.count_bits.ended Counted.count_bits.Reads.Post
       λ κs (k, (n, (level, (reads, (out, _))))) x (_, (_, (_, (_, (out', _))))).
       counted_bits k.0 n level reads.now out.now ≡ (counted_says x, out')
   -- timecode
-  pub read_times_says : Says Timecode.read_times.ended Timecode.read_times.Reads.Post
+  pub read_times_says : Says TimecodeCalls.read_times.ended Timecode.read_times.Reads.Post
       λ κs (bits, (out, _)) x (_, (out', _)).
       read_times bits.now out.now ≡ (times_says x, out')
-  pub write_time_says : Says Timecode.write_time.ended Timecode.write_time.Reads.Post
+  pub write_time_says : Says TimecodeCalls.write_time.ended Timecode.write_time.Reads.Post
       λ κs (time, (out, _)) x (_, (out', _)).
       write_time time.hours time.minutes time.seconds time.frames out.now ≡ (word_says x, out')
   -- board
-  pub fresh : Says Board.Receiver.fresh.ended Board.Receiver.fresh.Reads.Post
+  pub fresh : Says BoardCalls.Receiver.fresh.ended Board.Receiver.fresh.Reads.Post
       λ κs (k, (n, (Q, _))) x _.
       begun k.0 n Q.0 ≡ (start_says x.start, x.receiver)
-  pub well_formed_says : Says Board.Receiver.well_formed.ended Board.Receiver.well_formed.Reads.Post
+  pub well_formed_says : Says BoardCalls.Receiver.well_formed.ended Board.Receiver.well_formed.Reads.Post
       λ κs (receiver, _) x _.
       x ≡ well_formed receiver
-  pub step : Says Board.Receiver.step.ended Board.Receiver.step.Reads.Post
+  pub step : Says BoardCalls.Receiver.step.ended Board.Receiver.step.Reads.Post
       λ κs (receiver, (read, _)) x _.
       stepped receiver read ≡ stepped_says x
-  pub listen : Says Board.Receiver.listen.ended Board.Receiver.listen.Reads.Post
+  pub listen : Says BoardCalls.Receiver.listen.ended Board.Receiver.listen.Reads.Post
       λ κs (receiver, (reads, _)) x _.
       listened receiver reads.now ≡ listened_says x
-  pub bare : Says Board.Receiver.bare.ended Board.Receiver.bare.Reads.Post
+  pub bare : Says BoardCalls.Receiver.bare.ended Board.Receiver.bare.Reads.Post
       λ κs (receiver, _) x _.
       whole x receiver.bits ≡ receiver
-  pub well_formed_lent_says : Says Board.Bare.well_formed.ended Board.Bare.well_formed.Reads.Post
+  pub well_formed_lent_says : Says BoardCalls.Bare.well_formed.ended Board.Bare.well_formed.Reads.Post
       λ κs (bare, (bits, _)) x _.
       x ≡ well_formed (whole bare bits.now)
-  pub step_lent : Says Board.Bare.step.ended Board.Bare.step.Reads.Post
+  pub step_lent : Says BoardCalls.Bare.step.ended Board.Bare.step.Reads.Post
       λ κs (bare, (read, (bits, (room, _)))) x (_, (_, (bits', (room', _)))).
       in_lent room.now (listened (whole bare bits.now) (read ∷ [])) ≡ told_says x bits' room'
-  pub listen_lent : Says Board.Bare.listen.ended Board.Bare.listen.Reads.Post
+  pub listen_lent : Says BoardCalls.Bare.listen.ended Board.Bare.listen.Reads.Post
       λ κs (bare, (reads, (bits, (room, _)))) x (_, (_, (bits', (room', _)))).
       in_lent room.now (listened (whole bare bits.now) reads.now) ≡ told_says x bits' room'
   -- capture
-  pub read_header : Says Capture.read_header.ended Capture.read_header.Reads.Post
+  pub read_header : Says CaptureCalls.read_header.ended Capture.read_header.Reads.Post
       λ κs (bytes, _) x _.
       header bytes.now ≡ head_says x
-  pub check : Says Capture.check.ended Capture.check.Reads.Post
+  pub check : Says CaptureCalls.check.ended Capture.check.Reads.Post
       λ κs (bytes, _) x _.
       checked bytes.now ≡ checked_says x
-  pub read_capture_says : Says Capture.read_capture.ended Capture.read_capture.Reads.Post
+  pub read_capture_says : Says CaptureCalls.read_capture.ended Capture.read_capture.Reads.Post
       λ κs (bytes, (out, _)) x (_, (out', _)).
       read_back bytes.now out.now ≡ (checked_says x, out')
-  pub write_capture_says : Says Capture.write_capture.ended Capture.write_capture.Reads.Post
+  pub write_capture_says : Says CaptureCalls.write_capture.ended Capture.write_capture.Reads.Post
       λ κs (k, (n, (Q, (reads, (out, _))))) x (_, (_, (_, (_, (out', _))))).
       written k.0 n Q.0 reads.now out.now ≡ (written_says x, out')
+  -- capture's held reader
+  pub reader_new : Says CaptureCalls.held.new.ended Capture.held.new.Reads.Post
+      λ κs (src, _) x _.
+      x ≡ begun_reader src
+  pub reader_place : Says CaptureCalls.held.place.ended Capture.held.place.Reads.Post
+      λ κs (reader, _) x _.
+      x ≡ reader.at
+  pub reader_next : Says CaptureCalls.held.next.ended Capture.held.next.Reads.Post
+      λ κs (reader, _) x _.
+      number_at reader.src.now reader.at ≡ number_says x
+  pub reader_advance : Says CaptureCalls.held.advance.ended Capture.held.advance.Reads.Post
+      λ κs (reader, _) x _.
+      x ≡ advanced reader
   -- log
-  pub log_event_says : Says Log.log_event.ended Log.log_event.Reads.Post
+  pub log_event_says : Says LogCalls.log_event.ended Log.log_event.Reads.Post
       λ κs (number, (bytes, (count, (mark, (numbers, (bits, (counts, (marks, (free, (broken_count, _)))))))))) x
       (_, (_, (_, (_, (numbers', (bits', (counts', (broken', (free', (broken_count', _)))))))))).
       logged number bytes.now count mark
@@ -213,7 +243,7 @@ pub record ByContract : Type 0 where
           broken_count = broken_count';
         },
       )
-  pub log_clear_says : Says Log.clear.ended Log.clear.Reads.Post
+  pub log_clear_says : Says LogCalls.clear.ended Log.clear.Reads.Post
       λ κs (place, (numbers, (bits, (counts, (marks, (free, (broken_count, _))))))) x
       (_, (numbers', (bits', (counts', (broken', (free', (broken_count', _))))))).
       cleared place
@@ -236,117 +266,117 @@ pub record ByContract : Type 0 where
           broken_count = broken_count';
         },
       )
-  pub log_list_says : Says Log.list.ended Log.list.Reads.Post
+  pub log_list_says : Says LogCalls.list.ended Log.list.Reads.Post
       λ κs (numbers, (free, (places, _))) x (_, (_, (places', _))).
       listed numbers.now free.now places.now ≡ (listed_says x, places')
   -- text
-  pub put_text : Says Text.put_text.ended Text.put_text.Reads.Post
+  pub put_text : Says TextCalls.put_text.ended Text.put_text.Reads.Post
       λ κs (out, (at, (text, _))) x (out', _).
       put_at text.now at out.now ≡ (x, out')
-  pub number_size : Says Text.number_size.ended Text.number_size.Reads.Post
+  pub number_size : Says TextCalls.number_size.ended Text.number_size.Reads.Post
       λ κs (n, _) x _.
       x ≡ length (decimal n)
-  pub put_number : Says Text.put_number.ended Text.put_number.Reads.Post
+  pub put_number : Says TextCalls.put_number.ended Text.put_number.Reads.Post
       λ κs (out, (at, (n, _))) x (out', _).
       put_at (decimal n) at out.now ≡ (x, out')
-  pub signed_size : Says Text.signed_size.ended Text.signed_size.Reads.Post
+  pub signed_size : Says TextCalls.signed_size.ended Text.signed_size.Reads.Post
       λ κs (v, _) x _.
       x ≡ length (signed_decimal v)
-  pub put_signed : Says Text.put_signed.ended Text.put_signed.Reads.Post
+  pub put_signed : Says TextCalls.put_signed.ended Text.put_signed.Reads.Post
       λ κs (out, (at, (v, _))) x (out', _).
       put_at (signed_decimal v) at out.now ≡ (x, out')
   -- page
-  pub put_heading : Says Page.put_heading.ended Page.put_heading.Reads.Post
+  pub put_heading : Says PageCalls.put_heading.ended Page.put_heading.Reads.Post
       λ κs (out, _) x (out', _).
       lent heading_line out.now ≡ (put_says x, out')
-  pub put_row : Says Page.put_row.ended Page.put_row.Reads.Post
+  pub put_row : Says PageCalls.put_row.ended Page.put_row.Reads.Post
       λ κs (place, (n, (bits, (out, _)))) x (_, (_, (_, (out', _)))).
       lent (event_line place.0 (row (take n (unpacked 8 bits.now)))) out.now ≡ (put_says x, out')
-  pub put_broken : Says Page.put_broken.ended Page.put_broken.Reads.Post
+  pub put_broken : Says PageCalls.put_broken.ended Page.put_broken.Reads.Post
       λ κs (place, (found, (out, _))) x (_, (_, (out', _))).
       lent (event_line place.0 (broken found)) out.now ≡ (put_says x, out')
-  pub put_end : Says Page.put_end.ended Page.put_end.Reads.Post
+  pub put_end : Says PageCalls.put_end.ended Page.put_end.Reads.Post
       λ κs (reads, (rows, (out, _))) x (_, (_, (out', _))).
       lent (end_line reads.0 rows) out.now ≡ (put_says x, out')
-  pub put_refused : Says Page.put_refused.ended Page.put_refused.Reads.Post
+  pub put_refused : Says PageCalls.put_refused.ended Page.put_refused.Reads.Post
       λ κs (refusal, (out, _)) x (_, (out', _)).
       lent (refused_line (number_of refusal) (place_of refusal)) out.now ≡ (put_says x, out')
   -- region
-  pub survey_lines_says : Says Region.survey_lines.ended Region.survey_lines.Reads.Post
+  pub survey_lines_says : Says RegionCalls.survey_lines.ended Region.survey_lines.Reads.Post
       λ κs (a, (b, (g, (k, (w, (r, (out, _))))))) x (_, (_, (_, (_, (_, (_, (out', _))))))).
       survey_lines (region a.now b.now g.now k.now w.now r.now) out.now ≡ (lines_say x, out')
   -- the entry points for C
-  pub siengulot_judge : Says C.siengulot_judge.ended C.siengulot_judge.Reads.Post
+  pub siengulot_judge : Says CCalls.siengulot_judge.ended C.siengulot_judge.Reads.Post
       λ κs (a, (b, (g, (k, (w, (r, (margins, (accepted, _)))))))) x
       (_, (_, (_, (_, (_, (_, (margins', (accepted', _)))))))).
       judged_three (judgement a b g k (steady w r)) margins.now ≡ (x, accepted', margins')
-  pub siengulot_judge_quiet : Says C.siengulot_judge_quiet.ended C.siengulot_judge_quiet.Reads.Post
+  pub siengulot_judge_quiet : Says CCalls.siengulot_judge_quiet.ended C.siengulot_judge_quiet.Reads.Post
       λ κs (a, (b, (g, (k, (w, (r, (Q, (p1, (margins, (accepted, _)))))))))) x
       (_, (_, (_, (_, (_, (_, (_, (_, (margins', (accepted', _)))))))))).
       judged_five (quiet_judgement a b g k (steady w r) Q p1) margins.now ≡ (x, accepted', margins')
-  pub siengulot_pick : Says C.siengulot_pick.ended C.siengulot_pick.Reads.Post
+  pub siengulot_pick : Says CCalls.siengulot_pick.ended C.siengulot_pick.Reads.Post
       λ κs (a, (b, (g, (w, (r, (k, _)))))) x (_, (_, (_, (_, (_, (k', _)))))).
       PickCrosses a b g (steady w r) x k'
-  pub siengulot_judge_ends : Says C.siengulot_judge_ends.ended C.siengulot_judge_ends.Reads.Post
+  pub siengulot_judge_ends : Says CCalls.siengulot_judge_ends.ended C.siengulot_judge_ends.Reads.Post
       λ κs (a, (b, (g, (k, (w1, (w2, (r1, (r2, (margins, (accepted, _)))))))))) x
       (_, (_, (_, (_, (_, (_, (_, (_, (margins', (accepted', _)))))))))).
       judged_three (judgement a b g k (ends w1 w2 r1 r2)) margins.now ≡ (x, accepted', margins')
-  pub siengulot_judge_quiet_ends : Says C.siengulot_judge_quiet_ends.ended C.siengulot_judge_quiet_ends.Reads.Post
+  pub siengulot_judge_quiet_ends : Says CCalls.siengulot_judge_quiet_ends.ended C.siengulot_judge_quiet_ends.Reads.Post
       λ κs (a, (b, (g, (k, (w1, (w2, (r1, (r2, (Q, (p1, (margins, (accepted, _)))))))))))) x
       (_, (_, (_, (_, (_, (_, (_, (_, (_, (_, (margins', (accepted', _)))))))))))).
       judged_five (quiet_judgement a b g k (ends w1 w2 r1 r2) Q p1) margins.now ≡ (x, accepted', margins')
-  pub siengulot_pick_ends : Says C.siengulot_pick_ends.ended C.siengulot_pick_ends.Reads.Post
+  pub siengulot_pick_ends : Says CCalls.siengulot_pick_ends.ended C.siengulot_pick_ends.Reads.Post
       λ κs (a, (b, (g, (w1, (w2, (r1, (r2, (k, _)))))))) x (_, (_, (_, (_, (_, (_, (_, (k', _)))))))).
       PickCrosses a b g (ends w1 w2 r1 r2) x k'
-  pub siengulot_send : Says C.siengulot_send.ended C.siengulot_send.Reads.Post
+  pub siengulot_send : Says CCalls.siengulot_send.ended C.siengulot_send.Reads.Post
       λ κs (a, (b, (p1, (bits, (out, (place, (count, _))))))) x (_, (_, (_, (_, (out', (place', (count', _))))))).
       crossing crossed (sent_message a b p1 bits.now out.now)
       ≡ ((x, place', count'), out')
-  pub siengulot_plan : Says C.siengulot_plan.ended C.siengulot_plan.Reads.Post
+  pub siengulot_plan : Says CCalls.siengulot_plan.ended C.siengulot_plan.Reads.Post
       λ κs (a, (b, (n, (leads, (bits, (out, (place, (count, _)))))))) x
       (_, (_, (_, (_, (_, (out', (place', (count', _)))))))).
       crossing crossed (sent_plan a b n leads.now bits.now out.now)
       ≡ ((x, place', count'), out')
-  pub siengulot_read_plan : Says C.siengulot_read_plan.ended C.siengulot_read_plan.Reads.Post
+  pub siengulot_read_plan : Says CCalls.siengulot_read_plan.ended C.siengulot_read_plan.Reads.Post
       λ κs (leads, (trails, (out, (place, (count, (dropped, _)))))) x
       (_, (_, (out', (place', (count', (dropped', _)))))).
       crossing joined_over (read_plan leads.now trails.now out.now)
       ≡ ((x, place', count', dropped'), out')
-  pub siengulot_smooth : Says C.siengulot_smooth.ended C.siengulot_smooth.Reads.Post
+  pub siengulot_smooth : Says CCalls.siengulot_smooth.ended C.siengulot_smooth.Reads.Post
       λ κs (g, (wave, (out, (place, (count, _))))) x (_, (_, (out', (place', (count', _))))).
       crossing crossed (smoothed g wave.now out.now) ≡ ((x, place', count'), out')
-  pub siengulot_warp : Says C.siengulot_warp.ended C.siengulot_warp.Reads.Post
+  pub siengulot_warp : Says CCalls.siengulot_warp.ended C.siengulot_warp.Reads.Post
       λ κs (w, (r, (p, (wave, (out, (place, (count, _))))))) x (_, (_, (_, (_, (out', (place', (count', _))))))).
       crossing crossed (warped w r p wave.now out.now)
       ≡ ((x, place', count'), out')
-  pub siengulot_warp_by_lengths : Says C.siengulot_warp_by_lengths.ended C.siengulot_warp_by_lengths.Reads.Post
+  pub siengulot_warp_by_lengths : Says CCalls.siengulot_warp_by_lengths.ended C.siengulot_warp_by_lengths.Reads.Post
       λ κs (w1, (w2, (r1, (r2, (p, (cycles, (reads, (wave, (out, (place, (count, _))))))))))) x
       (_, (_, (_, (_, (_, (_, (_, (_, (out', (place', (count', _))))))))))).
       crossing crossed (warped_by_lengths w1 w2 r1 r2 p cycles.now reads.now wave.now out.now)
       ≡ ((x, place', count'), out')
-  pub siengulot_settle : Says C.siengulot_settle.ended C.siengulot_settle.Reads.Post
+  pub siengulot_settle : Says CCalls.siengulot_settle.ended C.siengulot_settle.Reads.Post
       λ κs (reads, (choices, (out, (place, (count, _))))) x (_, (_, (out', (place', (count', _))))).
       crossing crossed (settled reads.now choices.now out.now)
       ≡ ((x, place', count'), out')
-  pub siengulot_counted : Says C.siengulot_counted.ended C.siengulot_counted.Reads.Post
+  pub siengulot_counted : Says CCalls.siengulot_counted.ended C.siengulot_counted.Reads.Post
       λ κs (k, (n, (level, (reads, (out, (place, (count, _))))))) x (_, (_, (_, (_, (out', (place', (count', _))))))).
       crossing crossed_bits (counted_bits k n level reads.now out.now)
       ≡ ((x, place', count'), out')
-  pub siengulot_time_read : Says C.siengulot_time_read.ended C.siengulot_time_read.Reads.Post
+  pub siengulot_time_read : Says CCalls.siengulot_time_read.ended C.siengulot_time_read.Reads.Post
       λ κs (bits, (out, (place, (count, _)))) x (_, (out', (place', (count', _)))).
       crossing crossed (read_times bits.now out.now)
       ≡ ((x, place', count'), out')
-  pub siengulot_time_write : Says C.siengulot_time_write.ended C.siengulot_time_write.Reads.Post
+  pub siengulot_time_write : Says CCalls.siengulot_time_write.ended C.siengulot_time_write.Reads.Post
       λ κs (h, (m, (s, (f, (out, (place, (count, _))))))) x (_, (_, (_, (_, (out', (place', (count', _))))))).
       crossing crossed (write_time h m s f out.now)
       ≡ ((x, place', count'), out')
-  pub siengulot_fresh : Says C.siengulot_fresh.ended C.siengulot_fresh.Reads.Post
+  pub siengulot_fresh : Says CCalls.siengulot_fresh.ended C.siengulot_fresh.Reads.Post
       λ κs (k, (n, (Q, (numbers, (bytes, _))))) x (_, (_, (_, (numbers', (bytes', _))))).
       begun_lent (begun k n Q) ≡ (x, numbers', bytes')
-  pub siengulot_well_formed : Says C.siengulot_well_formed.ended C.siengulot_well_formed.Reads.Post
+  pub siengulot_well_formed : Says CCalls.siengulot_well_formed.ended C.siengulot_well_formed.Reads.Post
       λ κs (numbers, (bytes, _)) x _.
       well_formed_lent numbers.now bytes.now ≡ x
-  pub siengulot_step : Says C.siengulot_step.ended C.siengulot_step.Reads.Post
+  pub siengulot_step : Says CCalls.siengulot_step.ended C.siengulot_step.Reads.Post
       λ κs (numbers, (bytes, (read, (room, (event, (found, (place, _))))))) x
       (numbers', (bytes', (_, (room', (event', (found', (place', _))))))).
       stepped_lent (record { numbers = numbers.now; bytes = bytes.now; row = room.now }) read
@@ -354,7 +384,7 @@ pub record ByContract : Type 0 where
         record { number = x; place = place'; event = event'; found = found' },
         record { numbers = numbers'; bytes = bytes'; row = room' },
       )
-  pub siengulot_listen : Says C.siengulot_listen.ended C.siengulot_listen.Reads.Post
+  pub siengulot_listen : Says CCalls.siengulot_listen.ended C.siengulot_listen.Reads.Post
       λ κs (numbers, (bytes, (reads, (room, (event, (found, (used, (place, _)))))))) x
       (numbers', (bytes', (_, (room', (event', (found', (used', (place', _)))))))).
       listened_lent (record { numbers = numbers.now; bytes = bytes.now; row = room.now }) reads.now
@@ -366,24 +396,24 @@ pub record ByContract : Type 0 where
         used',
       )
   pub siengulot_capture_check :
-      Says C.siengulot_capture_check.ended C.siengulot_capture_check.Reads.Post
+      Says CCalls.siengulot_capture_check.ended C.siengulot_capture_check.Reads.Post
       λ κs (bytes, (summary, (place, _))) x (_, (summary', (place', _))).
       summed summary.now (checked bytes.now) ≡ (x, place', summary')
-  pub siengulot_capture_read : Says C.siengulot_capture_read.ended C.siengulot_capture_read.Reads.Post
+  pub siengulot_capture_read : Says CCalls.siengulot_capture_read.ended C.siengulot_capture_read.Reads.Post
       λ κs (bytes, (out, (summary, (place, _)))) x (_, (out', (summary', (place', _)))).
       crossing (summed summary.now) (read_back bytes.now out.now) ≡ ((x, place', summary'), out')
   pub siengulot_capture_write :
-      Says C.siengulot_capture_write.ended C.siengulot_capture_write.Reads.Post
+      Says CCalls.siengulot_capture_write.ended C.siengulot_capture_write.Reads.Post
       λ κs (k, (n, (Q, (reads, (out, (place, (count, _))))))) x (_, (_, (_, (_, (out', (place', (count', _))))))).
       crossing crossed (written k n Q reads.now out.now)
       ≡ ((x, place', count'), out')
-  pub siengulot_encode : Says C.siengulot_encode.ended C.siengulot_encode.Reads.Post
+  pub siengulot_encode : Says CCalls.siengulot_encode.ended C.siengulot_encode.Reads.Post
       λ κs (bytes, (out, (place, (count, _)))) x (_, (out', (place', (count', _)))).
       crossing crossed (encoded bytes.now out.now) ≡ ((x, place', count'), out')
-  pub siengulot_decode : Says C.siengulot_decode.ended C.siengulot_decode.Reads.Post
+  pub siengulot_decode : Says CCalls.siengulot_decode.ended C.siengulot_decode.Reads.Post
       λ κs (words, (out, (place, (count, _)))) x (_, (out', (place', (count', _)))).
       crossing crossed (decoded words.now out.now) ≡ ((x, place', count'), out')
-  pub siengulot_log_event : Says C.siengulot_log_event.ended C.siengulot_log_event.Reads.Post
+  pub siengulot_log_event : Says CCalls.siengulot_log_event.ended C.siengulot_log_event.Reads.Post
       λ κs (number, (bytes, (count, (mark, (numbers, (bits, (counts, (marks, (free, (broken_count, (taken, _))))))))))) x
       (_, (_, (_, (_, (numbers', (bits', (counts', (broken', (free', (broken_count', (taken', _))))))))))).
       leaving logged_over
@@ -407,7 +437,7 @@ pub record ByContract : Type 0 where
           broken_count = broken_count';
         },
       )
-  pub siengulot_log_clear : Says C.siengulot_log_clear.ended C.siengulot_log_clear.Reads.Post
+  pub siengulot_log_clear : Says CCalls.siengulot_log_clear.ended C.siengulot_log_clear.Reads.Post
       λ κs (place, (numbers, (bits, (counts, (marks, (free, (broken_count, _))))))) x
       (_, (numbers', (bits', (counts', (broken', (free', (broken_count', _))))))).
       leaving cleared_over
@@ -431,16 +461,16 @@ pub record ByContract : Type 0 where
           broken_count = broken_count';
         },
       )
-  pub siengulot_log_list : Says C.siengulot_log_list.ended C.siengulot_log_list.Reads.Post
+  pub siengulot_log_list : Says CCalls.siengulot_log_list.ended C.siengulot_log_list.Reads.Post
       λ κs (numbers, (free, (places, (count, _)))) x (_, (_, (places', (count', _)))).
       crossing logged_over (listed numbers.now free.now places.now) ≡ ((x, count'), places')
-  pub siengulot_survey : Says C.siengulot_survey.ended C.siengulot_survey.Reads.Post
+  pub siengulot_survey : Says CCalls.siengulot_survey.ended C.siengulot_survey.Reads.Post
       λ κs (a, (b, (g, (k, (w, (r, (margins, (places, (accepted, (place, (count, _))))))))))) x
       (_, (_, (_, (_, (_, (_, (margins', (places', (accepted', (place', (count', _))))))))))).
       surveyed_over (length a.now) (record { margins = margins.now; places = places.now })
       (surveyed (region a.now b.now g.now k.now w.now r.now))
       ≡ ((x, place', count', accepted'), record { margins = margins'; places = places' })
-  pub siengulot_survey_lines : Says C.siengulot_survey_lines.ended C.siengulot_survey_lines.Reads.Post
+  pub siengulot_survey_lines : Says CCalls.siengulot_survey_lines.ended C.siengulot_survey_lines.Reads.Post
       λ κs (a, (b, (g, (k, (w, (r, (out, (place, (count, _))))))))) x
       (_, (_, (_, (_, (_, (_, (out', (place', (count', _))))))))).
       crossing crossed (survey_lines (region a.now b.now g.now k.now w.now r.now) out.now)

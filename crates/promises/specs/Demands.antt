@@ -1,7 +1,5 @@
 -- The user's demands 1, 2 and 3, in order. Each line speaks of the definition that the operation's own contract cites,
--- as ByContract says of each. ByContract has no line for the held reader, whose contracts have no clause that others
--- can name, so its lines here repeat their equations. That every call ends is not stated: the prover shows it of each
--- function by itself.
+-- as ByContract says of each. That every call ends is not stated: the prover shows it of each function by itself.
 use Rattle.std.specs.Prelude.{ℕ, ◌≡◌, true, false, List, length, take}
 use Rattle.std.specs.Borrow.{Bor}
 use Rattle.measure.specs.Choose.{choose}

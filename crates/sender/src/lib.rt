@@ -14,7 +14,7 @@ use measure::{
 };
 
 // What sending answers.
-#[derive(Drop)]
+#[derive(Clone, Copy)]
 pub enum Sent {
     // The wave stands at the front of the lent output and has so many cycles.
     Wave(WriterCycles),

@@ -27,11 +27,7 @@ fn of_checked(answer: Checked, summary: &mut [usize; 5], place: &mut usize) -> u
 
 // Checks a capture. Gives in `summary` its k, n and Q and its numbers of reads and runs.
 // Refuses with 3 (too many bytes), then with the first of 6, 7 and 8 from the left, at its place: `summary` is left.
-pub fn siengulot_capture_check(
-    bytes: &[u8],
-    summary: &mut [usize; 5],
-    place: &mut usize,
-) -> usize
+pub fn siengulot_capture_check(bytes: &[u8], summary: &mut [usize; 5], place: &mut usize) -> usize
     ensures { summed summary.old (checked bytes.now)
         ≡ (result, place.new, summary.new) }
 {

@@ -1,5 +1,7 @@
 // The way in from C: one entry point for each operation, thin over the proved rooms. Each returns the refusal's number,
 // 0 for none; each says what it leaves in what it was lent. `include/siengulot.h` declares them.
+#![tactic(auto)]
+
 mod answers;
 mod captures;
 mod clock;
@@ -22,9 +24,10 @@ pub use link::{
     siengulot_counted, siengulot_plan, siengulot_send, siengulot_settle, siengulot_smooth,
     siengulot_warp, siengulot_warp_by_lengths,
 };
-pub use logs::{siengulot_log_clear, siengulot_log_event, siengulot_log_list};
+pub use logs::{ALL_BYTES, siengulot_log_clear, siengulot_log_event, siengulot_log_list};
 pub use picking::{siengulot_pick, siengulot_pick_ends};
 pub use plans::siengulot_read_plan;
 pub use receiver::{siengulot_fresh, siengulot_listen, siengulot_step, siengulot_well_formed};
+pub use state::NUMBERS;
 pub use surveys::{siengulot_survey, siengulot_survey_lines};
 pub use words::{siengulot_decode, siengulot_encode};

@@ -8,7 +8,7 @@ use bay_log::{Cleared, Listed, Logged};
 use measure::{RECORD_BYTES, RECORDS};
 
 // The bytes of all records' bits.
-const ALL_BYTES: usize = 8192;
+pub const ALL_BYTES: usize = 8192;
 
 // What logging an event answers.
 fn of_logged(answer: Logged, taken: &mut usize) -> usize

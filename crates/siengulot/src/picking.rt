@@ -26,14 +26,7 @@ fn of_picked(answer: Picked, k: &mut usize) -> usize
 // The picker, for steady clocks. Gives in `k` the sampling count whose least margin among M1, M2 and M3 is the
 // greatest, of equals the smallest. Refuses with 1 a setting out of range, and with 9 settings for which no k from 1 to
 // 511 has three margins of zero or more: then `k` is 0.
-pub fn siengulot_pick(
-    a: usize,
-    b: usize,
-    g: usize,
-    w: usize,
-    r: usize,
-    k: &mut usize,
-) -> usize
+pub fn siengulot_pick(a: usize, b: usize, g: usize, w: usize, r: usize, k: &mut usize) -> usize
     ensures { PickCrosses a b g (steady w r) result k.new }
 {
     let answer = settings::pick(

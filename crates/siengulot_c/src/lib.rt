@@ -23,6 +23,9 @@ ghost use Rattle.std.specs.Prelude.{[], length, ◌∷◌, ◌≡◌};
 ghost use Rattle.stored.specs.Answers.{read_plan};
 ghost use Rattle.timecode.specs.Answers.{read_times, write_time};
 
+use measure::{RECORD_BYTES, RECORDS};
+use siengulot::{ALL_BYTES, NUMBERS};
+
 #[unsafe(no_mangle)]
 pub extern "C" fn siengulot_judge(
     a: usize,

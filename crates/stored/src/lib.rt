@@ -11,7 +11,7 @@ ghost use Rattle.stored.specs.Answers.{stored_in_range, read_plan, joined_says};
 use measure::{PAD_MOST, ROWS_MOST, Refusal, WriterCycles};
 
 // What reading a stored plan answers.
-#[derive(Drop)]
+#[derive(Clone, Copy)]
 pub enum Joined {
     // The lead pads of so many rows stand at the front of the lent output, and so many cycles were dropped.
     Plan(usize, WriterCycles),

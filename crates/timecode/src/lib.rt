@@ -24,7 +24,7 @@ pub struct Time {
 }
 
 // What the reader answers.
-#[derive(Drop)]
+#[derive(Clone, Copy)]
 pub enum Read {
     // So many words were found, and their times stand at the front of the lent output.
     Times(usize),
@@ -35,7 +35,7 @@ pub enum Read {
 }
 
 // What the writer answers.
-#[derive(Drop)]
+#[derive(Clone, Copy)]
 pub enum Written {
     // The bits of a word stand at the front of the lent output.
     Bits(usize),
