@@ -1,6 +1,8 @@
 // The rows program: reads a capture from standard input and prints what the row receiver makes of its reads, a line for
 // each event.
-ghost use Rattle.std.specs.Prelude.{◌≡◌, true, ℕ, ◌+◌, ◌≤◌, ◌<◌, length};
+#![tactic(auto)]
+
+ghost use Rattle.std.specs.Prelude.{◌≡◌, true, ℕ, ◌+◌, ◌≤◌, ◌<◌, IfOk, length};
 ghost use Rattle.measure.specs.Ranges.{entries_most};
 ghost use Rattle.measure.specs.Refusals.{given};
 ghost use Rattle.page.specs.Answers.{put_says};
@@ -8,9 +10,10 @@ ghost use Rattle.rows.specs.Turns.{line_most, walk_of, Ready, turned, Filled};
 
 use board::{Event, Receiver};
 use capture::{Checked, Summary};
-use libc::{STDIN_FILENO, STDOUT_FILENO};
 use measure::{ENTRIES_MOST, INPUT_MOST, ReadCycles, Refusal};
 use page::Put;
+use std::io;
+use std::io::Read;
 
 // No line is longer: twenty digits, a row's word, its 1,024 bits and a line feed.
 const LINE_MOST: usize = 1050;
@@ -148,16 +151,14 @@ fn fill(start: Walk, reads: &[u8], page: &mut [u8]) -> Turned
 }
 
 // Prints a capture's heading and then its lines, page by page. Stops where standard output takes no more.
-fn print_rows(summary: Summary, reads: &[u8])
+fn print_rows(rt: &impl Print, summary: Summary, reads: &[u8]) -> io::Result<()>
     requires { length reads.now ≤ entries_most }
 {
     let started = Receiver::fresh(summary.k, summary.n, summary.q);
     let receiver = started.receiver;
     let mut page = [0u8; PAGE];
     let heading = bytes_of(page::put_heading(&mut page));
-    if !io::write_all(STDOUT_FILENO, &page[..heading]) {
-        return;
-    }
+    rt.write_all(&page[..heading])?;
     let mut walk = Walk {
         receiver: receiver,
         place: ReadCycles(0),
@@ -166,44 +167,56 @@ fn print_rows(summary: Summary, reads: &[u8])
     loop {
         let filled = fill(walk, reads, &mut page);
         let bytes = filled.bytes;
-        if !io::write_all(STDOUT_FILENO, &page[..bytes]) {
-            return;
-        }
+        rt.write_all(&page[..bytes])?;
         if !filled.more {
-            return;
+            return Ok(());
         }
         walk = filled.walk;
     }
 }
 
 // Prints the only line of a bad capture.
-fn print_refused(refusal: Refusal) {
+fn print_refused(rt: &impl Print, refusal: Refusal) -> io::Result<()> {
     let mut line = [0u8; LINE_MOST];
     let bytes = bytes_of(page::put_refused(refusal, &mut line));
-    io::write_all(STDOUT_FILENO, &line[..bytes]);
+    rt.write_all(&line[..bytes])
 }
 
 // Prints what a capture says, or why it is none; its reads go into the lent list.
-fn print(input: &[u8], reads: &mut [u8])
+fn print(rt: &impl Print, input: &[u8], reads: &mut [u8]) -> io::Result<()>
     requires { length reads.old ≤ entries_most }
 {
     if INPUT_MOST < input.len() {
-        print_refused(Refusal::Limit);
-        return;
+        return print_refused(rt, Refusal::Limit);
     }
     let checked = capture::read_capture(input, reads);
     match checked {
         Checked::Capture(summary) => {
             let count = summary.reads.0;
-            print_rows(summary, &reads[..count]);
+            print_rows(rt, summary, &reads[..count])
         }
-        Checked::Refused(refusal) => print_refused(refusal),
+        Checked::Refused(refusal) => print_refused(rt, refusal),
     }
 }
 
-fn main() {
+// Reads until a list is full or the input ends, and gives how many bytes it has read.
+fn read_full<R: Read>(from: &mut R, into: &mut [u8]) -> io::Result<usize>
+    ensures { IfOk result (λ n. n ≤ length into.old) }
+{
+    let mut done = 0;
+    while done < into.len() {
+        let n = from.read(&mut into[done..])?;
+        if n == 0 {
+            break;
+        }
+        done += n;
+    }
+    Ok(done)
+}
+
+fn main(rt: HostRuntime) -> io::Result<()> {
     let mut input = [0u8; INPUT_MOST + 1];
-    let size = io::read_full(STDIN_FILENO, &mut input);
+    let size = read_full(&mut rt.reader(), &mut input)?;
     let mut reads = [0u8; ENTRIES_MOST];
-    print(&input[..size], &mut reads);
+    print(&rt, &input[..size], &mut reads)
 }

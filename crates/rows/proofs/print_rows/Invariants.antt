@@ -1,0 +1,12 @@
+-- `print_rows` is safe and ends: a page has room for every line, and each page but the last leaves fewer reads.
+use Prim.Native.Nat.{◌-◌}
+use mathlib.Core.Path.{◌≡◌}
+use lib.ListN.{length}
+use Rattle.rows.specs.Turns.{walk_of, Ready}
+use Rattle.rows.proofs.print_rows.Given as goal
+
+abbrev pub invariant-loop-walk : goal.invariant-loop-walk
+invariant-loop-walk g l = (length l.page ≡ 16384) × Ready (walk_of l.walk) (length l.reads)
+
+abbrev pub decreases-loop-walk : goal.decreases-loop-walk
+decreases-loop-walk g l = length l.reads - l.walk.place.0
