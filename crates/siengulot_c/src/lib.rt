@@ -504,7 +504,19 @@ pub extern "C" fn siengulot_log_event(
           },
         ) }
 {
-    siengulot::siengulot_log_event(number, row, count, mark, numbers, bits, counts, broken, free, broken_count, taken)
+    siengulot::siengulot_log_event(
+        number,
+        row,
+        count,
+        mark,
+        numbers,
+        bits,
+        counts,
+        broken,
+        free,
+        broken_count,
+        taken,
+    )
 }
 
 #[unsafe(no_mangle)]
