@@ -1,0 +1,14 @@
+-- `main` is safe: its lists are as long as they are lent.
+use Prim.Native.Nat.{ℕ}
+use mathlib.Core.Path.{sym}
+use lib.ListN.{length-replicate}
+use Rattle.line_cases.proofs.main.Goals as goal
+
+pub slice_bounds-start-end-2 : goal.slice_bounds-start-end-2
+slice_bounds-start-end-2 c = sym (length-replicate {A = ℕ} 1048577 0)
+
+pub slice_bounds-start-end-3 : goal.slice_bounds-start-end-3
+slice_bounds-start-end-3 c = sym (length-replicate {A = ℕ} 1048577 0)
+
+pub slice_bounds-start-end-4 : goal.slice_bounds-start-end-4
+slice_bounds-start-end-4 c = sym (length-replicate {A = ℕ} 1048577 0)
