@@ -207,7 +207,7 @@ fn at_place(text: &[u8], place: usize) -> usize {
 }
 
 // The numbers of a case, in their order, and 0 after the last.
-#[derive(Drop)]
+#[derive(Clone, Copy)]
 pub struct Numbers {
     pub n0: usize,
     pub n1: usize,
