@@ -2,7 +2,7 @@
 // each event.
 #![tactic(auto)]
 
-ghost use Rattle.std.specs.Prelude.{◌≡◌, true, ℕ, ◌+◌, ◌≤◌, ◌<◌, IfOk, length};
+ghost use Rattle.std.specs.Prelude.{◌≡◌, true, ℕ, ◌+◌, ◌≤◌, ◌<◌, length};
 ghost use Rattle.measure.specs.Ranges.{entries_most};
 ghost use Rattle.measure.specs.Refusals.{given};
 ghost use Rattle.page.specs.Answers.{put_says};
@@ -13,7 +13,6 @@ use capture::{Checked, Summary};
 use measure::{ENTRIES_MOST, INPUT_MOST, ReadCycles, Refusal};
 use page::Put;
 use std::io;
-use std::io::Read;
 
 // No line is longer: twenty digits, a row's word, its 1,024 bits and a line feed.
 const LINE_MOST: usize = 1050;
@@ -199,24 +198,9 @@ fn print(rt: &impl Print, input: &[u8], reads: &mut [u8]) -> io::Result<()>
     }
 }
 
-// Reads until a list is full or the input ends, and gives how many bytes it has read.
-fn read_full<R: Read>(from: &mut R, into: &mut [u8]) -> io::Result<usize>
-    ensures { IfOk result (λ n. n ≤ length into.old) }
-{
-    let mut done = 0;
-    while done < into.len() {
-        let n = from.read(&mut into[done..])?;
-        if n == 0 {
-            break;
-        }
-        done += n;
-    }
-    Ok(done)
-}
-
 fn main(rt: HostRuntime) -> io::Result<()> {
-    let mut input = [0u8; INPUT_MOST + 1];
-    let size = read_full(&mut rt.reader(), &mut input)?;
+    let mut bytes = [0u8; INPUT_MOST + 1];
+    let size = input::read_full(&mut rt.reader(), &mut bytes)?;
     let mut reads = [0u8; ENTRIES_MOST];
-    print(&rt, &input[..size], &mut reads)
+    print(&rt, &bytes[..size], &mut reads)
 }

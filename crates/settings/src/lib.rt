@@ -176,6 +176,7 @@ fn margin5(g: WriterCycles, w1: TimeUnits, r2: TimeUnits, q: ReadCycles, p1: Wri
 }
 
 // Gives M1, M2 and M3.
+#[tactic(auto, using(crate::proofs::BothEnds::in_range_lem))]
 fn cell_margins(
     a: WriterCycles,
     b: WriterCycles,
@@ -197,6 +198,7 @@ fn cell_margins(
 }
 
 // Gives all five margins.
+#[tactic(auto, using(crate::proofs::BothEnds::quiet_in_range_lem))]
 fn all_margins(
     a: WriterCycles,
     b: WriterCycles,

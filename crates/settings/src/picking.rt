@@ -92,6 +92,7 @@ fn steps_below(gap1: usize, gap3: usize, gain: usize, loss: usize) -> usize
 
 // Gives the last k at which M2 is below M1 and M3, or the last k but one. Up to there M2 is the least of the three, and
 // rises; after the next k the least rises no more. So the best is this k or the next.
+#[tactic(auto, using(crate::proofs::PickRanges::rising))]
 fn turning(
     a: WriterCycles,
     b: WriterCycles,

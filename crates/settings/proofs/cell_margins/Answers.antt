@@ -5,21 +5,6 @@ use Rattle.settings.proofs.BothEnds.{in_range_lem}
 use Rattle.settings.proofs.Signs.{read_back}
 use Rattle.settings.proofs.cell_margins.Goals as goal
 
-pub margin1-requires : goal.margin1-requires
-margin1-requires c =
-    let args = c.args in
-    omega (arith, in_range_lem args.a.0 args.b.0 args.g.0 args.k.0 (ends args.w1.0 args.w2.0 args.r1.0 args.r2.0) c.requires)
-
-pub margin2-requires : goal.margin2-requires
-margin2-requires c =
-    let args = c.args in
-    omega (arith, in_range_lem args.a.0 args.b.0 args.g.0 args.k.0 (ends args.w1.0 args.w2.0 args.r1.0 args.r2.0) c.requires)
-
-pub margin3-requires : goal.margin3-requires
-margin3-requires c =
-    let args = c.args in
-    omega (arith, in_range_lem args.a.0 args.b.0 args.g.0 args.k.0 (ends args.w1.0 args.w2.0 args.r1.0 args.r2.0) c.requires)
-
 pub returns : goal.returns
 returns c =
     let args = c.args in

@@ -82,16 +82,16 @@ breaks s x from e move =
     moved s x from (record { state = ready s.q s.read; event = broken (length (so_far s)) }) e move
     ∙ ap (λ (f : ℕ). (reached (g s) (ready s.q s.read) (broken f), 1)) (found s)
 
-counting-fit : (s : Came) → s.start.mode ≡ Counting
+counting_fit : (s : Came) → s.start.mode ≡ Counting
     → Fitting Counting (g s) (run s) s.start.left s.start.found s.start.level
-counting-fit s m = counting_fits (g s) s.start s.bytes s.keeps m
+counting_fit s m = counting_fits (g s) s.start s.bytes s.keeps m
 
-counting-here : (s : Came) → s.start.mode ≡ Counting
+counting_here : (s : Came) → s.start.mode ≡ Counting
     → here s ≡ counting s.start.left s.start.level (run s) (so_far s)
-counting-here s m = counting_kept (g s) s.start s.bytes s.keeps m
+counting_here s m = counting_kept (g s) s.start s.bytes s.keeps m
 
 room : (s : Came) → s.start.mode ≡ Counting → s.start.found < 1024
-room s m = omega (arith, (counting-fit s m).3, (range s).n_most)
+room s m = omega (arith, (counting_fit s m).3, (range s).n_most)
 
 abbrev bit : Came → ℕ
 bit s = bit_of s.start.level s.read
@@ -99,16 +99,16 @@ bit s = bit_of s.start.level s.read
 abbrev more : Came → List ℕ
 more s = so_far s ++ bit s ∷ []
 
-more-kept : (s : Came) → s.start.mode ≡ Counting
+more_kept : (s : Came) → s.start.mode ≡ Counting
     → kept (more s)
     ≡ set s.bytes (s.start.found / 8) (get_or s.bytes (s.start.found / 8) 0 + bit s * 2 ^ (s.start.found % 8))
-more-kept s m = kept_more (g s) s.start s.bytes s.keeps (bit s) (room s m)
+more_kept s m = kept_more (g s) s.start s.bytes s.keeps (bit s) (room s m)
 
-more-found : (s : Came) → length (more s) ≡ s.start.found + 1
-more-found s = more_length (g s) s.start s.bytes s.keeps (bit s)
+more_found : (s : Came) → length (more s) ≡ s.start.found + 1
+more_found s = more_length (g s) s.start s.bytes s.keeps (bit s)
 
-more-bits : (s : Came) → Binary (more s)
-more-bits s = more_binary (g s) s.start s.bytes s.keeps (bit s) (bit_most s.start.level s.read)
+more_bits : (s : Came) → Binary (more s)
+more_bits s = more_binary (g s) s.start s.bytes s.keeps (bit s) (bit_most s.start.level s.read)
 
 sampled : (s : Came) → s.start.mode ≡ Counting → (then : ℕ) → longer s.start.run s.start.runlevel s.read ≡ then
     → (then ≡ s.q → ⊥) → s.start.left - 1 ≡ 0
@@ -116,18 +116,18 @@ sampled : (s : Came) → s.start.mode ≡ Counting → (then : ℕ) → longer s
     → heard_from x (g s) (here s) 0 (s.read ∷ [])
     ≡ moved_from x (g s) (collected (g s) (run_of then s.read) s.read (more s)) 1 []
 sampled s m then e short last x =
-    moved s x _ _ (counting-here s m)
-    (counting_sample (g s) s.start.level (run s) (so_far s) s.read (counting-fit s m).0
+    moved s x _ _ (counting_here s m)
+    (counting_sample (g s) s.start.level (run s) (so_far s) s.read (counting_fit s m).0
     s.start.left (λ d. short (sym e ∙ d)) last
     ∙ ap (λ (r : ℕ). collected (g s) (run_of r s.read) s.read (more s)) e)
 
-waiting-fit : (s : Came) → s.start.mode ≡ Waiting
+waiting_fit : (s : Came) → s.start.mode ≡ Waiting
     → Fitting Waiting (g s) (run s) s.start.left s.start.found s.start.level
-waiting-fit s m = waiting_fits (g s) s.start s.bytes s.keeps m
+waiting_fit s m = waiting_fits (g s) s.start s.bytes s.keeps m
 
-waiting-here : (s : Came) → s.start.mode ≡ Waiting
+waiting_here : (s : Came) → s.start.mode ≡ Waiting
     → here s ≡ waiting s.start.level (run s) (so_far s)
-waiting-here s m = waiting_kept (g s) s.start s.bytes s.keeps m
+waiting_here s m = waiting_kept (g s) s.start s.bytes s.keeps m
 
 abbrev came : (k n q read : ℕ) (start : Numbers) (bytes : List ℕ) → Keeps (settings_from k n q) start bytes → read ≤ 1
     → Came
@@ -185,19 +185,19 @@ returns-else-read-quiet c = λ x.
 
 pub longer-run-requires-in-Counting : goal.longer-run-requires-in-Counting
 longer-run-requires-in-Counting c =
-    let s = came c.args.k c.args.n c.args.q c.args.read c.args.start c.args.bits.now c.requires.keeps c.requires.read_bound in omega (arith, (range s).q_most, (counting-fit s c.in-Counting.is).0)
+    let s = came c.args.k c.args.n c.args.q c.args.read c.args.start c.args.bits.now c.requires.keeps c.requires.read_bound in omega (arith, (range s).q_most, (counting_fit s c.in-Counting.is).0)
 
 pub returns-then-run-q-2 : goal.returns-then-run-q-2
 returns-then-run-q-2 c = λ x.
     let s = came c.args.k c.args.n c.args.q c.args.read c.args.start c.args.bits.now c.requires.keeps c.requires.read_bound in
     let m = c.in-Counting.is in
-    breaks s x _ (counting-here s m)
-    (next_quiet (g s) _ s.read (counting-fit s m).0 (c.longer-run-in-Counting.ensures ∙ c.if-run-q-2.true))
+    breaks s x _ (counting_here s m)
+    (next_quiet (g s) _ s.read (counting_fit s m).0 (c.longer-run-in-Counting.ensures ∙ c.if-run-q-2.true))
 
 pub overflow_sub-left : goal.overflow_sub-left
 overflow_sub-left c =
     let s = came c.args.k c.args.n c.args.q c.args.read c.args.start c.args.bits.now c.requires.keeps c.requires.read_bound in
-    omega (arith, (counting-fit s c.in-Counting.is).1)
+    omega (arith, (counting_fit s c.in-Counting.is).1)
 
 pub put-requires : goal.put-requires
 put-requires c =
@@ -214,16 +214,16 @@ pub returns-then-more-n : goal.returns-then-more-n
 returns-then-more-n c = λ x.
     let s = came c.args.k c.args.n c.args.q c.args.read c.args.start c.args.bits.now c.requires.keeps c.requires.read_bound in
     sampled s c.in-Counting.is _ c.longer-run-in-Counting.ensures c.if-run-q-2.false c.if-left-eq0.true x
-    ∙ row_full x (g s) _ s.read 1 1 (more s) _ _ (more-bits s) (more-found s ∙ c.if-more-n.true)
-    (range s).n_most (more-kept s c.in-Counting.is ∙ c.put.ensures)
+    ∙ row_full x (g s) _ s.read 1 1 (more s) _ _ (more_bits s) (more_found s ∙ c.if-more-n.true)
+    (range s).n_most (more_kept s c.in-Counting.is ∙ c.put.ensures)
 
 pub returns-then-left-eq0 : goal.returns-then-left-eq0
 returns-then-left-eq0 c = λ x.
     let s = came c.args.k c.args.n c.args.q c.args.read c.args.start c.args.bits.now c.requires.keeps c.requires.read_bound in
     sampled s c.in-Counting.is _ c.longer-run-in-Counting.ensures c.if-run-q-2.false c.if-left-eq0.true x
-    ∙ row_on x (g s) _ s.read 1 (more s) [] (λ e. c.if-more-n.false (sym (more-found s) ∙ e))
+    ∙ row_on x (g s) _ s.read 1 (more s) [] (λ e. c.if-more-n.false (sym (more_found s) ∙ e))
     ∙ ends s x _
-    ∙ rw (more-found s, more-kept s c.in-Counting.is ∙ c.put.ensures)
+    ∙ rw (more_found s, more_kept s c.in-Counting.is ∙ c.put.ensures)
 
 -- waiting
 pub returns-else-left-eq0 : goal.returns-else-left-eq0
@@ -231,8 +231,8 @@ returns-else-left-eq0 c = λ x.
     let s = came c.args.k c.args.n c.args.q c.args.read c.args.start c.args.bits.now c.requires.keeps c.requires.read_bound in
     let m = c.in-Counting.is in
     let e = c.longer-run-in-Counting.ensures in
-    silently s x _ _ (counting-here s m)
-    (counting_on (g s) s.start.level (run s) (so_far s) s.read (counting-fit s m).0
+    silently s x _ _ (counting_here s m)
+    (counting_on (g s) s.start.level (run s) (so_far s) s.read (counting_fit s m).0
     s.start.left (λ d. c.if-run-q-2.false (sym e ∙ d)) c.if-left-eq0.false)
     ∙ rw (e, found s, bytes s)
 
@@ -240,22 +240,22 @@ returns-else-left-eq0 c = λ x.
 
 pub longer-run-requires-in-Waiting : goal.longer-run-requires-in-Waiting
 longer-run-requires-in-Waiting c =
-    let s = came c.args.k c.args.n c.args.q c.args.read c.args.start c.args.bits.now c.requires.keeps c.requires.read_bound in omega (arith, (range s).q_most, (waiting-fit s c.in-Waiting.is).0)
+    let s = came c.args.k c.args.n c.args.q c.args.read c.args.start c.args.bits.now c.requires.keeps c.requires.read_bound in omega (arith, (range s).q_most, (waiting_fit s c.in-Waiting.is).0)
 
 pub returns-then-run-q-3 : goal.returns-then-run-q-3
 returns-then-run-q-3 c = λ x.
     let s = came c.args.k c.args.n c.args.q c.args.read c.args.start c.args.bits.now c.requires.keeps c.requires.read_bound in
     let m = c.in-Waiting.is in
-    breaks s x _ (waiting-here s m)
-    (next_quiet (g s) _ s.read (waiting-fit s m).0 (c.longer-run-in-Waiting.ensures ∙ c.if-run-q-3.true))
+    breaks s x _ (waiting_here s m)
+    (next_quiet (g s) _ s.read (waiting_fit s m).0 (c.longer-run-in-Waiting.ensures ∙ c.if-run-q-3.true))
 
 pub returns-then-read-level : goal.returns-then-read-level
 returns-then-read-level c = λ x.
     let s = came c.args.k c.args.n c.args.q c.args.read c.args.start c.args.bits.now c.requires.keeps c.requires.read_bound in
     let m = c.in-Waiting.is in
     let e = c.longer-run-in-Waiting.ensures in
-    silently s x _ _ (waiting-here s m)
-    (waiting_on (g s) s.start.level (run s) (so_far s) s.read (waiting-fit s m).0
+    silently s x _ _ (waiting_here s m)
+    (waiting_on (g s) s.start.level (run s) (so_far s) s.read (waiting_fit s m).0
     (λ d. c.if-run-q-3.false (sym e ∙ d)) c.if-read-level.true)
     ∙ rw (e, found s, bytes s)
 
@@ -264,7 +264,7 @@ returns-else-read-level c = λ x.
     let s = came c.args.k c.args.n c.args.q c.args.read c.args.start c.args.bits.now c.requires.keeps c.requires.read_bound in
     let m = c.in-Waiting.is in
     let e = c.longer-run-in-Waiting.ensures in
-    silently s x _ _ (waiting-here s m)
-    (waiting_mark (g s) s.start.level (run s) (so_far s) s.read (waiting-fit s m).0
+    silently s x _ _ (waiting_here s m)
+    (waiting_mark (g s) s.start.level (run s) (so_far s) s.read (waiting_fit s m).0
     (λ d. c.if-run-q-3.false (sym e ∙ d)) c.if-read-level.false)
     ∙ rw (e, found s, bytes s)

@@ -8,28 +8,8 @@ use Rattle.settings.proofs.PickRanges.{Rising, rising}
 use Rattle.settings.proofs.BestCount.{turning, best_turning}
 use Rattle.settings.proofs.picking.turning.Goals as goal
 
-pub overflow_add-below_zero : goal.overflow_add-below_zero
-overflow_add-below_zero c =
-    let args = c.args in
-    omega (arith, rising args.a.0 args.b.0 args.g.0 (ends args.w1.0 args.w2.0 args.r1.0 args.r2.0) c.requires.0 c.requires.1)
-
-pub overflow_mul-below_zero : goal.overflow_mul-below_zero
-overflow_mul-below_zero c =
-    let args = c.args in
-    omega (arith, rising args.a.0 args.b.0 args.g.0 (ends args.w1.0 args.w2.0 args.r1.0 args.r2.0) c.requires.0 c.requires.1)
-
 pub overflow_sub-gap1 : goal.overflow_sub-gap1
 overflow_sub-gap1 c =
-    let args = c.args in
-    omega (arith, rising args.a.0 args.b.0 args.g.0 (ends args.w1.0 args.w2.0 args.r1.0 args.r2.0) c.requires.0 c.requires.1)
-
-pub overflow_mul-gap1 : goal.overflow_mul-gap1
-overflow_mul-gap1 c =
-    let args = c.args in
-    omega (arith, rising args.a.0 args.b.0 args.g.0 (ends args.w1.0 args.w2.0 args.r1.0 args.r2.0) c.requires.0 c.requires.1)
-
-pub overflow_mul-gap1-2 : goal.overflow_mul-gap1-2
-overflow_mul-gap1-2 c =
     let args = c.args in
     omega (arith, rising args.a.0 args.b.0 args.g.0 (ends args.w1.0 args.w2.0 args.r1.0 args.r2.0) c.requires.0 c.requires.1)
 
