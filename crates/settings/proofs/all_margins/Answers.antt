@@ -1,7 +1,4 @@
 -- `all_margins` meets its contract: it puts the five margins into one value.
-use native.Mathlib.Omega.{arith}
-use Rattle.settings.specs.Margins.{ends}
-use Rattle.settings.proofs.BothEnds.{quiet_in_range_lem}
 use Rattle.settings.proofs.Signs.{read_back}
 use Rattle.settings.proofs.all_margins.Goals as goal
 

@@ -1,7 +1,4 @@
 -- `cell_margins` meets its contract: it puts the three margins into one value.
-use native.Mathlib.Omega.{arith}
-use Rattle.settings.specs.Margins.{ends}
-use Rattle.settings.proofs.BothEnds.{in_range_lem}
 use Rattle.settings.proofs.Signs.{read_back}
 use Rattle.settings.proofs.cell_margins.Goals as goal
 
