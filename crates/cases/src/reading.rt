@@ -1,5 +1,7 @@
 // Taking a case apart: its operation, its numbers and its lists.
-ghost use Rattle.std.specs.Prelude.{◌≤◌, IfOk, length};
+ghost use Rattle.std.specs.Prelude.{◌≡◌, ◌+◌, ◌-◌, ◌%◌, ◌≤◌, IfOk, length, take, drop, get_or};
+ghost use Rattle.cases.specs.Reading.{found_from, before_first, after_first, begins_a_case, laid, with_room, copied_onto, copied_size};
+ghost use Rattle.cases.specs.Reading.{digit_of, value_on, digits_on, first_digit, times_of, times_size};
 
 use std::io;
 use std::io::Read;
@@ -20,8 +22,10 @@ pub fn whole<R: Read>(from: &mut R, into: &mut [u8]) -> io::Result<usize>
 }
 
 // The first place of a text from this one on that has a sign, and its end where none has.
+#[tactic(auto, using(crate::proofs::Signs::first_here, crate::proofs::Signs::first_later, crate::proofs::Signs::first_none))]
 pub fn find(text: &[u8], from: usize, sign: u8) -> usize
     requires { from ≤ length text.now }
+    ensures found { result ≡ found_from from sign text.now }
     ensures from_there { from ≤ result }
     ensures within { result ≤ length text.now }
 {
@@ -36,7 +40,9 @@ pub fn find(text: &[u8], from: usize, sign: u8) -> usize
 }
 
 // Whether a line is a case.
-pub fn is_case(line: &[u8]) -> bool {
+pub fn is_case(line: &[u8]) -> bool
+    ensures { result ≡ begins_a_case line.now }
+{
     if line.len() < 1 {
         return false;
     }
@@ -44,14 +50,18 @@ pub fn is_case(line: &[u8]) -> bool {
 }
 
 // The text before the first of a sign, or all of it where there is none.
-pub fn until(text: &[u8], sign: u8) -> &[u8] {
+pub fn until(text: &[u8], sign: u8) -> &[u8]
+    ensures { result.now ≡ before_first sign text.now }
+{
     let from = 0;
     let end = find(text, 0, sign);
     &text[from..end]
 }
 
 // The text after the first of a sign, and nothing where there is none.
-pub fn after(text: &[u8], sign: u8) -> &[u8] {
+pub fn after(text: &[u8], sign: u8) -> &[u8]
+    ensures { result.now ≡ after_first sign text.now }
+{
     let at = find(text, 0, sign);
     if at < text.len() {
         let start = at + 1;
@@ -100,7 +110,7 @@ struct Found {
 
 // The digit that a sign is, above 9 where it is none.
 fn digit(sign: u8) -> usize
-    ensures { result ≤ 10 }
+    ensures { result ≡ digit_of sign }
 {
     if sign < b'0' {
         return 10;
@@ -112,7 +122,11 @@ fn digit(sign: u8) -> usize
 }
 
 // The number whose digits begin at a place, 0 where none does. It has eighteen digits at most.
-fn number(text: &[u8], from: usize) -> Found {
+#[tactic(auto, using(crate::proofs::Signs::value_goes_on, crate::proofs::Signs::digits_go_on, crate::proofs::Signs::value_ends, crate::proofs::Signs::digits_end, crate::proofs::Signs::value_long, crate::proofs::Signs::digits_long, crate::proofs::Signs::value_none, crate::proofs::Signs::digits_none))]
+fn number(text: &[u8], from: usize) -> Found
+    ensures value { result.value ≡ value_on 0 (drop from text.now) }
+    ensures next { result.next ≡ from + digits_on 0 (drop from text.now) }
+{
     let mut value: usize = 0;
     let mut at = from;
     while at < text.len() {
@@ -139,7 +153,10 @@ fn number(text: &[u8], from: usize) -> Found {
 }
 
 // The first place from this one on that has a digit; no place of the text where none has.
-fn next_digit(text: &[u8], from: usize) -> usize {
+#[tactic(auto, using(crate::proofs::Signs::digit_here, crate::proofs::Signs::digit_later, crate::proofs::Signs::digit_none))]
+fn next_digit(text: &[u8], from: usize) -> usize
+    ensures { result ≡ from + first_digit (drop from text.now) }
+{
     let mut at = from;
     while at < text.len() {
         if digit(text[at]) < 10 {
@@ -178,7 +195,11 @@ fn entry_at(text: &[u8], from: usize) -> Entry {
 }
 
 // How often an entry stands that ends at this place: as often as an x and a number after it say, or else once.
-fn times(text: &[u8], at: usize) -> Found {
+#[tactic(auto, using(crate::proofs::Signs::times_once, crate::proofs::Signs::times_one, crate::proofs::Signs::times_many))]
+fn times(text: &[u8], at: usize) -> Found
+    ensures value { result.value ≡ times_of (drop at text.now) }
+    ensures next { result.next ≡ at + times_size (drop at text.now) }
+{
     if text.len() <= at {
         return Found { value: 1, next: at };
     }
@@ -243,7 +264,9 @@ pub fn number_list(text: &[u8], list: &mut [usize]) {
 }
 
 // A number as a byte; what is left when it is divided by 256, where it is none.
-pub fn byte(n: usize) -> u8 {
+pub fn byte(n: usize) -> u8
+    ensures { result ≡ n % 256 }
+{
     (n % 256) as u8
 }
 
@@ -251,19 +274,13 @@ pub fn byte(n: usize) -> u8 {
 // out.
 fn put(list: &mut [u8], from: usize, entry: u8, count: usize) -> usize
     requires { from ≤ length list.old }
-    ensures { result ≤ length list.old }
+    ensures written { list.new ≡ laid from entry (with_room from count list.old) list.old }
+    ensures next { result ≡ from + with_room from count list.old }
+    ensures within { result ≤ length list.old }
 {
-    let mut at = from;
-    let mut left = count;
-    while 0 < left {
-        if list.len() <= at {
-            return at;
-        }
-        list[at] = entry;
-        at += 1;
-        left -= 1;
-    }
-    at
+    let end = from + count.min(list.len() - from);
+    list[from..end].fill(entry);
+    end
 }
 
 // Puts the entries that a text names into a list, from a place on, and gives the place after the last.
@@ -310,7 +327,9 @@ pub fn list(text: &[u8], list: &mut [u8]) -> usize
 }
 
 // The first entries of a list, so many, or all of them where there are fewer.
-pub fn front(list: &[u8], size: usize) -> &[u8] {
+pub fn front(list: &[u8], size: usize) -> &[u8]
+    ensures { result.now ≡ take size list.now }
+{
     let from = 0;
     if size < list.len() {
         &list[from..size]
@@ -320,7 +339,9 @@ pub fn front(list: &[u8], size: usize) -> &[u8] {
 }
 
 // The letter that the word at the start of a text begins with, a space where it is none.
-pub fn letter(text: &[u8]) -> u8 {
+pub fn letter(text: &[u8]) -> u8
+    ensures { result ≡ get_or text.now 1 32 }
+{
     if text.len() < 2 {
         return b' ';
     }
@@ -329,7 +350,9 @@ pub fn letter(text: &[u8]) -> u8 {
 
 // Copies so many entries of a list, and gives how many; none where there is no room for them.
 fn copied(list: &[u8], size: usize, to: &mut [u8]) -> usize
-    ensures { result ≤ length to.old }
+    ensures written { to.new ≡ copied_onto size list.now to.old }
+    ensures size { result ≡ copied_size size list.now to.old }
+    ensures within { result ≤ length to.old }
 {
     let from = front(list, size);
     if to.len() < from.len() {
