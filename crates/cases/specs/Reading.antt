@@ -1,7 +1,8 @@
 -- What taking a case apart gives, over the signs of a line.
-use Rattle.std.specs.Prelude.{ℕ, suc, ◌+◌, ◌-◌, ◌*◌, Bool, true, false, List, [], ◌∷◌, ◌++◌, length, take, drop, replicate, min, eqb, ltb}
+use Rattle.std.specs.Prelude.{ℕ, zero, suc, ◌+◌, ◌-◌, ◌*◌, Bool, true, false, List, [], ◌∷◌, ◌++◌, length, take, drop, replicate, min, eqb, ltb}
 use Rattle.measure.specs.Choose.{choose}
 use Rattle.measure.specs.Lists.{onto}
+use Rattle.cases.specs.declared.reading.Numbers.{Numbers}
 
 -- how many signs of a text stand before the first of this one: all of them where there is none
 unfoldable pub first_of : (sign : ℕ) (text : List ℕ) → ℕ
@@ -74,3 +75,56 @@ times_of (first ∷ more) = choose (eqb first 120) (value_on 0 more) 1
 abbrev pub times_size : (text : List ℕ) → ℕ
 times_size [] = 0
 times_size (first ∷ more) = choose (eqb first 120) (suc (digits_on 0 more)) 0
+
+-- a text from its first digit on
+abbrev pub from_digit : (text : List ℕ) → List ℕ
+from_digit text = drop (first_digit text) text
+
+-- what follows the first number of a text
+abbrev pub past_number : (text : List ℕ) → List ℕ
+past_number text = drop (digits_on 0 (from_digit text)) (from_digit text)
+
+-- the number of the first entry of a text, 0 where it has no entry
+unfoldable pub entry_number : (text : List ℕ) → ℕ
+entry_number text = value_on 0 (from_digit text)
+
+-- how often that entry stands there: no time where there is none
+unfoldable pub entry_times : (text : List ℕ) → ℕ
+entry_times text = choose (ltb (first_digit text) (length text)) (times_of (past_number text)) 0
+
+-- how many signs of the text stand before the place after that entry: all of them where there is none
+unfoldable pub entry_size : (text : List ℕ) → ℕ
+entry_size text = first_digit text + digits_on 0 (from_digit text) + times_size (past_number text)
+
+-- the number at a place of the list of numbers that a text is, from so many entries of it at most; 0 past their end
+unfoldable pub number_among : (most place : ℕ) (text : List ℕ) → ℕ
+number_among zero place text = 0
+number_among (suc most) place text =
+    choose (ltb place (entry_times text)) (entry_number text)
+    (number_among most (place - entry_times text) (drop (entry_size text) text))
+
+-- the same from all of it, which has no more entries than signs
+abbrev pub number_at : (place : ℕ) (text : List ℕ) → ℕ
+number_at place text = number_among (length text) place text
+
+-- the numbers of a case stand after its name (up to the : that is sign 58) and before the first | (124)
+abbrev pub number_words : (case : List ℕ) → List ℕ
+number_words case = before_first 124 (after_first 58 case)
+
+-- the numbers of a case, in their order
+abbrev pub numbers_in : (case : List ℕ) → Numbers
+numbers_in case =
+    record {
+      n0 = number_at 0 (number_words case);
+      n1 = number_at 1 (number_words case);
+      n2 = number_at 2 (number_words case);
+      n3 = number_at 3 (number_words case);
+      n4 = number_at 4 (number_words case);
+      n5 = number_at 5 (number_words case);
+      n6 = number_at 6 (number_words case);
+      n7 = number_at 7 (number_words case);
+    }
+
+-- how many entries a case says that its lent output is to have, after a > (62)
+abbrev pub room_of : (case : List ℕ) → ℕ
+room_of case = number_at 0 (after_first 62 case)

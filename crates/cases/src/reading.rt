@@ -1,7 +1,7 @@
 // Taking a case apart: its operation, its numbers and its lists.
-ghost use Rattle.std.specs.Prelude.{◌≡◌, ◌+◌, ◌-◌, ◌%◌, ◌≤◌, IfOk, length, take, drop, get_or};
+ghost use Rattle.std.specs.Prelude.{◌≡◌, ◌+◌, ◌-◌, ◌%◌, ◌≤◌, IfOk, length, take, drop, get_or, slice_index, EachIndex};
 ghost use Rattle.cases.specs.Reading.{found_from, before_first, after_first, begins_a_case, laid, with_room, copied_onto, copied_size};
-ghost use Rattle.cases.specs.Reading.{digit_of, value_on, digits_on, first_digit, times_of, times_size};
+ghost use Rattle.cases.specs.Reading.{digit_of, value_on, digits_on, first_digit, times_of, times_size, entry_number, entry_times, entry_size, number_at, numbers_in, room_of};
 
 use std::io;
 use std::io::Read;
@@ -176,7 +176,12 @@ struct Entry {
 }
 
 // The first entry from a place on; one that stands there no time where there is none.
-fn entry_at(text: &[u8], from: usize) -> Entry {
+#[tactic(auto, using(crate::proofs::Entries::entry_number_at, crate::proofs::Entries::entry_times_at, crate::proofs::Entries::entry_size_at, crate::proofs::Entries::entry_number_none, crate::proofs::Entries::entry_times_none, crate::proofs::Entries::entry_size_none))]
+fn entry_at(text: &[u8], from: usize) -> Entry
+    ensures number { result.number ≡ entry_number (drop from text.now) }
+    ensures times { result.times ≡ entry_times (drop from text.now) }
+    ensures next { result.next ≡ from + entry_size (drop from text.now) }
+{
     let at = next_digit(text, from);
     if text.len() <= at {
         return Entry {
@@ -209,19 +214,19 @@ fn times(text: &[u8], at: usize) -> Found
     number(text, at + 1)
 }
 
-// The number at a place of a list of numbers, 0 past its end.
-fn at_place(text: &[u8], place: usize) -> usize {
+// The number at a place of a list of numbers, 0 past its end. A list has no more entries than signs.
+#[tactic(auto, using(crate::proofs::Entries::among_found, crate::proofs::Entries::among_on, crate::proofs::Entries::among_ended))]
+fn at_place(text: &[u8], place: usize) -> usize
+    ensures { result ≡ number_at place text.now }
+{
     let mut left = place;
     let mut at = 0;
-    while at < text.len() {
+    for turn in 0..text.len() {
         let entry = entry_at(text, at);
         if left < entry.times {
             return entry.number;
         }
         left -= entry.times;
-        if entry.next <= at {
-            return 0;
-        }
         at = entry.next;
     }
     0
@@ -240,7 +245,9 @@ pub struct Numbers {
     pub n7: usize,
 }
 
-pub fn numbers_of(case: &[u8]) -> Numbers {
+pub fn numbers_of(case: &[u8]) -> Numbers
+    ensures { result ≡ numbers_in case.now }
+{
     let words = until(after(case, b':'), b'|');
     Numbers {
         n0: at_place(words, 0),
@@ -255,11 +262,11 @@ pub fn numbers_of(case: &[u8]) -> Numbers {
 }
 
 // Fills a list of numbers with those that a text says, and with 0 after them.
-pub fn number_list(text: &[u8], list: &mut [usize]) {
-    let mut i = 0;
-    while i < list.len() {
-        list[i] = at_place(text, i);
-        i += 1;
+pub fn number_list(text: &[u8], list: &mut [usize])
+    ensures { EachIndex list.new (λ place. slice_index list.new place ≡ number_at place text.now) }
+{
+    for (i, number) in list.iter_mut().enumerate() {
+        *number = at_place(text, i);
     }
 }
 
@@ -375,7 +382,9 @@ pub fn list_or_out(text: &[u8], out: &[u8], size: usize, lent: &mut [u8]) -> usi
 // Readies a lent output for a case: gives how many entries it is to have, no more than are there, and fills them with a
 // number that no operation writes.
 pub fn room(case: &[u8], out: &mut [u8]) -> usize
-    ensures { result ≤ length out.old }
+    ensures filled { out.new ≡ laid 0 9 (with_room 0 (room_of case.now) out.old) out.old }
+    ensures size { result ≡ with_room 0 (room_of case.now) out.old }
+    ensures within { result ≤ length out.old }
 {
     put(out, 0, 9, at_place(after(case, b'>'), 0))
 }
