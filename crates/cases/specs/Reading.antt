@@ -1,5 +1,5 @@
 -- What taking a case apart gives, over the signs of a line.
-use Rattle.std.specs.Prelude.{ℕ, zero, suc, ◌+◌, ◌-◌, ◌*◌, Bool, true, false, List, [], ◌∷◌, ◌++◌, length, take, drop, replicate, min, eqb, ltb}
+use Rattle.std.specs.Prelude.{ℕ, zero, suc, ◌+◌, ◌-◌, ◌*◌, ◌%◌, Bool, true, false, List, [], ◌∷◌, ◌++◌, length, take, drop, set, get_or, max, replicate, min, eqb, ltb}
 use Rattle.measure.specs.Choose.{choose}
 use Rattle.measure.specs.Lists.{onto}
 use Rattle.cases.specs.declared.reading.Numbers.{Numbers}
@@ -128,3 +128,74 @@ numbers_in case =
 -- how many entries a case says that its lent output is to have, after a > (62)
 abbrev pub room_of : (case : List ℕ) → ℕ
 room_of case = number_at 0 (after_first 62 case)
+
+-- the entries that a text names, from so many of it at most: each number as a byte, as often as it stands there
+unfoldable pub entries_among : (most : ℕ) (text : List ℕ) → List ℕ
+entries_among zero text = []
+entries_among (suc most) text =
+    replicate (entry_times text) (entry_number text % 256) ++ entries_among most (drop (entry_size text) text)
+
+-- the same from all of it
+abbrev pub entries_of : (text : List ℕ) → List ℕ
+entries_of text = entries_among (length text) text
+
+-- a list with entries written over it from a place on: what has no room is left out, and the rest stays as it was
+unfoldable pub written : (from : ℕ) (entries list : List ℕ) → List ℕ
+written from entries [] = []
+written (suc from) entries (first ∷ list) = first ∷ written from entries list
+written zero [] (first ∷ list) = first ∷ list
+written zero (entry ∷ entries) (first ∷ list) = entry ∷ written zero entries list
+
+-- the place after the last of them
+abbrev pub written_to : (from : ℕ) (entries list : List ℕ) → ℕ
+written_to from entries list = min (from + length entries) (length list)
+
+-- a list after so many turns from a place on: each writes there what stands so many places before, and goes on by one
+unfoldable pub gone_over : (turns at back : ℕ) (list : List ℕ) → List ℕ
+gone_over zero at back list = list
+gone_over (suc turns) at back list = gone_over turns (at + 1) back (set list at (get_or list (at - back) 0))
+
+-- a list whose first entries, so many, are repeated until there are so many, as far as it has room
+abbrev pub repeated : (size most : ℕ) (list : List ℕ) → List ℕ
+repeated size most list = gone_over (min most (length list) - size) size size list
+
+-- how many there are then
+abbrev pub repeated_to : (size most : ℕ) (list : List ℕ) → ℕ
+repeated_to size most list = max size (min most (length list))
+
+-- what a text says of a list before its first | (124) and its first > (62)
+abbrev pub own_of : (text : List ℕ) → List ℕ
+own_of text = before_first 62 (before_first 124 text)
+
+-- a lent list that the entries of a text, which stand before the first . (46), are written over
+abbrev pub first_entries : (text lent : List ℕ) → List ℕ
+first_entries text lent = written 0 (entries_of (before_first 46 (own_of text))) lent
+
+-- how many those are
+abbrev pub first_size : (text lent : List ℕ) → ℕ
+first_size text lent = written_to 0 (entries_of (before_first 46 (own_of text))) lent
+
+-- how many entries a text says that its list has, after the .
+abbrev pub most_of : (text : List ℕ) → ℕ
+most_of text = number_at 0 (after_first 46 (own_of text))
+
+-- a lent list that the list at the start of a text is written over
+abbrev pub listed : (text lent : List ℕ) → List ℕ
+listed text lent = repeated (first_size text lent) (most_of text) (first_entries text lent)
+
+-- how many entries that list has
+abbrev pub listed_size : (text lent : List ℕ) → ℕ
+listed_size text lent = repeated_to (first_size text lent) (most_of text) (first_entries text lent)
+
+-- the same, but for the word `out`, which begins with an o (111): another list, and the entries after the word
+abbrev pub listed_or_out : (text out : List ℕ) (size : ℕ) (lent : List ℕ) → List ℕ
+listed_or_out text out size lent =
+    choose (eqb (get_or text 1 32) 111)
+    (written (copied_size size out lent) (entries_of (own_of text)) (copied_onto size out lent)) (listed text lent)
+
+-- how many entries that list has
+abbrev pub listed_or_out_size : (text out : List ℕ) (size : ℕ) (lent : List ℕ) → ℕ
+listed_or_out_size text out size lent =
+    choose (eqb (get_or text 1 32) 111)
+    (written_to (copied_size size out lent) (entries_of (own_of text)) (copied_onto size out lent))
+    (listed_size text lent)

@@ -1,7 +1,8 @@
 // Taking a case apart: its operation, its numbers and its lists.
 ghost use Rattle.std.specs.Prelude.{◌≡◌, ◌+◌, ◌-◌, ◌%◌, ◌≤◌, IfOk, length, take, drop, get_or, slice_index, EachIndex};
 ghost use Rattle.cases.specs.Reading.{found_from, before_first, after_first, begins_a_case, laid, with_room, copied_onto, copied_size};
-ghost use Rattle.cases.specs.Reading.{digit_of, value_on, digits_on, first_digit, times_of, times_size, entry_number, entry_times, entry_size, number_at, numbers_in, room_of};
+ghost use Rattle.cases.specs.Reading.{digit_of, value_on, digits_on, first_digit, times_of, times_size, entry_number, entry_times, entry_size, number_at, numbers_in, room_of, entries_of, written, written_to, repeated, repeated_to};
+ghost use Rattle.cases.specs.Reading.{listed, listed_size, listed_or_out, listed_or_out_size};
 
 use std::io;
 use std::io::Read;
@@ -291,42 +292,43 @@ fn put(list: &mut [u8], from: usize, entry: u8, count: usize) -> usize
 }
 
 // Puts the entries that a text names into a list, from a place on, and gives the place after the last.
+#[tactic(auto, using(crate::proofs::Laying::among_next, crate::proofs::Laying::among_done, crate::proofs::Laying::written_none, crate::proofs::Laying::written_next))]
 fn entries(text: &[u8], list: &mut [u8], from: usize) -> usize
     requires { from ≤ length list.old }
-    ensures { result ≤ length list.old }
+    ensures written { list.new ≡ written from (entries_of text.now) list.old }
+    ensures next { result ≡ written_to from (entries_of text.now) list.old }
+    ensures within { result ≤ length list.old }
 {
     let mut size = from;
     let mut at = 0;
-    while at < text.len() {
+    for turn in 0..text.len() {
         let entry = entry_at(text, at);
         size = put(list, size, byte(entry.number), entry.times);
-        if entry.next <= at {
-            return size;
-        }
         at = entry.next;
     }
     size
 }
 
 // Goes over the first entries of a list again and again until there are so many.
+#[tactic(auto, using(crate::proofs::Laying::gone_on, crate::proofs::Laying::gone_over_all))]
 fn over_again(list: &mut [u8], size: usize, most: usize) -> usize
     requires { size ≤ length list.old }
-    ensures { result ≤ length list.old }
+    ensures repeated { list.new ≡ repeated size most list.old }
+    ensures next { result ≡ repeated_to size most list.old }
+    ensures within { result ≤ length list.old }
 {
-    let mut at = size;
-    while at < most {
-        if list.len() <= at {
-            return at;
-        }
+    let end = most.min(list.len());
+    for at in size..end {
         list[at] = list[at - size];
-        at += 1;
     }
-    at
+    size.max(end)
 }
 
 // Puts the list at the start of a text into a lent one, and gives how many entries it has.
 pub fn list(text: &[u8], list: &mut [u8]) -> usize
-    ensures { result ≤ length list.old }
+    ensures listed { list.new ≡ listed text.now list.old }
+    ensures size { result ≡ listed_size text.now list.old }
+    ensures within { result ≤ length list.old }
 {
     let own = until(until(text, b'|'), b'>');
     let size = entries(until(own, b'.'), list, 0);
@@ -371,7 +373,10 @@ fn copied(list: &[u8], size: usize, to: &mut [u8]) -> usize
 }
 
 // The same as `list`, but for the word `out`: so many entries of another list, and then those that follow the word.
-pub fn list_or_out(text: &[u8], out: &[u8], size: usize, lent: &mut [u8]) -> usize {
+pub fn list_or_out(text: &[u8], out: &[u8], size: usize, lent: &mut [u8]) -> usize
+    ensures listed { lent.new ≡ listed_or_out text.now out.now size lent.old }
+    ensures size { result ≡ listed_or_out_size text.now out.now size lent.old }
+{
     if letter(text) == b'o' {
         let had = copied(out, size, lent);
         return entries(until(until(text, b'|'), b'>'), lent, had);
