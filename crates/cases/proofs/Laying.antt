@@ -54,9 +54,9 @@ written_next size count entry more list h =
 
 -- a turn: the next entry is put
 module _ (text list new : List ℕ) (at turn size number times next end : ℕ) (t : turn < length text)
-  (h : size ≤ length list) (n : number ≡ entry_number (drop at text) % 256) (m : times ≡ entry_times (drop at text))
-  (x : next ≡ at + entry_size (drop at text)) (l : new ≡ laid size number (with_room size times list) list)
-  (e : end ≡ size + with_room size times list) where
+    (h : size ≤ length list) (n : number ≡ entry_number (drop at text) % 256) (m : times ≡ entry_times (drop at text))
+    (x : next ≡ at + entry_size (drop at text)) (l : new ≡ laid size number (with_room size times list) list)
+    (e : end ≡ size + with_room size times list) where
   pub written_turn :
       written end (entries_among (length text - (turn + 1)) (drop next text)) new
       ≡ written size (entries_among (length text - turn) (drop at text)) list

@@ -199,3 +199,21 @@ listed_or_out_size text out size lent =
     choose (eqb (get_or text 1 32) 111)
     (written_to (copied_size size out lent) (entries_of (own_of text)) (copied_onto size out lent))
     (listed_size text lent)
+
+-- how many signs of a word are those of a name, once the name has one more: all of them where they differ
+abbrev pub alike : (same sign : ℕ) (word : List ℕ) → ℕ
+alike same sign word =
+    choose (ltb same (length word)) (choose (eqb (get_or word same 0) sign) (suc same) (length word)) same
+
+-- which of the names that are left is a word's, counted on from this one: a name ends with a space (32), of which so
+-- many signs are the word's already, and the word goes on after it
+unfoldable pub named_from : (count same : ℕ) (word names : List ℕ) → ℕ
+named_from count same word [] = count
+named_from count same word (sign ∷ names) =
+    choose (eqb sign 32)
+    (choose (ltb (alike same sign word) (length word)) count (named_from (suc count) 0 word names))
+    (named_from count (alike same sign word) word names)
+
+-- which of some names is that of a case's operation, which stands after the first space (32) after the : (58)
+abbrev pub operation_in : (case names : List ℕ) → ℕ
+operation_in case names = named_from 0 0 (after_first 32 (after_first 58 case)) names

@@ -2,7 +2,7 @@
 ghost use Rattle.std.specs.Prelude.{◌≡◌, ◌+◌, ◌-◌, ◌%◌, ◌≤◌, IfOk, length, take, drop, get_or, slice_index, EachIndex};
 ghost use Rattle.cases.specs.Reading.{found_from, before_first, after_first, begins_a_case, laid, with_room, copied_onto, copied_size};
 ghost use Rattle.cases.specs.Reading.{digit_of, value_on, digits_on, first_digit, times_of, times_size, entry_number, entry_times, entry_size, number_at, numbers_in, room_of, entries_of, written, written_to, repeated, repeated_to};
-ghost use Rattle.cases.specs.Reading.{listed, listed_size, listed_or_out, listed_or_out_size};
+ghost use Rattle.cases.specs.Reading.{listed, listed_size, listed_or_out, listed_or_out_size, alike, named_from, operation_in};
 
 use std::io;
 use std::io::Read;
@@ -72,19 +72,30 @@ pub fn after(text: &[u8], sign: u8) -> &[u8]
     }
 }
 
+// How many signs of a word are those of a name, once the name has one more: all of them where they differ.
+fn alike(word: &[u8], same: usize, sign: u8) -> usize
+    ensures { result ≡ alike same sign word.now }
+{
+    if word.len() <= same {
+        return same;
+    }
+    if word[same] == sign {
+        same + 1
+    } else {
+        word.len()
+    }
+}
+
 // Which of some names, counted from 0, is the word that a text begins with. Each name ends with a space.
-fn which(word: &[u8], names: &[u8]) -> usize {
+#[tactic(auto, using(crate::proofs::Names::named_here, crate::proofs::Names::named_later, crate::proofs::Names::named_on, crate::proofs::Names::named_none))]
+fn which(word: &[u8], names: &[u8]) -> usize
+    ensures { result ≡ named_from 0 0 word.now names.now }
+{
     let mut count: usize = 0;
     let mut same: usize = 0;
     let mut at = 0;
     while at < names.len() {
-        if same < word.len() {
-            if word[same] == names[at] {
-                same += 1;
-            } else {
-                same = word.len();
-            }
-        }
+        same = alike(word, same, names[at]);
         if names[at] == b' ' {
             if same < word.len() {
                 return count;
@@ -98,7 +109,9 @@ fn which(word: &[u8], names: &[u8]) -> usize {
 }
 
 // Which of some names, counted from 0, is that of a case's operation; as many as there are where none is.
-pub fn operation(case: &[u8], names: &[u8]) -> usize {
+pub fn operation(case: &[u8], names: &[u8]) -> usize
+    ensures { result ≡ operation_in case.now names.now }
+{
     which(after(after(case, b':'), b' '), names)
 }
 

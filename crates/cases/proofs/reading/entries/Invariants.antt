@@ -1,5 +1,5 @@
 -- `entries` meets its contract: what is to be written in the end stays the same, and so does the place after it.
-use Rattle.std.proofs.Common.{◌≤◌, ◌-◌, ◌+◌, ◌≡◌, length, drop}
+use Rattle.std.proofs.Common.{◌≤◌, ◌-◌, ◌≡◌, length, drop}
 use Rattle.cases.specs.Reading.{entries_among, entries_of, written, written_to}
 use Rattle.cases.proofs.reading.entries.Given as goal
 
