@@ -1,12 +1,18 @@
 // Taking a case apart: its operation, its numbers and its lists.
-ghost use Rattle.std.specs.Prelude.{◌≤◌, IfOk, length};
+ghost use Rattle.std.specs.Prelude.{◌≡◌, ◌+◌, ◌-◌, ◌%◌, ◌<◌, ◌≤◌, IfOk, length, take, drop, get_or, slice_index, EachIndex};
+ghost use Rattle.cases.specs.Reading.{found_from, before_first, after_first, begins_a_case, laid, with_room, copied_onto, copied_size};
+ghost use Rattle.cases.specs.Reading.{digit_of, value_on, digits_on, first_digit, times_of, times_size, entry_number, entry_times, entry_size, number_at, numbers_in, room_of, entries_of, written, written_to, repeated, repeated_to};
+ghost use Rattle.cases.specs.Reading.{listed, listed_size, listed_or_out, listed_or_out_size, alike, named_from, operation_in};
+ghost use Rattle.std.specs.Io.KnownBytes.{Consumes, IsAtEnd};
 
 use std::io;
 use std::io::Read;
 
 // Reads until a list is full or the input ends, and gives how many bytes it has read.
 pub fn whole<R: Read>(from: &mut R, into: &mut [u8]) -> io::Result<usize>
-    ensures { IfOk result (λ n. n ≤ length into.old) }
+    ensures within { IfOk result (λ n. n ≤ length into.old) }
+    ensures read { IfOk result (λ n. Consumes (R.remaining from.old) (R.remaining from.new) (take n into.new)) }
+    ensures ended { IfOk result (λ n. n < length into.old → IsAtEnd (R.remaining from.new)) }
 {
     let mut done = 0;
     while done < into.len() {
@@ -20,8 +26,10 @@ pub fn whole<R: Read>(from: &mut R, into: &mut [u8]) -> io::Result<usize>
 }
 
 // The first place of a text from this one on that has a sign, and its end where none has.
+#[tactic(auto, using(crate::proofs::Signs::first_here, crate::proofs::Signs::first_later, crate::proofs::Signs::first_none))]
 pub fn find(text: &[u8], from: usize, sign: u8) -> usize
     requires { from ≤ length text.now }
+    ensures found { result ≡ found_from from sign text.now }
     ensures from_there { from ≤ result }
     ensures within { result ≤ length text.now }
 {
@@ -36,7 +44,9 @@ pub fn find(text: &[u8], from: usize, sign: u8) -> usize
 }
 
 // Whether a line is a case.
-pub fn is_case(line: &[u8]) -> bool {
+pub fn is_case(line: &[u8]) -> bool
+    ensures { result ≡ begins_a_case line.now }
+{
     if line.len() < 1 {
         return false;
     }
@@ -44,14 +54,18 @@ pub fn is_case(line: &[u8]) -> bool {
 }
 
 // The text before the first of a sign, or all of it where there is none.
-pub fn until(text: &[u8], sign: u8) -> &[u8] {
+pub fn until(text: &[u8], sign: u8) -> &[u8]
+    ensures { result.now ≡ before_first sign text.now }
+{
     let from = 0;
     let end = find(text, 0, sign);
     &text[from..end]
 }
 
 // The text after the first of a sign, and nothing where there is none.
-pub fn after(text: &[u8], sign: u8) -> &[u8] {
+pub fn after(text: &[u8], sign: u8) -> &[u8]
+    ensures { result.now ≡ after_first sign text.now }
+{
     let at = find(text, 0, sign);
     if at < text.len() {
         let start = at + 1;
@@ -61,19 +75,30 @@ pub fn after(text: &[u8], sign: u8) -> &[u8] {
     }
 }
 
+// How many signs of a word are those of a name, once the name has one more: all of them where they differ.
+fn alike(word: &[u8], same: usize, sign: u8) -> usize
+    ensures { result ≡ alike same sign word.now }
+{
+    if word.len() <= same {
+        return same;
+    }
+    if word[same] == sign {
+        same + 1
+    } else {
+        word.len()
+    }
+}
+
 // Which of some names, counted from 0, is the word that a text begins with. Each name ends with a space.
-fn which(word: &[u8], names: &[u8]) -> usize {
+#[tactic(auto, using(crate::proofs::Names::named_here, crate::proofs::Names::named_later, crate::proofs::Names::named_on, crate::proofs::Names::named_none))]
+fn which(word: &[u8], names: &[u8]) -> usize
+    ensures { result ≡ named_from 0 0 word.now names.now }
+{
     let mut count: usize = 0;
     let mut same: usize = 0;
     let mut at = 0;
     while at < names.len() {
-        if same < word.len() {
-            if word[same] == names[at] {
-                same += 1;
-            } else {
-                same = word.len();
-            }
-        }
+        same = alike(word, same, names[at]);
         if names[at] == b' ' {
             if same < word.len() {
                 return count;
@@ -87,7 +112,9 @@ fn which(word: &[u8], names: &[u8]) -> usize {
 }
 
 // Which of some names, counted from 0, is that of a case's operation; as many as there are where none is.
-pub fn operation(case: &[u8], names: &[u8]) -> usize {
+pub fn operation(case: &[u8], names: &[u8]) -> usize
+    ensures { result ≡ operation_in case.now names.now }
+{
     which(after(after(case, b':'), b' '), names)
 }
 
@@ -100,7 +127,7 @@ struct Found {
 
 // The digit that a sign is, above 9 where it is none.
 fn digit(sign: u8) -> usize
-    ensures { result ≤ 10 }
+    ensures { result ≡ digit_of sign }
 {
     if sign < b'0' {
         return 10;
@@ -112,7 +139,11 @@ fn digit(sign: u8) -> usize
 }
 
 // The number whose digits begin at a place, 0 where none does. It has eighteen digits at most.
-fn number(text: &[u8], from: usize) -> Found {
+#[tactic(auto, using(crate::proofs::Signs::value_goes_on, crate::proofs::Signs::digits_go_on, crate::proofs::Signs::value_ends, crate::proofs::Signs::digits_end, crate::proofs::Signs::value_long, crate::proofs::Signs::digits_long, crate::proofs::Signs::value_none, crate::proofs::Signs::digits_none))]
+fn number(text: &[u8], from: usize) -> Found
+    ensures value { result.value ≡ value_on 0 (drop from text.now) }
+    ensures next { result.next ≡ from + digits_on 0 (drop from text.now) }
+{
     let mut value: usize = 0;
     let mut at = from;
     while at < text.len() {
@@ -139,7 +170,10 @@ fn number(text: &[u8], from: usize) -> Found {
 }
 
 // The first place from this one on that has a digit; no place of the text where none has.
-fn next_digit(text: &[u8], from: usize) -> usize {
+#[tactic(auto, using(crate::proofs::Signs::digit_here, crate::proofs::Signs::digit_later, crate::proofs::Signs::digit_none))]
+fn next_digit(text: &[u8], from: usize) -> usize
+    ensures { result ≡ from + first_digit (drop from text.now) }
+{
     let mut at = from;
     while at < text.len() {
         if digit(text[at]) < 10 {
@@ -159,7 +193,12 @@ struct Entry {
 }
 
 // The first entry from a place on; one that stands there no time where there is none.
-fn entry_at(text: &[u8], from: usize) -> Entry {
+#[tactic(auto, using(crate::proofs::Entries::entry_number_at, crate::proofs::Entries::entry_times_at, crate::proofs::Entries::entry_size_at, crate::proofs::Entries::entry_number_none, crate::proofs::Entries::entry_times_none, crate::proofs::Entries::entry_size_none))]
+fn entry_at(text: &[u8], from: usize) -> Entry
+    ensures number { result.number ≡ entry_number (drop from text.now) }
+    ensures times { result.times ≡ entry_times (drop from text.now) }
+    ensures next { result.next ≡ from + entry_size (drop from text.now) }
+{
     let at = next_digit(text, from);
     if text.len() <= at {
         return Entry {
@@ -178,7 +217,11 @@ fn entry_at(text: &[u8], from: usize) -> Entry {
 }
 
 // How often an entry stands that ends at this place: as often as an x and a number after it say, or else once.
-fn times(text: &[u8], at: usize) -> Found {
+#[tactic(auto, using(crate::proofs::Signs::times_once, crate::proofs::Signs::times_one, crate::proofs::Signs::times_many))]
+fn times(text: &[u8], at: usize) -> Found
+    ensures value { result.value ≡ times_of (drop at text.now) }
+    ensures next { result.next ≡ at + times_size (drop at text.now) }
+{
     if text.len() <= at {
         return Found { value: 1, next: at };
     }
@@ -188,19 +231,19 @@ fn times(text: &[u8], at: usize) -> Found {
     number(text, at + 1)
 }
 
-// The number at a place of a list of numbers, 0 past its end.
-fn at_place(text: &[u8], place: usize) -> usize {
+// The number at a place of a list of numbers, 0 past its end. A list has no more entries than signs.
+#[tactic(auto, using(crate::proofs::Entries::among_found, crate::proofs::Entries::among_on, crate::proofs::Entries::among_ended))]
+fn at_place(text: &[u8], place: usize) -> usize
+    ensures { result ≡ number_at place text.now }
+{
     let mut left = place;
     let mut at = 0;
-    while at < text.len() {
+    for turn in 0..text.len() {
         let entry = entry_at(text, at);
         if left < entry.times {
             return entry.number;
         }
         left -= entry.times;
-        if entry.next <= at {
-            return 0;
-        }
         at = entry.next;
     }
     0
@@ -219,7 +262,9 @@ pub struct Numbers {
     pub n7: usize,
 }
 
-pub fn numbers_of(case: &[u8]) -> Numbers {
+pub fn numbers_of(case: &[u8]) -> Numbers
+    ensures { result ≡ numbers_in case.now }
+{
     let words = until(after(case, b':'), b'|');
     Numbers {
         n0: at_place(words, 0),
@@ -234,16 +279,18 @@ pub fn numbers_of(case: &[u8]) -> Numbers {
 }
 
 // Fills a list of numbers with those that a text says, and with 0 after them.
-pub fn number_list(text: &[u8], list: &mut [usize]) {
-    let mut i = 0;
-    while i < list.len() {
-        list[i] = at_place(text, i);
-        i += 1;
+pub fn number_list(text: &[u8], list: &mut [usize])
+    ensures { EachIndex list.new (λ place. slice_index list.new place ≡ number_at place text.now) }
+{
+    for (i, number) in list.iter_mut().enumerate() {
+        *number = at_place(text, i);
     }
 }
 
 // A number as a byte; what is left when it is divided by 256, where it is none.
-pub fn byte(n: usize) -> u8 {
+pub fn byte(n: usize) -> u8
+    ensures { result ≡ n % 256 }
+{
     (n % 256) as u8
 }
 
@@ -251,58 +298,53 @@ pub fn byte(n: usize) -> u8 {
 // out.
 fn put(list: &mut [u8], from: usize, entry: u8, count: usize) -> usize
     requires { from ≤ length list.old }
-    ensures { result ≤ length list.old }
+    ensures written { list.new ≡ laid from entry (with_room from count list.old) list.old }
+    ensures next { result ≡ from + with_room from count list.old }
+    ensures within { result ≤ length list.old }
 {
-    let mut at = from;
-    let mut left = count;
-    while 0 < left {
-        if list.len() <= at {
-            return at;
-        }
-        list[at] = entry;
-        at += 1;
-        left -= 1;
-    }
-    at
+    let end = from + count.min(list.len() - from);
+    list[from..end].fill(entry);
+    end
 }
 
 // Puts the entries that a text names into a list, from a place on, and gives the place after the last.
+#[tactic(auto, using(crate::proofs::Laying::among_next, crate::proofs::Laying::among_done, crate::proofs::Laying::written_none, crate::proofs::Laying::written_next))]
 fn entries(text: &[u8], list: &mut [u8], from: usize) -> usize
     requires { from ≤ length list.old }
-    ensures { result ≤ length list.old }
+    ensures written { list.new ≡ written from (entries_of text.now) list.old }
+    ensures next { result ≡ written_to from (entries_of text.now) list.old }
+    ensures within { result ≤ length list.old }
 {
     let mut size = from;
     let mut at = 0;
-    while at < text.len() {
+    for turn in 0..text.len() {
         let entry = entry_at(text, at);
         size = put(list, size, byte(entry.number), entry.times);
-        if entry.next <= at {
-            return size;
-        }
         at = entry.next;
     }
     size
 }
 
 // Goes over the first entries of a list again and again until there are so many.
+#[tactic(auto, using(crate::proofs::Laying::gone_on, crate::proofs::Laying::gone_over_all))]
 fn over_again(list: &mut [u8], size: usize, most: usize) -> usize
     requires { size ≤ length list.old }
-    ensures { result ≤ length list.old }
+    ensures repeated { list.new ≡ repeated size most list.old }
+    ensures next { result ≡ repeated_to size most list.old }
+    ensures within { result ≤ length list.old }
 {
-    let mut at = size;
-    while at < most {
-        if list.len() <= at {
-            return at;
-        }
+    let end = most.min(list.len());
+    for at in size..end {
         list[at] = list[at - size];
-        at += 1;
     }
-    at
+    size.max(end)
 }
 
 // Puts the list at the start of a text into a lent one, and gives how many entries it has.
 pub fn list(text: &[u8], list: &mut [u8]) -> usize
-    ensures { result ≤ length list.old }
+    ensures listed { list.new ≡ listed text.now list.old }
+    ensures size { result ≡ listed_size text.now list.old }
+    ensures within { result ≤ length list.old }
 {
     let own = until(until(text, b'|'), b'>');
     let size = entries(until(own, b'.'), list, 0);
@@ -310,7 +352,9 @@ pub fn list(text: &[u8], list: &mut [u8]) -> usize
 }
 
 // The first entries of a list, so many, or all of them where there are fewer.
-pub fn front(list: &[u8], size: usize) -> &[u8] {
+pub fn front(list: &[u8], size: usize) -> &[u8]
+    ensures { result.now ≡ take size list.now }
+{
     let from = 0;
     if size < list.len() {
         &list[from..size]
@@ -320,7 +364,9 @@ pub fn front(list: &[u8], size: usize) -> &[u8] {
 }
 
 // The letter that the word at the start of a text begins with, a space where it is none.
-pub fn letter(text: &[u8]) -> u8 {
+pub fn letter(text: &[u8]) -> u8
+    ensures { result ≡ get_or text.now 1 32 }
+{
     if text.len() < 2 {
         return b' ';
     }
@@ -329,7 +375,9 @@ pub fn letter(text: &[u8]) -> u8 {
 
 // Copies so many entries of a list, and gives how many; none where there is no room for them.
 fn copied(list: &[u8], size: usize, to: &mut [u8]) -> usize
-    ensures { result ≤ length to.old }
+    ensures written { to.new ≡ copied_onto size list.now to.old }
+    ensures size { result ≡ copied_size size list.now to.old }
+    ensures within { result ≤ length to.old }
 {
     let from = front(list, size);
     if to.len() < from.len() {
@@ -341,7 +389,10 @@ fn copied(list: &[u8], size: usize, to: &mut [u8]) -> usize
 }
 
 // The same as `list`, but for the word `out`: so many entries of another list, and then those that follow the word.
-pub fn list_or_out(text: &[u8], out: &[u8], size: usize, lent: &mut [u8]) -> usize {
+pub fn list_or_out(text: &[u8], out: &[u8], size: usize, lent: &mut [u8]) -> usize
+    ensures listed { lent.new ≡ listed_or_out text.now out.now size lent.old }
+    ensures size { result ≡ listed_or_out_size text.now out.now size lent.old }
+{
     if letter(text) == b'o' {
         let had = copied(out, size, lent);
         return entries(until(until(text, b'|'), b'>'), lent, had);
@@ -352,7 +403,9 @@ pub fn list_or_out(text: &[u8], out: &[u8], size: usize, lent: &mut [u8]) -> usi
 // Readies a lent output for a case: gives how many entries it is to have, no more than are there, and fills them with a
 // number that no operation writes.
 pub fn room(case: &[u8], out: &mut [u8]) -> usize
-    ensures { result ≤ length out.old }
+    ensures filled { out.new ≡ laid 0 9 (with_room 0 (room_of case.now) out.old) out.old }
+    ensures size { result ≡ with_room 0 (room_of case.now) out.old }
+    ensures within { result ≤ length out.old }
 {
     put(out, 0, 9, at_place(after(case, b'>'), 0))
 }

@@ -1,11 +1,13 @@
--- `entries` meets its contract: each turn goes on in the text, and the size stays within the list.
-use Prim.Native.Nat.{◌≤◌, ◌-◌}
-use lib.ListN.{length}
-use mathlib.Core.Path.{◌≡◌}
+-- `entries` meets its contract: what is to be written in the end stays the same, and so does the place after it.
+use Rattle.std.proofs.Common.{◌≤◌, ◌-◌, ◌≡◌, length, drop}
+use Rattle.cases.specs.Reading.{entries_among, entries_of, written, written_to}
 use Rattle.cases.proofs.reading.entries.Given as goal
 
-abbrev pub invariant-loop-at : goal.invariant-loop-at
-invariant-loop-at l = (l.size ≤ length l.initial.list) × (length l.list ≡ length l.initial.list)
-
-abbrev pub decreases-loop-at : goal.decreases-loop-at
-decreases-loop-at l = length l.text - l.at
+abbrev pub invariant-loop-turn : goal.invariant-loop-turn
+invariant-loop-turn l =
+    (l.size ≤ length l.initial.list)
+    × (length l.list ≡ length l.initial.list)
+    × (written l.size (entries_among (length l.text - l.turn) (drop l.at l.text)) l.list
+    ≡ written l.from (entries_of l.text) l.initial.list)
+    × (written_to l.size (entries_among (length l.text - l.turn) (drop l.at l.text)) l.list
+    ≡ written_to l.from (entries_of l.text) l.initial.list)

@@ -1,11 +1,7 @@
--- `number_list` is safe and ends: the place stays within the list.
-use Prim.Native.Nat.{◌≤◌, ◌-◌}
-use lib.ListN.{length}
-use mathlib.Core.Path.{◌≡◌}
+-- `number_list` meets its contract: each place before this one has its number.
+use Rattle.std.proofs.Common.{◌≡◌, ℕ, ◌<◌, get_or}
+use Rattle.cases.specs.Reading.{number_at}
 use Rattle.cases.proofs.reading.number_list.Given as goal
 
 abbrev pub invariant-loop-i : goal.invariant-loop-i
-invariant-loop-i l = (l.i ≤ length l.initial.list) × (length l.list ≡ length l.initial.list)
-
-abbrev pub decreases-loop-i : goal.decreases-loop-i
-decreases-loop-i l = length l.initial.list - l.i
+invariant-loop-i l = (place : ℕ) → place < l.i → get_or l.list place 0 ≡ number_at place l.text

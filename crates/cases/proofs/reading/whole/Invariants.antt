@@ -1,9 +1,13 @@
--- `whole` meets its contract: what has been read stays within the list, whose length stays.
-use Rattle.std.proofs.Common.{length, ◌-◌, ◌≤◌, ◌≡◌}
+-- `whole` meets its contract: what has been read stays within the list, whose length stays, and stands at its front.
+use Rattle.std.proofs.Common.{length, take, ◌-◌, ◌≤◌, ◌≡◌}
+use Rattle.std.specs.Io.KnownBytes.{Consumes}
 use Rattle.cases.proofs.reading.whole.Given as goal
 
 abbrev pub invariant-loop-done : goal.invariant-loop-done
-invariant-loop-done g l = (l.done ≤ length l.into) × (length l.into ≡ length l.initial.into)
+invariant-loop-done g l =
+    (l.done ≤ length l.into)
+    × (length l.into ≡ length l.initial.into)
+    × Consumes (g.R.Read.remaining l.initial.from) (g.R.Read.remaining l.from) (take l.done l.into)
 
 abbrev pub decreases-loop-done : goal.decreases-loop-done
 decreases-loop-done g l = length l.into - l.done

@@ -1,0 +1,4 @@
+pub mod Signs
+pub mod Entries
+pub mod Laying
+pub mod Names
