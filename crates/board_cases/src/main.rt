@@ -7,6 +7,7 @@ mod hearing;
 mod logging;
 mod state;
 
+use input::read_full;
 use board::Mode;
 use cases::{reading, show};
 use measure::CAPTURE_MOST;
@@ -85,7 +86,7 @@ fn start(
     out: &mut [u8],
 ) -> io::Result<()> {
     let from = 0;
-    let size = reading::whole(&mut rt.reader(), input)?;
+    let size = read_full(&mut rt.reader(), input)?;
     lines(rt, &input[from..size], list, out)
 }
 

@@ -1,29 +1,8 @@
 // Taking a case apart: its operation, its numbers and its lists.
-ghost use Rattle.std.specs.Prelude.{◌≡◌, ◌+◌, ◌-◌, ◌%◌, ◌<◌, ◌≤◌, IfOk, length, take, drop, get_or, slice_index, EachIndex};
+ghost use Rattle.std.specs.Prelude.{◌≡◌, ◌+◌, ◌-◌, ◌%◌, ◌<◌, ◌≤◌, length, take, drop, get_or, slice_index, EachIndex};
 ghost use Rattle.cases.specs.Reading.{found_from, before_first, after_first, begins_a_case, laid, with_room, copied_onto, copied_size};
 ghost use Rattle.cases.specs.Reading.{digit_of, value_on, digits_on, first_digit, times_of, times_size, entry_number, entry_times, entry_size, number_at, numbers_in, room_of, entries_of, written, written_to, repeated, repeated_to};
 ghost use Rattle.cases.specs.Reading.{listed, listed_size, listed_or_out, listed_or_out_size, alike, named_from, operation_in};
-ghost use Rattle.std.specs.Io.KnownBytes.{Consumes, IsAtEnd};
-
-use std::io;
-use std::io::Read;
-
-// Reads until a list is full or the input ends, and gives how many bytes it has read.
-pub fn whole<R: Read>(from: &mut R, into: &mut [u8]) -> io::Result<usize>
-    ensures within { IfOk result (λ n. n ≤ length into.old) }
-    ensures read { IfOk result (λ n. Consumes (R.remaining from.old) (R.remaining from.new) (take n into.new)) }
-    ensures ended { IfOk result (λ n. n < length into.old → IsAtEnd (R.remaining from.new)) }
-{
-    let mut done = 0;
-    while done < into.len() {
-        let n = from.read(&mut into[done..])?;
-        if n == 0 {
-            break;
-        }
-        done += n;
-    }
-    Ok(done)
-}
 
 // The first place of a text from this one on that has a sign, and its end where none has.
 #[tactic(auto, using(crate::proofs::Signs::first_here, crate::proofs::Signs::first_later, crate::proofs::Signs::first_none))]

@@ -12,6 +12,7 @@ mod sending;
 mod timing;
 mod words;
 
+use input::read_full;
 use cases::{reading, show};
 use measure::ENTRIES_MOST;
 use std::io;
@@ -136,7 +137,7 @@ fn start(
     out: &mut [u8],
 ) -> io::Result<()> {
     let from = 0;
-    let size = reading::whole(&mut rt.reader(), input)?;
+    let size = read_full(&mut rt.reader(), input)?;
     lines(rt, &input[from..size], one, two, out)
 }
 
