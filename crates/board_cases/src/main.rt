@@ -7,9 +7,9 @@ mod hearing;
 mod logging;
 mod state;
 
-use input::read_full;
 use board::Mode;
 use cases::{reading, show};
+use input::read_full;
 use measure::CAPTURE_MOST;
 use std::io;
 

@@ -12,8 +12,8 @@ mod sending;
 mod timing;
 mod words;
 
-use input::read_full;
 use cases::{reading, show};
+use input::read_full;
 use measure::ENTRIES_MOST;
 use std::io;
 
