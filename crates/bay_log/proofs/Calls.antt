@@ -27,7 +27,7 @@ use Rattle.bay_log.specs.Sequence.{event_fits, newer, after, keeps, at_first, Sh
 use Rattle.bay_log.proofs.Older.{older_differs}
 use Rattle.bay_log.proofs.InOrder.{Each, each_at, each_map, Sorted, each_in_order, in_order_free, in_order_below}
 use Rattle.bay_log.proofs.InOrder.{in_order_each, sorted_in_order}
-use Rattle.bay_log.proofs.Sized.{Sized}
+use Rattle.bay_log.specs.Lent.{Sized}
 use Rattle.bay_log.proofs.Count.{among_none}
 use Rattle.bay_log.proofs.Changed.{left_out, OneApart, order_freed, order_newest}
 use Rattle.bay_log.proofs.PutLaws.{put_sized, put_here, put_there}

@@ -1,17 +1,19 @@
 -- The count of broken records: where one record changes, what the old one added goes and what the new one adds comes;
 -- and it is never above the records.
-use Prim.Native.Nat.{ℕ, zero, suc, ◌+◌, ◌<◌, ◌≤◌}
+use Prim.Native.Nat.{ℕ, zero, suc, ◌+◌, ◌-◌, ◌<◌, ◌≤◌}
 use mathlib.Core.Path.{◌≡◌, refl}
 use mathlib.Core.Bool.{Bool, true, false, not, ◌&&◌, and-false}
 use mathlib.Core.Logic.{dite}
 use mathlib.Core.List.{List}
 use native.Mathlib.Decide.{ℕ_discrete}
+use native.Mathlib.Numerals.{add-one}
 use native.Mathlib.Omega.{arith}
 use lib.ListN.{length, get_or, set}
 use lib.Seq.{get_or-set_same, get_or-set_other}
-use borrow.Author.Tests.{lt-ltb}
+use borrow.Author.Tests.{lt-ltb, le-ltb}
 use Rattle.measure.specs.Choose.{choose}
-use Rattle.bay_log.specs.Records.{marked, adds, broken_among}
+use Rattle.measure.specs.Ranges.{log_records}
+use Rattle.bay_log.specs.Records.{marked, adds, broken_among, broken_records}
 
 pub adds_most : (broken free : ℕ) → adds broken free ≤ 1
 adds_most broken free = go (marked broken && not (marked free))
@@ -20,11 +22,27 @@ adds_most broken free = go (marked broken && not (marked free))
     go true = omega arith
     go false = omega arith
 
+-- a record in use whose broken mark is set adds 1, and any other adds nothing
+module _ (mark unused : ℕ) where
+  pub adds_one : 0 < mark → unused ≡ 0 → adds mark unused ≡ 1
+  adds_one h e = rw (lt-ltb 0 mark h, e)
+
+  pub adds_whole : mark ≤ 0 → adds mark unused ≡ 0
+  adds_whole h = rw (le-ltb 0 mark h)
+
+  pub adds_free : (unused ≡ 0 → ⊥) → adds mark unused ≡ 0
+  adds_free h = rw (lt-ltb 0 unused (omega (arith, h)), and-false (marked mark))
+
 module _ (broken free : List ℕ) where
   pub among_next : (n : ℕ)
       → broken_among broken free (suc n) ≡ broken_among broken free n + adds (get_or broken n 0) (get_or free n 0)
   unfolding broken_among
   among_next n = refl
+
+  -- the same by the record that stands there
+  pub among_more : (n mark unused : ℕ) → get_or broken n 0 ≡ mark → get_or free n 0 ≡ unused
+      → broken_among broken free (n + 1) ≡ broken_among broken free n + adds mark unused
+  among_more n mark unused e f = rw (add-one, among_next n, e, f)
 
   pub among_most : (n : ℕ) → broken_among broken free n ≤ n
   unfolding broken_among
@@ -82,4 +100,16 @@ among_none broken free (suc n) all =
       lt-ltb 0 (get_or free n 0) (all n (omega arith)),
       and-false (marked (get_or broken n 0)),
       among_none broken free n (λ place h. all place (omega arith)),
+    )
+
+-- a record that is put at a place: of the count what the one before added goes, and what the new one adds comes
+pub count_put : (broken free : List ℕ) (q mark unused : ℕ) → q < log_records → length broken ≡ log_records
+    → length free ≡ log_records
+    → broken_records (set broken q mark) (set free q unused)
+    ≡ broken_records broken free - adds (get_or broken q 0) (get_or free q 0) + adds mark unused
+count_put broken free q mark unused there marks frees =
+    omega (
+      arith,
+      among_counts broken free q log_records there,
+      among_set broken free q mark unused (omega (arith, marks)) (omega (arith, frees)) log_records there,
     )

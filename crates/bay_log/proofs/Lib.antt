@@ -1,8 +1,10 @@
 pub mod Older
+pub mod Least
 pub mod InOrder
 pub mod Shifted
-pub mod Sized
 pub mod Count
+pub mod Part
+pub mod Zipped
 pub mod Listing
 pub mod Changed
 pub mod PutLaws

@@ -10,7 +10,7 @@ use lib.Seq.{sets, sets-eq, length-sets, take-set-le, drop-set-lt, take_at, drop
 use lib.Seq.{get_or-set_same, get_or-set_other}
 use Rattle.measure.specs.Ranges.{log_records, record_bytes}
 use Rattle.bay_log.specs.Records.{Log, Record, record_at, put}
-use Rattle.bay_log.proofs.Sized.{Sized}
+use Rattle.bay_log.specs.Lent.{Sized}
 
 -- a part of a list that ends before what is stored, or begins after it
 part_before_set : (m a : ℕ) (l : List ℕ) (i v : ℕ) → a + m ≤ i → take m (drop a (set l i v)) ≡ take m (drop a l)

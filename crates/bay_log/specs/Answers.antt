@@ -1,17 +1,12 @@
 -- Rules K and R: what each operation answers and leaves in the lent lists, for all input, and what each case of the
 -- code says.
-use Rattle.std.specs.Prelude.{ℕ, ◌*◌, Bool, ◌&&◌, List, length, leb, ltb, eqb}
+use Rattle.std.specs.Prelude.{ℕ, ◌*◌, Bool, ◌&&◌, List, length, leb, ltb, eqb, Result}
 use Rattle.measure.specs.Choose.{choose}
 use Rattle.measure.specs.Ranges.{log_records, record_bytes, bits_most}
-use Rattle.measure.specs.Refusals.{Answer, given, refused, denied, ranged, lent}
+use Rattle.measure.specs.Refusals.{Answer, given, refused, says, ranged, lent}
+use Rattle.measure.specs.declared.Refusal.{Refusal}
 use Rattle.bay_log.specs.Records.{Log, is_free, broken_records, put, event_record, free_record}
 use Rattle.bay_log.specs.Order.{listing, takes, later}
-use Rattle.bay_log.specs.declared.Logged.{Logged}
-use Rattle.bay_log.specs.declared.Logged.TheVariants.{At, Refused}
-use Rattle.bay_log.specs.declared.Cleared.{Cleared}
-use Rattle.bay_log.specs.declared.Cleared.TheVariants.{Done, Refused as NotCleared}
-use Rattle.bay_log.specs.declared.Listed.{Listed}
-use Rattle.bay_log.specs.declared.Listed.TheVariants.{Places, Refused as NotListed}
 
 -- K1: a log's lists have 64 entries, and 128 bytes of bits for each
 abbrev pub log_fits : Log → Bool
@@ -52,17 +47,14 @@ listed numbers free output =
     ranged (eqb (length numbers) log_records && eqb (length free) log_records) output
     (lent (listing numbers free) output)
 
--- A8: what each case of the code's answers says
-abbrev pub logged_says : Logged → Answer ℕ
-logged_says (At place) = given place
-logged_says (Refused refusal) = denied refusal
+-- A8: what each case of the code's answer says
+abbrev pub logged_says : Result ℕ Refusal → Answer ℕ
+logged_says answer = says (λ place. place) answer
 
 -- A8
-abbrev pub cleared_says : Cleared → Answer (Unit {0})
-cleared_says Done = given tt
-cleared_says (NotCleared refusal) = denied refusal
+abbrev pub cleared_says : Result (Unit {0}) Refusal → Answer (Unit {0})
+cleared_says answer = says (λ done. done) answer
 
 -- A8
-abbrev pub listed_says : Listed → Answer ℕ
-listed_says (Places count) = given count
-listed_says (NotListed refusal) = denied refusal
+abbrev pub listed_says : Result ℕ Refusal → Answer ℕ
+listed_says answer = says (λ count. count) answer

@@ -1,4 +1,5 @@
 pub mod Records
+pub mod Lent
 pub mod Order
 pub mod ReadOrder
 pub mod Answers

@@ -7,7 +7,7 @@ use lib.ListN.{length, get_or, take, set, length-append}
 use Rattle.board.specs.declared.Mode.{Mode}
 use Rattle.board.specs.declared.Mode.TheVariants.{Hunting, Ready, Counting, Waiting}
 use Rattle.board.specs.declared.Receiver.{Receiver}
-use Rattle.board.specs.declared.state.Numbers.{Numbers}
+use Rattle.board.specs.declared.Numbers.{Numbers}
 use Rattle.board.specs.Rows.{Settings, Run, run_of, State, hunting, ready, counting, waiting}
 use Rattle.board.specs.Packed.{unpacked, kept, state_of, receiver_of}
 use Rattle.board.specs.WellFormed.{well_formed}
@@ -18,7 +18,7 @@ use Rattle.board.proofs.Standing.{facts, valid_of, state_of_receiver, well_forme
 
 -- the run that numbers keep
 abbrev pub run_in : Numbers → Run
-run_in now = run_of now.run now.runlevel
+run_in now = run_of now.run.0 now.runlevel
 
 -- the bits that numbers and bytes keep
 abbrev pub bits_in : Numbers → List ℕ → List ℕ
@@ -42,17 +42,17 @@ module _ (g : Settings) (now : Numbers) (bytes : List ℕ) (keeps : Keeps g now 
   kept_valid = valid_of (keeping g now bytes) keeps.well
 
   pub kept_length : length (bits_in now bytes) ≡ now.found
-  kept_length = ap (λ (x : Receiver). x.found) keeps.whole
+  kept_length = ap (λ (x : Receiver). x.bare.numbers.found) keeps.whole
 
   pub kept_bytes : kept (bits_in now bytes) ≡ bytes
   kept_bytes = ap (λ (x : Receiver). x.bits) keeps.whole
 
   -- the state that is kept, by its mode
 
-  fits : (m : Mode) → now.mode ≡ m → Fitting m g (run_in now) now.left now.found now.level
+  fits : (m : Mode) → now.mode ≡ m → Fitting m g (run_in now) now.left.0 now.found now.level
   fits m e = rw e at (facts (keeping g now bytes) keeps.well).fitting
 
-  kept_as : (s : State) → now.mode ≡ s.mode → now.left ≡ s.left → now.level ≡ s.level → run_in now ≡ s.run
+  kept_as : (s : State) → now.mode ≡ s.mode → now.left.0 ≡ s.left → now.level ≡ s.level → run_in now ≡ s.run
       → bits_in now bytes ≡ s.bits
       → state_of (keeping g now bytes) ≡ s
   kept_as s m f l r b = rw (m, f, l, r, b)
@@ -61,14 +61,14 @@ module _ (g : Settings) (now : Numbers) (bytes : List ℕ) (keeps : Keeps g now 
   pub kept_level : now.runlevel ≤ 1
   kept_level = kept_valid.level.most
 
-  pub counting_fits : now.mode ≡ Counting → Fitting Counting g (run_in now) now.left now.found now.level
+  pub counting_fits : now.mode ≡ Counting → Fitting Counting g (run_in now) now.left.0 now.found now.level
   counting_fits m = fits Counting m
 
   pub counting_kept : now.mode ≡ Counting
-      → state_of (keeping g now bytes) ≡ counting now.left now.level (run_in now) (bits_in now bytes)
-  counting_kept m = kept_as (counting now.left now.level (run_in now) (bits_in now bytes)) m refl refl refl refl
+      → state_of (keeping g now bytes) ≡ counting now.left.0 now.level (run_in now) (bits_in now bytes)
+  counting_kept m = kept_as (counting now.left.0 now.level (run_in now) (bits_in now bytes)) m refl refl refl refl
 
-  pub waiting_fits : now.mode ≡ Waiting → Fitting Waiting g (run_in now) now.left now.found now.level
+  pub waiting_fits : now.mode ≡ Waiting → Fitting Waiting g (run_in now) now.left.0 now.found now.level
   waiting_fits m = fits Waiting m
 
   pub waiting_kept : now.mode ≡ Waiting
@@ -82,7 +82,7 @@ module _ (g : Settings) (now : Numbers) (bytes : List ℕ) (keeps : Keeps g now 
   none_kept e = rw (none_in e) at kept_bytes
 
   pub hunting_kept : now.mode ≡ Hunting
-      → (state_of (keeping g now bytes) ≡ hunting (run_in now)) × (kept [] ≡ bytes) × (now.run < g.Q)
+      → (state_of (keeping g now bytes) ≡ hunting (run_in now)) × (kept [] ≡ bytes) × (now.run.0 < g.Q)
   hunting_kept m =
       let f = fits Hunting m in
       (kept_as (hunting (run_in now)) m f.1 f.3 refl (none_in f.2), none_kept f.2, f.0)

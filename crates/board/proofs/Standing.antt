@@ -133,37 +133,23 @@ found_most Ready g run left found level r h = omega arith
 found_most Counting g run left found level r h = omega (arith, r.n_most)
 found_most Waiting g run left found level r h = omega (arith, r.n_most)
 
--- by the tests alone
-pub found_fits_most : (m : Mode) (k n Q found : ℕ) → row_settings_fit k n Q ≡ true → found_fits m found n ≡ true
-    → found < 1024
-found_fits_most m k n Q found s f = go m f
-  where
-    r : Ranged (record { k = k; n = n; Q = Q })
-    r = ranged_of (record { k = k; n = n; Q = Q }) s
-
-    go : (m : Mode) → found_fits m found n ≡ true → found < 1024
-    go Hunting f = omega (arith, eqb-true found 0 f)
-    go Ready f = omega (arith, eqb-true found 0 f)
-    go Counting f = omega (arith, ltb-true found n f, r.n_most)
-    go Waiting f = omega (arith, ltb-true found n f, r.n_most)
-
 -- what a well formed receiver is known by
 pub record Facts (x : Receiver) : Type 0 where
   pub range : Ranged (settings_of x)
-  pub fitting : Fitting x.mode (settings_of x) (run_of x.run.0 x.runlevel) x.left.0 x.found x.level
-  pub level : Level (run_of x.run.0 x.runlevel)
-  pub unused : unused_zero x.found x.bits ≡ true
+  pub fitting : Fitting x.bare.numbers.mode (settings_of x) (run_of x.bare.numbers.run.0 x.bare.numbers.runlevel) x.bare.numbers.left.0 x.bare.numbers.found x.bare.numbers.level
+  pub level : Level (run_of x.bare.numbers.run.0 x.bare.numbers.runlevel)
+  pub unused : unused_zero x.bare.numbers.found x.bits ≡ true
 
 pub facts : (x : Receiver) → well_formed x ≡ true → Facts x
 unfolding well_formed
 facts x h =
-    let s = row_settings_fit x.k.0 x.n x.q.0 in
-    let r = run_fits x.mode x.run.0 x.q.0 in
-    let u = run_level_fits x.run.0 x.runlevel in
-    let l = left_fits x.mode x.left.0 x.k.0 in
-    let f = found_fits x.mode x.found x.n in
-    let v = level_fits x.mode x.level x.runlevel in
-    let seven = both (s && r && u && l && f && v) (unused_zero x.found x.bits) h in
+    let s = row_settings_fit x.bare.settings.k.0 x.bare.settings.n x.bare.settings.q.0 in
+    let r = run_fits x.bare.numbers.mode x.bare.numbers.run.0 x.bare.settings.q.0 in
+    let u = run_level_fits x.bare.numbers.run.0 x.bare.numbers.runlevel in
+    let l = left_fits x.bare.numbers.mode x.bare.numbers.left.0 x.bare.settings.k.0 in
+    let f = found_fits x.bare.numbers.mode x.bare.numbers.found x.bare.settings.n in
+    let v = level_fits x.bare.numbers.mode x.bare.numbers.level x.bare.numbers.runlevel in
+    let seven = both (s && r && u && l && f && v) (unused_zero x.bare.numbers.found x.bits) h in
     let six = both (s && r && u && l && f) v seven.0 in
     let five = both (s && r && u && l) f six.0 in
     let four = both (s && r && u) l five.0 in
@@ -171,15 +157,15 @@ facts x h =
     record {
       range = ranged_of (settings_of x) three.0;
       fitting =
-          fitting_of x.mode (settings_of x) (run_of x.run.0 x.runlevel) x.left.0 x.found x.level
+          fitting_of x.bare.numbers.mode (settings_of x) (run_of x.bare.numbers.run.0 x.bare.numbers.runlevel) x.bare.numbers.left.0 x.bare.numbers.found x.bare.numbers.level
           (three.1, four.1, five.1, six.1);
-      level = level_of (run_of x.run.0 x.runlevel) three.2;
+      level = level_of (run_of x.bare.numbers.run.0 x.bare.numbers.runlevel) three.2;
       unused = seven.1;
     }
 
-pub found_below : (x : Receiver) → Facts x → x.found < 1024
+pub found_below : (x : Receiver) → Facts x → x.bare.numbers.found < 1024
 found_below x h =
-    found_most x.mode (settings_of x) (run_of x.run.0 x.runlevel) x.left.0 x.found x.level h.range
+    found_most x.bare.numbers.mode (settings_of x) (run_of x.bare.numbers.run.0 x.bare.numbers.runlevel) x.bare.numbers.left.0 x.bare.numbers.found x.bare.numbers.level h.range
     h.fitting
 
 -- the state of a well formed receiver is well formed
@@ -189,43 +175,43 @@ valid_of x h =
     record {
       range = f.range;
       fitting =
-          fitting_fewer x.mode (settings_of x) (run_of x.run.0 x.runlevel) x.left.0 x.found
-          (length (take x.found (unpacked 8 x.bits))) x.level
-          (omega (arith, length-take x.found (unpacked 8 x.bits))) f.fitting;
+          fitting_fewer x.bare.numbers.mode (settings_of x) (run_of x.bare.numbers.run.0 x.bare.numbers.runlevel) x.bare.numbers.left.0 x.bare.numbers.found
+          (length (take x.bare.numbers.found (unpacked 8 x.bits))) x.bare.numbers.level
+          (omega (arith, length-take x.bare.numbers.found (unpacked 8 x.bits))) f.fitting;
       level = f.level;
-      binary = binary_take x.found (unpacked 8 x.bits) (unpacked_binary 8 x.bits);
+      binary = binary_take x.bare.numbers.found (unpacked 8 x.bits) (unpacked_binary 8 x.bits);
     }
 
 -- a well formed receiver of 128 bytes is the one that keeps its state
 
 module _ (x : Receiver) (long : length x.bits ≡ 128) (bytes : Words 8 x.bits) (h : well_formed x ≡ true) where
-  pub found_is : length (take x.found (unpacked 8 x.bits)) ≡ x.found
+  pub found_is : length (take x.bare.numbers.found (unpacked 8 x.bits)) ≡ x.bare.numbers.found
   found_is =
       omega (
         arith,
-        length-take x.found (unpacked 8 x.bits),
+        length-take x.bare.numbers.found (unpacked 8 x.bits),
         length_unpacked 8 x.bits,
         found_below x (facts x h),
       )
 
-  unused_at : (i : ℕ) → x.found ≤ i → get_or (unpacked 8 x.bits) i 0 ≡ 0
+  unused_at : (i : ℕ) → x.bare.numbers.found ≤ i → get_or (unpacked 8 x.bits) i 0 ≡ 0
   unfolding unused_zero
   unused_at i p =
-      let e : x.found + (i - x.found) ≡ i = omega arith in
-      rw e at (sym (get_or-drop x.found (unpacked 8 x.bits) (i - x.found) 0)
-      ∙ zero_at (drop x.found (unpacked 8 x.bits)) (i - x.found) (facts x h).unused)
+      let e : x.bare.numbers.found + (i - x.bare.numbers.found) ≡ i = omega arith in
+      rw e at (sym (get_or-drop x.bare.numbers.found (unpacked 8 x.bits) (i - x.bare.numbers.found) 0)
+      ∙ zero_at (drop x.bare.numbers.found (unpacked 8 x.bits)) (i - x.bare.numbers.found) (facts x h).unused)
 
-  taken_at : (i : ℕ) → get_or (take x.found (unpacked 8 x.bits)) i 0 ≡ get_or (unpacked 8 x.bits) i 0
-  taken_at i = go (dec_lt i x.found)
+  taken_at : (i : ℕ) → get_or (take x.bare.numbers.found (unpacked 8 x.bits)) i 0 ≡ get_or (unpacked 8 x.bits) i 0
+  taken_at i = go (dec_lt i x.bare.numbers.found)
     where
-      go : Dec (i < x.found) → get_or (take x.found (unpacked 8 x.bits)) i 0 ≡ get_or (unpacked 8 x.bits) i 0
-      go (yes p) = get_or-take x.found (unpacked 8 x.bits) i 0 p
+      go : Dec (i < x.bare.numbers.found) → get_or (take x.bare.numbers.found (unpacked 8 x.bits)) i 0 ≡ get_or (unpacked 8 x.bits) i 0
+      go (yes p) = get_or-take x.bare.numbers.found (unpacked 8 x.bits) i 0 p
       go (no p) =
-          get_or-eq_default (take x.found (unpacked 8 x.bits)) 0 {n = i} (omega (arith, found_is))
+          get_or-eq_default (take x.bare.numbers.found (unpacked 8 x.bits)) 0 {n = i} (omega (arith, found_is))
           ∙ sym (unused_at i (omega arith))
 
-  pub bits_are : kept (take x.found (unpacked 8 x.bits)) ≡ x.bits
-  bits_are = packed_cong 8 128 (take x.found (unpacked 8 x.bits)) (unpacked 8 x.bits) taken_at
+  pub bits_are : kept (take x.bare.numbers.found (unpacked 8 x.bits)) ≡ x.bits
+  bits_are = packed_cong 8 128 (take x.bare.numbers.found (unpacked 8 x.bits)) (unpacked 8 x.bits) taken_at
       ∙ packed_unpacked 8 128 x.bits long bytes
 
   pub receiver_of_state : receiver_of (settings_of x) (state_of x) ≡ x

@@ -3,7 +3,7 @@
 use Prim.Native.Nat.{ℕ, zero, suc, ◌+◌, ◌-◌, ◌*◌, ◌/◌, ◌%◌, ◌^◌, ◌≤◌, ◌<◌}
 use mathlib.Core.Path.{◌≡◌, refl, sym, ◌∙◌, ap}
 use mathlib.Core.List.{List, [], ◌∷◌, ◌++◌}
-use mathlib.Core.Bool.{true, false, ◌&&◌, and_assoc, and-true, and-false}
+use mathlib.Core.Bool.{true, false, ◌&&◌, and_assoc, and-false}
 use native.Mathlib.Nat.{pow-succ', zero-mul, suc-mul}
 use native.Mathlib.Omega.{arith}
 use native.Mathlib.Decide.{dec_lt}
@@ -11,7 +11,7 @@ use native.Mathlib.Numerals.{add-one}
 use borrow.Author.Tests.{lt-ltb, le-ltb, eq-eqb, ne_eqb, eqb-true}
 use lib.Bits.{bit_and, bit_or, or_add_and, and_le_l, and_le_r}
 use lib.Dec.{eqb, ltb}
-use lib.ListN.{length, get_or, take, drop, replicate, take-append-drop, drop_of_length-le}
+use lib.ListN.{length, get_or, take, drop, replicate, take-append-drop}
 use lib.Seq.{drop-append-le, drop-append-add, drop_at, drop-cons}
 use Rattle.measure.proofs.Both.{both}
 use Rattle.board.specs.Packed.{digits, packed, unpacked}
@@ -80,12 +80,6 @@ pub looked_on : (l : List ℕ) (all i : ℕ) → i < length l → (eqb all 0 && 
 looked_on l all i h so_far =
     rw (or_zero all (get_or l i 0), add-one i)
     (and_assoc (eqb all 0) (eqb (get_or l i 0) 0) (all_zero (drop (suc i) l)) ∙ (rw (drop-cons l i 0 h) at so_far))
-
--- all are looked at
-pub looked_all : (l : List ℕ) (all i : ℕ) → length l ≤ i → (eqb all 0 && all_zero (drop i l)) ≡ all_zero l
-    → all_zero l ≡ eqb all 0
-looked_all l all i h so_far =
-    sym so_far ∙ rw (drop_of_length-le l {i = i} h) (and-true (eqb all 0))
 
 -- two tests that hold of the same numbers are one test
 same_test : (a b c d : ℕ) → (a < b → c < d) → (b ≤ a → d ≤ c) → ltb a b ≡ ltb c d

@@ -1,10 +1,11 @@
 -- Rules B and R: what starting, one read, and reads up to the first event answer, for all input; and what each case of
 -- the code says.
-use Rattle.std.specs.Prelude.{ℕ, List, [], ◌∷◌, Bool, true, false, ◌&&◌, length, take, leb, ltb}
+use Rattle.std.specs.Prelude.{ℕ, List, [], ◌∷◌, Bool, true, false, ◌&&◌, length, take, leb, ltb, Option, None, Some, Result}
 use Rattle.measure.specs.Choose.{choose}
 use Rattle.measure.specs.Ranges.{entries_most, row_settings_fit}
 use Rattle.measure.specs.Lists.{first_above, some_above}
-use Rattle.measure.specs.Refusals.{Answer, given, refused, refused_after, denied}
+use Rattle.measure.specs.Refusals.{Answer, given, refused, refused_after, says}
+use Rattle.measure.specs.declared.Refusal.{Refusal}
 use Rattle.board.specs.Rows.{Settings, State, Event, nothing, row, broken, next, fresh}
 use Rattle.board.specs.Feeding.{Report, reports, after, first_event, used_of}
 use Rattle.board.specs.Packed.{unpacked, kept, whole, settings_of, state_of, receiver_of}
@@ -12,9 +13,7 @@ use Rattle.board.specs.WellFormed.{well_formed}
 use Rattle.board.specs.declared.Mode.TheVariants.{Hunting}
 use Rattle.board.specs.declared.Receiver.{Receiver}
 use Rattle.board.specs.declared.Event.{Event as CodeEvent}
-use Rattle.board.specs.declared.Event.TheVariants.{Nothing, Row, Broken, Refused}
-use Rattle.board.specs.declared.Start.{Start}
-use Rattle.board.specs.declared.Start.TheVariants.{Fresh, Refused as StartRefused}
+use Rattle.board.specs.declared.Event.TheVariants.{Row, Broken}
 use Rattle.board.specs.declared.Stepped.{Stepped}
 use Rattle.board.specs.declared.Listened.{Listened}
 use Rattle.board.specs.declared.Told.{Told}
@@ -44,15 +43,17 @@ refusing x number place = record { receiver = x; answer = refused number place; 
 abbrev pub refused_fresh : Receiver
 refused_fresh =
     record {
-      k = record { 0 = 0 };
-      n = 0;
-      q = record { 0 = 0 };
-      mode = Hunting;
-      run = record { 0 = 0 };
-      runlevel = 0;
-      left = record { 0 = 0 };
-      level = 0;
-      found = 0;
+      bare = record {
+        settings = record { k = record { 0 = 0 }; n = 0; q = record { 0 = 0 } };
+        numbers = record {
+          mode = Hunting;
+          run = record { 0 = 0 };
+          runlevel = 0;
+          left = record { 0 = 0 };
+          level = 0;
+          found = 0;
+        };
+      };
       bits = kept [];
     }
 
@@ -117,32 +118,35 @@ in_lent before (outcome, used) = (
   used,
 )
 
--- A8: what each case of the code's answers says; a row's bits stand beside the event, n of them
-abbrev pub event_says : (n : ℕ) (bytes : List ℕ) → CodeEvent → Answer Event
-event_says n bytes Nothing = given nothing
-event_says n bytes Row = given (row (take n (unpacked 8 bytes)))
-event_says n bytes (Broken found) = given (broken found)
-event_says n bytes (Refused refusal) = denied refusal
+-- A8: what each case of the code's events is; a row's bits stand beside the event, n of them
+abbrev pub event_of : (n : ℕ) (bytes : List ℕ) → Option CodeEvent → Event
+event_of n bytes None = nothing
+event_of n bytes (Some Row) = row (take n (unpacked 8 bytes))
+event_of n bytes (Some (Broken found)) = broken found
+
+-- A8: and what the code's answers say
+abbrev pub event_says : (n : ℕ) (bytes : List ℕ) → Result (Option CodeEvent) Refusal → Answer Event
+event_says n bytes answer = says (event_of n bytes) answer
 
 -- A8: the same of starting, of one read, and of reads up to an event
-abbrev pub start_says : Start → Answer Event
-start_says Fresh = given nothing
-start_says (StartRefused refusal) = denied refusal
+abbrev pub start_says : Result (Unit {0}) Refusal → Answer Event
+start_says answer = says (λ started. nothing) answer
 
 -- A8
 abbrev pub stepped_says : Stepped → Outcome
-stepped_says x = record { receiver = x.receiver; answer = event_says x.receiver.n x.row x.event; row = x.row }
+stepped_says x =
+    record { receiver = x.receiver; answer = event_says x.receiver.bare.settings.n x.row x.event; row = x.row }
 
 -- A8
 abbrev pub listened_says : Listened → Outcome × ℕ
 listened_says x = (
-  record { receiver = x.receiver; answer = event_says x.receiver.n x.row x.event; row = x.row },
+  record { receiver = x.receiver; answer = event_says x.receiver.bare.settings.n x.row x.event; row = x.row },
   x.used.0,
 )
 
 -- A8: of bare numbers, beside the bits and the row's bytes as they are left
 abbrev pub told_says : Told → (bits row : List ℕ) → Outcome × ℕ
 told_says x bits bytes = (
-  record { receiver = whole x.bare bits; answer = event_says x.bare.n bytes x.event; row = bytes },
+  record { receiver = whole x.bare bits; answer = event_says x.bare.settings.n bytes x.event; row = bytes },
   x.used.0,
 )

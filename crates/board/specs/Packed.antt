@@ -3,7 +3,10 @@
 use Rattle.std.specs.Prelude.{ℕ, zero, suc, ◌+◌, ◌*◌, ◌/◌, ◌%◌, List, [], ◌∷◌, ◌++◌, length, take, drop}
 use Rattle.board.specs.Rows.{Settings, run_of, State}
 use Rattle.board.specs.declared.Bare.{Bare}
+use Rattle.board.specs.declared.Mode.{Mode}
+use Rattle.board.specs.declared.Mode.TheVariants.{Hunting, Ready, Counting, Waiting}
 use Rattle.board.specs.declared.Receiver.{Receiver}
+use Rattle.measure.specs.declared.RowSettings.{RowSettings}
 
 -- B30: the number whose binary digits, lowest first, are the first `width` entries of a list; a place past the end
 -- counts as 0
@@ -33,47 +36,52 @@ kept bits = packed 8 128 bits
 
 -- B1, B32: the receiver that bare numbers and lent bits make
 abbrev pub whole : Bare → (bits : List ℕ) → Receiver
-whole x bits =
-    record {
-      k = x.k;
-      n = x.n;
-      q = x.q;
-      mode = x.mode;
-      run = x.run;
-      runlevel = x.runlevel;
-      left = x.left;
-      level = x.level;
-      found = x.found;
-      bits = bits;
-    }
+whole x bits = record { bare = x; bits = bits }
+
+-- B1: what the code's settings are in the rules, and the other way
+abbrev pub rules_of : RowSettings → Settings
+rules_of x = record { k = x.k.0; n = x.n; Q = x.q.0 }
+
+-- B1
+abbrev pub settings_as : Settings → RowSettings
+settings_as g = record { k = record { 0 = g.k }; n = g.n; q = record { 0 = g.Q } }
 
 -- B1: the settings that a receiver keeps
 abbrev pub settings_of : Receiver → Settings
-settings_of x = record { k = x.k.0; n = x.n; Q = x.q.0 }
+settings_of x = rules_of x.bare.settings
 
 -- B1, B30: the state that a receiver keeps
 abbrev pub state_of : Receiver → State
 state_of x =
     record {
-      mode = x.mode;
-      left = x.left.0;
-      level = x.level;
-      run = run_of x.run.0 x.runlevel;
-      bits = take x.found (unpacked 8 x.bits);
+      mode = x.bare.numbers.mode;
+      left = x.bare.numbers.left.0;
+      level = x.bare.numbers.level;
+      run = run_of x.bare.numbers.run.0 x.bare.numbers.runlevel;
+      bits = take x.bare.numbers.found (unpacked 8 x.bits);
     }
 
 -- B1, B30: the receiver that keeps settings and a state
 abbrev pub receiver_of : Settings → State → Receiver
 receiver_of g s =
     record {
-      k = record { 0 = g.k };
-      n = g.n;
-      q = record { 0 = g.Q };
-      mode = s.mode;
-      run = record { 0 = s.run.reads };
-      runlevel = s.run.level;
-      left = record { 0 = s.left };
-      level = s.level;
-      found = length s.bits;
+      bare = record {
+        settings = settings_as g;
+        numbers = record {
+          mode = s.mode;
+          run = record { 0 = s.run.reads };
+          runlevel = s.run.level;
+          left = record { 0 = s.left };
+          level = s.level;
+          found = length s.bits;
+        };
+      };
       bits = kept s.bits;
     }
+
+-- H8: a mode's number, in the order of the rules
+abbrev pub mode_number : Mode → ℕ
+mode_number Hunting = 0
+mode_number Ready = 1
+mode_number Counting = 2
+mode_number Waiting = 3

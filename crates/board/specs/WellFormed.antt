@@ -52,10 +52,10 @@ unused_zero found bytes = all_zero (drop found (unpacked 8 bytes))
 -- B20 to B25, B28, R49: all of these
 unfoldable pub well_formed : Receiver → Bool
 well_formed x =
-    row_settings_fit x.k.0 x.n x.q.0
-    && run_fits x.mode x.run.0 x.q.0
-    && run_level_fits x.run.0 x.runlevel
-    && left_fits x.mode x.left.0 x.k.0
-    && found_fits x.mode x.found x.n
-    && level_fits x.mode x.level x.runlevel
-    && unused_zero x.found x.bits
+    row_settings_fit x.bare.settings.k.0 x.bare.settings.n x.bare.settings.q.0
+    && run_fits x.bare.numbers.mode x.bare.numbers.run.0 x.bare.settings.q.0
+    && run_level_fits x.bare.numbers.run.0 x.bare.numbers.runlevel
+    && left_fits x.bare.numbers.mode x.bare.numbers.left.0 x.bare.settings.k.0
+    && found_fits x.bare.numbers.mode x.bare.numbers.found x.bare.settings.n
+    && level_fits x.bare.numbers.mode x.bare.numbers.level x.bare.numbers.runlevel
+    && unused_zero x.bare.numbers.found x.bits

@@ -1,127 +1,80 @@
 // One read, which is a level: what listening makes of it, with no loop around it. A caller that has one read at hand
-// pays for no more.
+// pays for no more: through the loops of `hear` a step took more instructions than plain Rust's, and takes fewer here.
 ghost use Rattle.std.specs.Prelude.{◌≡◌, [], ◌∷◌, ◌≤◌};
-ghost use Rattle.board.specs.Packed.{state_of};
-ghost use Rattle.board.specs.Listening.{settings_from, keeping, Keeps, Hears};
+ghost use Rattle.board.specs.Packed.{whole, rules_of, state_of};
+ghost use Rattle.board.specs.Listening.{Keeps, heard_from, heard_says};
 
-use crate::Mode;
 use crate::listening::{Heard, longer};
-use crate::state::{Numbers, put};
-use measure::HIGH;
+use crate::state::put;
+use crate::{Bare, Mode, Numbers};
+use measure::ReadCycles;
 
 // Listens to one read.
-pub fn hear_one(
-    read: u8,
-    bits: &mut [u8; 128],
-    start: Numbers,
-    k: usize,
-    n: usize,
-    q: usize,
-) -> Heard
-    requires keeps { Keeps (settings_from k n q) start bits.old }
+pub fn hear_one(read: u8, bits: &mut [u8; 128], start: Bare) -> Heard
+    requires keeps { Keeps (rules_of start.settings) start.numbers bits.old }
     requires read_bound { read ≤ 1 }
-    ensures { Hears (settings_from k n q) (state_of (keeping (settings_from k n q) start bits.old)) 0
-        (read ∷ []) bits.new result }
+    ensures { (x : _)
+        → heard_from x (rules_of start.settings) (state_of (whole start bits.old)) 0 (read ∷ [])
+        ≡ heard_says (rules_of start.settings) bits.new result }
 {
-    let mode = start.mode;
-    let found = start.found;
-    let level = start.level;
-    match mode {
+    let settings = start.settings;
+    let now = start.numbers;
+    let q = settings.q.0;
+    let level = now.level;
+    let found = now.found;
+    match now.mode {
         Mode::Hunting => {
-            let run = longer(start.run, start.runlevel, read);
+            let run = longer(now.run.0, now.runlevel, read);
             if run == q {
-                return Heard::Ended(Numbers {
-                    mode: Mode::Ready,
-                    run: q,
-                    runlevel: read,
-                    left: 0,
-                    level: read,
-                    found: 0,
-                });
+                return Heard::nothing(Numbers::ready(settings.q, read), 1);
             }
-            Heard::Ended(Numbers {
-                mode: Mode::Hunting,
-                run: run,
-                runlevel: read,
-                left: 0,
-                level: HIGH,
-                found: 0,
-            })
+            Heard::nothing(Numbers::hunting(ReadCycles(run), read), 1)
         }
         Mode::Ready => {
-            let quiet = start.runlevel;
+            let quiet = now.runlevel;
             if read == quiet {
-                return Heard::Ended(Numbers {
-                    mode: Mode::Ready,
-                    run: q,
-                    runlevel: quiet,
-                    left: 0,
-                    level: quiet,
-                    found: 0,
-                });
+                return Heard::nothing(now, 1);
             }
-            Heard::Ended(Numbers {
-                mode: Mode::Counting,
-                run: 1,
-                runlevel: read,
-                left: k,
-                level: read,
-                found: 0,
-            })
+            Heard::nothing(Numbers::marked(settings.k, ReadCycles(1), read, 0), 1)
         }
         Mode::Counting => {
-            let run = longer(start.run, start.runlevel, read);
+            let run = longer(now.run.0, now.runlevel, read);
             if run == q {
-                return Heard::Broken(found, read, 1);
+                return Heard::broken(settings.q, found, read, 1);
             }
-            let left = start.left - 1;
+            let left = now.left.0 - 1;
             if left == 0 {
                 put(bits, found, level, read);
                 let more = found + 1;
+                let n = settings.n;
                 if more == n {
-                    return Heard::Full(run, read, 1);
+                    return Heard::row(ReadCycles(run), read, 1);
                 }
-                return Heard::Ended(Numbers {
-                    mode: Mode::Waiting,
-                    run: run,
-                    runlevel: read,
-                    left: 0,
-                    level: read,
-                    found: more,
-                });
+                return Heard::nothing(Numbers::sampled(ReadCycles(run), read, more), 1);
             }
-            Heard::Ended(Numbers {
-                mode: Mode::Counting,
-                run: run,
+            let counted = Numbers {
+                run: ReadCycles(run),
                 runlevel: read,
-                left: left,
-                level: level,
-                found: found,
-            })
+                left: ReadCycles(left),
+                ..now
+            };
+            Heard::nothing(counted, 1)
         }
         Mode::Waiting => {
-            let run = longer(start.run, start.runlevel, read);
+            let run = longer(now.run.0, now.runlevel, read);
             if run == q {
-                return Heard::Broken(found, read, 1);
+                return Heard::broken(settings.q, found, read, 1);
             }
             if read == level {
-                return Heard::Ended(Numbers {
-                    mode: Mode::Waiting,
-                    run: run,
+                let waited = Numbers {
+                    run: ReadCycles(run),
                     runlevel: read,
-                    left: 0,
-                    level: level,
-                    found: found,
-                });
+                    ..now
+                };
+                return Heard::nothing(waited, 1);
             }
-            Heard::Ended(Numbers {
-                mode: Mode::Counting,
-                run: run,
-                runlevel: read,
-                left: k,
-                level: read,
-                found: found,
-            })
+            let marked = Numbers::marked(settings.k, ReadCycles(run), read, found);
+            Heard::nothing(marked, 1)
         }
     }
 }

@@ -1,26 +1,14 @@
 // What a receiver keeps, and when that is well formed.
-ghost use Rattle.std.specs.Prelude.{◌≡◌, true, ◌&&◌, [], ℕ, ◌+◌, ◌*◌, ◌/◌, ◌%◌, ◌^◌, ◌≤◌, ◌<◌, leb, ltb, length, get_or, set};
-ghost use Rattle.board.specs.Rows.{run_of};
-ghost use Rattle.board.specs.Packed.{kept, whole, receiver_of};
+ghost use Rattle.std.specs.Prelude.{◌≡◌, ◌&&◌, ◌+◌, ◌*◌, ◌/◌, ◌%◌, ◌^◌, ◌<◌, [], leb, ltb, get_or, set};
+ghost use Rattle.board.specs.Packed.{kept};
 ghost use Rattle.board.specs.WellFormed.{run_fits, run_level_fits, left_fits, found_fits, level_fits, all_zero};
-ghost use Rattle.board.specs.WellFormed.{unused_zero, well_formed};
-ghost use Rattle.board.specs.Listening.{settings_from, keeping, Keeps};
+ghost use Rattle.board.specs.WellFormed.{unused_zero};
+ghost use Rattle.board.specs.Listening.{hunting_at, ready_at, marked_at, sampled_at};
 ghost use Rattle.measure.specs.Ranges.{bits_most};
 ghost use Rattle.measure.specs.Cells.{bit_of};
 
-use crate::{Bare, Mode};
+use crate::{Mode, Numbers};
 use measure::{HIGH, ReadCycles};
-
-// What a read can change beside the bits. Kept apart from the 128 bytes, so that a read moves none of them.
-#[derive(Clone, Copy)]
-pub struct Numbers {
-    pub mode: Mode,
-    pub run: usize,
-    pub runlevel: u8,
-    pub left: usize,
-    pub level: u8,
-    pub found: usize,
-}
 
 // No bits.
 pub fn none() -> [u8; 128]
@@ -29,85 +17,121 @@ pub fn none() -> [u8; 128]
     [0u8; 128]
 }
 
-// The numbers of a receiver in hunting or ready, which keep no bits.
-pub fn idle(mode: Mode, run: usize, runlevel: u8, level: u8, k: usize, n: usize, q: usize) -> Bare
-    ensures { receiver_of (settings_from k n q)
-        (record { mode = mode; left = 0; level = level; run = run_of run runlevel; bits = [] }) ≡ whole result (kept []) }
-{
-    Bare {
-        k: ReadCycles(k),
-        n: n,
-        q: ReadCycles(q),
-        mode: mode,
-        run: ReadCycles(run),
-        runlevel: runlevel,
-        left: ReadCycles(0),
-        level: level,
-        found: 0,
+impl Numbers {
+    // Hunting, which keeps no bits.
+    pub(crate) fn hunting(run: ReadCycles, runlevel: u8) -> Numbers
+        ensures { result ≡ hunting_at run runlevel }
+    {
+        Numbers {
+            mode: Mode::Hunting,
+            run,
+            runlevel,
+            left: ReadCycles(0),
+            level: HIGH,
+            found: 0,
+        }
     }
-}
 
-// Whether a run has begun and is short of q.
-fn running(run: usize, q: usize) -> bool
-    ensures { (leb 1 run && ltb run q) ≡ result }
-{
-    if run == 0 {
-        return false;
+    // Ready after so many reads of a level, which keeps no bits.
+    pub(crate) fn ready(run: ReadCycles, level: u8) -> Numbers
+        ensures { result ≡ ready_at run level }
+    {
+        Numbers {
+            mode: Mode::Ready,
+            run,
+            runlevel: level,
+            left: ReadCycles(0),
+            level,
+            found: 0,
+        }
     }
-    run < q
-}
 
-fn run_fits(mode: Mode, run: usize, q: usize) -> bool
-    ensures { run_fits mode run q ≡ result }
-{
-    match mode {
-        Mode::Hunting => run < q,
-        Mode::Ready => run == q,
-        Mode::Counting => running(run, q),
-        Mode::Waiting => running(run, q),
+    // Counting, at a mark, whose sample is k reads away.
+    pub(crate) fn marked(k: ReadCycles, run: ReadCycles, mark: u8, found: usize) -> Numbers
+        ensures { result ≡ marked_at k run mark found }
+    {
+        Numbers {
+            mode: Mode::Counting,
+            run,
+            runlevel: mark,
+            left: k,
+            level: mark,
+            found,
+        }
     }
-}
 
-fn run_level_fits(run: usize, runlevel: u8) -> bool
-    ensures { run_level_fits run runlevel ≡ result }
-{
-    if run == 0 {
-        runlevel == HIGH
-    } else {
-        runlevel <= HIGH
+    // Waiting, at a sample.
+    pub(crate) fn sampled(run: ReadCycles, sample: u8, found: usize) -> Numbers
+        ensures { result ≡ sampled_at run sample found }
+    {
+        Numbers {
+            mode: Mode::Waiting,
+            run,
+            runlevel: sample,
+            left: ReadCycles(0),
+            level: sample,
+            found,
+        }
     }
-}
 
-fn left_fits(mode: Mode, left: usize, k: usize) -> bool
-    ensures { left_fits mode left k ≡ result }
-{
-    match mode {
-        Mode::Hunting => left == 0,
-        Mode::Ready => left == 0,
-        Mode::Counting => measure::between(1, k, left),
-        Mode::Waiting => left == 0,
+    // Whether the run has begun and is short of q.
+    fn running(self, q: ReadCycles) -> bool
+        ensures { (leb 1 self.run.0 && ltb self.run.0 q.0) ≡ result }
+    {
+        1 <= self.run.0 && self.run.0 < q.0
     }
-}
 
-fn found_fits(mode: Mode, found: usize, n: usize) -> bool
-    ensures { found_fits mode found n ≡ result }
-{
-    match mode {
-        Mode::Hunting => found == 0,
-        Mode::Ready => found == 0,
-        Mode::Counting => found < n,
-        Mode::Waiting => found < n,
+    // Whether the run is q in ready and below q in any other mode, and is not 0 within a row.
+    pub(crate) fn run_fits(self, q: ReadCycles) -> bool
+        ensures { run_fits self.mode self.run.0 q.0 ≡ result }
+    {
+        match self.mode {
+            Mode::Hunting => self.run.0 < q.0,
+            Mode::Ready => self.run.0 == q.0,
+            Mode::Counting | Mode::Waiting => self.running(q),
+        }
     }
-}
 
-fn level_fits(mode: Mode, level: u8, runlevel: u8) -> bool
-    ensures { level_fits mode level runlevel ≡ result }
-{
-    match mode {
-        Mode::Hunting => level == HIGH,
-        Mode::Ready => level == runlevel,
-        Mode::Counting => level <= HIGH,
-        Mode::Waiting => level <= HIGH,
+    // Whether the run's level is a level, and high where no read has come.
+    pub(crate) fn run_level_fits(self) -> bool
+        ensures { run_level_fits self.run.0 self.runlevel ≡ result }
+    {
+        if self.run.0 == 0 {
+            self.runlevel == HIGH
+        } else {
+            self.runlevel <= HIGH
+        }
+    }
+
+    // Whether the reads left are 1 to k in counting, and 0 in any other mode.
+    pub(crate) fn left_fits(self, k: ReadCycles) -> bool
+        ensures { left_fits self.mode self.left.0 k.0 ≡ result }
+    {
+        match self.mode {
+            Mode::Counting => measure::between(1, k.0, self.left.0),
+            Mode::Hunting | Mode::Ready | Mode::Waiting => self.left.0 == 0,
+        }
+    }
+
+    // Whether the bits found are fewer than n within a row, and 0 outside one.
+    pub(crate) fn found_fits(self, n: usize) -> bool
+        ensures { found_fits self.mode self.found n ≡ result }
+    {
+        match self.mode {
+            Mode::Hunting | Mode::Ready => self.found == 0,
+            Mode::Counting | Mode::Waiting => self.found < n,
+        }
+    }
+
+    // Whether the level kept is high in hunting, the run's in ready, and either level within a row.
+    pub(crate) fn level_fits(self) -> bool
+        ensures { level_fits self.mode self.level self.runlevel ≡ result }
+    {
+        match self.mode {
+            Mode::Hunting => self.level == HIGH,
+            Mode::Ready => self.level == self.runlevel,
+            Mode::Counting | Mode::Waiting => self.level <= HIGH,
+        }
     }
 }
 
@@ -119,30 +143,26 @@ fn weight(place: usize) -> u8
     1u8 << place
 }
 
-// Any 128 bytes are so many, and each is below 256. What is lent says so where it is taken by value, and there alone.
-fn sized(bits: [u8; 128])
-    ensures { (length bits ≡ 128) × ((i : ℕ) → get_or bits i 0 < 256) }
-{}
-
 // Whether every entry is 0, by the bits of all together: it takes no test for each, so that many are looked at in one
 // step.
+#[tactic(auto, using(crate::proofs::UnusedBits::looked_on))]
 fn all_zero(entries: &[u8]) -> bool
     ensures { all_zero entries.now ≡ result }
 {
     let mut all: u8 = 0;
-    let mut i = 0;
-    while i < entries.len() {
-        let entry = entries[i];
-        all = all | entry;
-        i += 1;
+    for entry in entries {
+        all |= *entry;
     }
     all == 0
 }
 
 // Whether the places from the number found on hold 0: first those of the byte that the next bit falls in, then whole
-// bytes. Up to 512 bits these are looked at in two parts of fixed length, which overlap and take no loop.
-fn unused_zero(bits: &[u8; 128], found: usize) -> bool
-    requires { (found < bits_most) × (length bits.now ≡ 128) × ((i : ℕ) → get_or bits.now i 0 < 256) }
+// bytes. Up to 512 bits these are looked at in two parts of fixed length, which overlap and take no loop. Kept out of
+// its callers, so that they have their registers for the numbers: where all is inlined, a step took 60 instructions
+// more with it inside.
+#[inline(never)]
+pub fn unused_zero(bits: &[u8; 128], found: usize) -> bool
+    requires { found < bits_most }
     ensures { unused_zero found bits.now ≡ result }
 {
     let at = found / 8;
@@ -161,36 +181,6 @@ fn unused_zero(bits: &[u8; 128], found: usize) -> bool
     all_zero(&whole[next..])
 }
 
-// Whether settings, numbers and bits make a well formed receiver, and so one that keeps its state.
-pub fn fits(numbers: Numbers, bits: &[u8; 128], k: usize, n: usize, q: usize) -> bool
-    ensures { (result ≡ well_formed (keeping (settings_from k n q) numbers bits.now))
-        × (result ≡ true → Keeps (settings_from k n q) numbers bits.now) }
-{
-    let mode = numbers.mode;
-    let found = numbers.found;
-    if !measure::row_settings_fit(ReadCycles(k), n, ReadCycles(q)) {
-        return false;
-    }
-    if !run_fits(mode, numbers.run, q) {
-        return false;
-    }
-    if !run_level_fits(numbers.run, numbers.runlevel) {
-        return false;
-    }
-    if !left_fits(mode, numbers.left, k) {
-        return false;
-    }
-    if !found_fits(mode, found, n) {
-        return false;
-    }
-    if !level_fits(mode, numbers.level, numbers.runlevel) {
-        return false;
-    }
-    let whole = *bits;
-    sized(whole);
-    unused_zero(bits, found)
-}
-
 // Puts the bit of a cell, by its mark and its sample, in a place that holds 0, as do all later ones.
 pub fn put(bits: &mut [u8; 128], at: usize, mark: u8, sample: u8)
     requires { (at < bits_most) × (get_or bits.old (at / 8) 0 < 2 ^ (at % 8)) }
@@ -198,8 +188,6 @@ pub fn put(bits: &mut [u8; 128], at: usize, mark: u8, sample: u8)
         (get_or bits.old (at / 8) 0 + bit_of mark sample * 2 ^ (at % 8)) ≡ bits.new }
 {
     if sample != mark {
-        let j = at / 8;
-        let old = bits[j];
-        bits[j] = old + weight(at % 8);
+        bits[at / 8] += weight(at % 8);
     }
 }

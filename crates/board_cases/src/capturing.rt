@@ -1,34 +1,20 @@
 // The capture file: checked, read and written.
-use capture::{Checked, Written};
-use cases::reading::Numbers;
-use cases::show;
-use measure::ReadCycles;
+use capture::Summary;
+use cases::{reading, show};
+use measure::{ReadCycles, Refusal, RowSettings};
 use std::io;
 
 // The settings and the reads that a capture has.
-fn checked(rt: &impl Print, answer: Checked) -> io::Result<usize> {
+fn checked(rt: &impl Print, answer: Result<Summary, Refusal>) -> io::Result<usize> {
     match answer {
-        Checked::Capture(summary) => {
-            show::count(rt, summary.k.0)?;
-            show::count(rt, summary.n)?;
-            show::count(rt, summary.q.0)?;
+        Ok(summary) => {
+            show::count(rt, summary.settings.k.0)?;
+            show::count(rt, summary.settings.n)?;
+            show::count(rt, summary.settings.q.0)?;
             show::count(rt, summary.reads.0)?;
             Ok(summary.reads.0)
         }
-        Checked::Refused(refusal) => {
-            show::refused(rt, refusal)?;
-            Ok(0)
-        }
-    }
-}
-
-fn written(rt: &impl Print, answer: Written) -> io::Result<usize> {
-    match answer {
-        Written::Bytes(size) => {
-            show::count(rt, size)?;
-            Ok(size)
-        }
-        Written::Refused(refusal) => {
+        Err(refusal) => {
             show::refused(rt, refusal)?;
             Ok(0)
         }
@@ -46,15 +32,21 @@ pub fn read_capture(rt: &impl Print, bytes: &[u8], out: &mut [u8]) -> io::Result
     checked(rt, capture::read_capture(bytes, out))
 }
 
+pub fn settings(k: usize, n: usize, q: usize) -> RowSettings {
+    RowSettings {
+        k: ReadCycles(k),
+        n,
+        q: ReadCycles(q),
+    }
+}
+
 // k n Q, and the reads
 pub fn write_capture(
     rt: &impl Print,
-    n: Numbers,
+    case: &[u8],
     reads: &[u8],
     out: &mut [u8],
 ) -> io::Result<usize> {
-    written(
-        rt,
-        capture::write_capture(ReadCycles(n.n0), n.n1, ReadCycles(n.n2), reads, out),
-    )
+    let [k, n, q] = reading::numbers_of::<3>(case);
+    show::written(rt, capture::write_capture(settings(k, n, q), reads, out))
 }

@@ -22,27 +22,27 @@ const LIST: usize = CAPTURE_MOST + 1;
 // Runs the operation that a case names, and gives how many entries it has written. The name of a mode is the operation
 // of a state in that mode: it takes one read, and listens.
 fn operate(rt: &impl Print, case: &[u8], list: &[u8], out: &mut [u8]) -> io::Result<usize> {
-    let names = b"check read_capture write_capture fresh hear hunting ready counting waiting ";
-    let n = reading::numbers_of(case);
-    match reading::operation(case, names) {
-        0 => capturing::check(rt, list),
-        1 => capturing::read_capture(rt, list, out),
-        2 => capturing::write_capture(rt, n, list, out),
-        3 => hearing::fresh(rt, n),
-        4 => hearing::hear(rt, list),
-        5 => hearing::tried(rt, Mode::Hunting, n, case, list),
-        6 => hearing::tried(rt, Mode::Ready, n, case, list),
-        7 => hearing::tried(rt, Mode::Counting, n, case, list),
-        8 => hearing::tried(rt, Mode::Waiting, n, case, list),
-        _ => logging::operate(rt, n, case, list),
+    match reading::operation(case) {
+        b"check" => capturing::check(rt, list),
+        b"read_capture" => capturing::read_capture(rt, list, out),
+        b"write_capture" => capturing::write_capture(rt, case, list, out),
+        b"fresh" => hearing::fresh(rt, case),
+        b"hear" => hearing::hear(rt, list),
+        b"hunting" => hearing::tried(rt, Mode::Hunting, case, list),
+        b"ready" => hearing::tried(rt, Mode::Ready, case, list),
+        b"counting" => hearing::tried(rt, Mode::Counting, case, list),
+        b"waiting" => hearing::tried(rt, Mode::Waiting, case, list),
+        b"log_event" => logging::log_event(rt, case, list),
+        b"log_clear" => logging::log_clear(rt, case),
+        b"log_list" => logging::log_list(rt, case),
+        _ => Ok(0),
     }
 }
 
 // Runs a case on its list, into an output with so much room as it says.
 fn run(rt: &impl Print, case: &[u8], list: &[u8], lent: &mut [u8]) -> io::Result<usize> {
-    let from = 0;
     let room = reading::room(case, lent);
-    let made = operate(rt, case, list, &mut lent[from..room])?;
+    let made = operate(rt, case, list, &mut lent[..room])?;
     show::end(rt, lent, room)?;
     Ok(made)
 }
@@ -65,15 +65,9 @@ fn line(
 
 // Takes a text line by line.
 fn lines(rt: &impl Print, text: &[u8], list: &mut [u8], out: &mut [u8]) -> io::Result<()> {
-    let mut made: usize = 0;
-    let mut at = 0;
-    while at < text.len() {
-        let end = reading::find(text, at, b'\n');
-        made = line(rt, &text[at..end], made, list, out)?;
-        if text.len() <= end {
-            return Ok(());
-        }
-        at = end + 1;
+    let mut made = 0;
+    for case in text.split(|sign| *sign == b'\n') {
+        made = line(rt, case, made, list, out)?;
     }
     Ok(())
 }
@@ -85,9 +79,8 @@ fn start(
     list: &mut [u8],
     out: &mut [u8],
 ) -> io::Result<()> {
-    let from = 0;
     let size = read_full(&mut rt.reader(), input)?;
-    lines(rt, &input[from..size], list, out)
+    lines(rt, &input[..size], list, out)
 }
 
 fn main(rt: HostRuntime) -> io::Result<()> {

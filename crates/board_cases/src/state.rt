@@ -1,49 +1,39 @@
 // A receiver's state, and what a read brings, as they are printed.
-use board::{Event, Mode, Receiver};
+use board::{Event, Receiver};
 use cases::show;
+use measure::Refusal;
 use std::io;
-
-// The modes are numbered as they are for C.
-fn mode_number(mode: Mode) -> usize {
-    match mode {
-        Mode::Hunting => 0,
-        Mode::Ready => 1,
-        Mode::Counting => 2,
-        Mode::Waiting => 3,
-    }
-}
 
 fn byte(rt: &impl Print, place: usize, value: u8) -> io::Result<()> {
     if value != 0 {
         show::named(rt, b" byte ", place)?;
-        show::count(rt, value as usize)?;
+        show::count(rt, usize::from(value))?;
     }
     Ok(())
 }
 
 // The bytes that are not 0, each with its place.
 fn bytes(rt: &impl Print, packed: &[u8; 128]) -> io::Result<()> {
-    let mut i = 0;
-    while i < 128 {
-        byte(rt, i, packed[i])?;
-        i += 1;
+    for (i, value) in packed.iter().enumerate() {
+        byte(rt, i, *value)?;
     }
     Ok(())
 }
 
 // The nine numbers of a state, k n Q mode run runlevel left level found, and its bytes.
 pub fn shown(rt: &impl Print, receiver: Receiver) -> io::Result<()> {
-    let mode = receiver.mode;
+    let settings = receiver.bare.settings;
+    let numbers = receiver.bare.numbers;
     let packed = receiver.bits;
-    show::named(rt, b" state ", receiver.k.0)?;
-    show::count(rt, receiver.n)?;
-    show::count(rt, receiver.q.0)?;
-    show::count(rt, mode_number(mode))?;
-    show::count(rt, receiver.run.0)?;
-    show::count(rt, receiver.runlevel as usize)?;
-    show::count(rt, receiver.left.0)?;
-    show::count(rt, receiver.level as usize)?;
-    show::count(rt, receiver.found)?;
+    show::named(rt, b" state ", settings.k.0)?;
+    show::count(rt, settings.n)?;
+    show::count(rt, settings.q.0)?;
+    show::count(rt, numbers.mode.number())?;
+    show::count(rt, numbers.run.0)?;
+    show::count(rt, usize::from(numbers.runlevel))?;
+    show::count(rt, numbers.left.0)?;
+    show::count(rt, usize::from(numbers.level))?;
+    show::count(rt, numbers.found)?;
     bytes(rt, &packed)
 }
 
@@ -53,38 +43,36 @@ fn bit(packed: &[u8; 128], i: usize) -> usize {
         return 0;
     }
     let byte = packed[i / 8];
-    ((byte >> (i % 8)) % 2) as usize
+    usize::from((byte >> (i % 8)) % 2)
 }
 
 // The first n of packed bits.
 fn bits(rt: &impl Print, packed: &[u8; 128], n: usize) -> io::Result<()> {
-    let mut i = 0;
-    while i < n {
+    for i in 0..n {
         show::number(rt, bit(packed, i))?;
-        i += 1;
     }
     Ok(())
 }
 
-// The event that the read at a place brought.
+// What the read at a place brought.
 pub fn reported(
     rt: &impl Print,
     place: usize,
-    event: Event,
+    event: Result<Option<Event>, Refusal>,
     n: usize,
     row: &[u8; 128],
 ) -> io::Result<()> {
     match event {
-        Event::Nothing => Ok(()),
-        Event::Row => {
+        Ok(None) => Ok(()),
+        Ok(Some(Event::Row)) => {
             show::count(rt, place)?;
             show::text(rt, b" row ")?;
             bits(rt, row, n)
         }
-        Event::Broken(found) => {
+        Ok(Some(Event::Broken(found))) => {
             show::count(rt, place)?;
             show::named(rt, b" broken ", found)
         }
-        Event::Refused(refusal) => show::refused(rt, refusal),
+        Err(refusal) => show::refused(rt, refusal),
     }
 }

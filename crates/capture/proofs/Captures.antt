@@ -1,12 +1,5 @@
 -- A capture is judged by its length, then by its heading, then by its runs.
-use Prim.Native.Nat.{ℕ, ◌≤◌, ◌<◌}
-use mathlib.Core.Path.{◌≡◌}
-use mathlib.Core.List.{List}
-use mathlib.Core.Bool.{Bool, true, false}
-use native.Mathlib.Omega.{arith}
-use lib.Dec.{ltb}
-use lib.ListN.{length}
-use borrow.Author.Tests.{lt-ltb, le-ltb}
+use Rattle.std.proofs.Common.{ℕ, ◌≤◌, ◌<◌, ◌≡◌, List, Bool, true, false, arith, ltb, length, lt-ltb, le-ltb}
 use Rattle.measure.specs.Choose.{choose}
 use Rattle.measure.specs.Ranges.{capture_most}
 use Rattle.measure.specs.Refusals.{given, refused}

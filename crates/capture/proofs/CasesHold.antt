@@ -1,5 +1,5 @@
 -- The definitions compute to what the rules print.
-use mathlib.Core.Path.{refl}
+use Rattle.std.proofs.Common.{refl}
 use Rattle.measure.specs.Table.{Agree}
 use Rattle.capture.specs.Numbers.{following, group, number_at, grouped}
 use Rattle.capture.specs.Capture.{fitting_at, some_runs_from, runs_from}

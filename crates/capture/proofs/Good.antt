@@ -1,11 +1,6 @@
 -- What a capture that is accepted has: settings in range, a first level that is one, and reads that are levels and no
 -- more than a stream may have.
-use Prim.Native.Nat.{ℕ, ◌≤◌}
-use mathlib.Core.Path.{◌≡◌}
-use mathlib.Core.Bool.{true}
-use mathlib.Core.List.{List}
-use native.Mathlib.Omega.{arith}
-use lib.ListN.{length}
+use Rattle.std.proofs.Common.{ℕ, ◌≤◌, ◌≡◌, true, List, arith, length}
 use Rattle.measure.specs.Levels.{Levels}
 use Rattle.measure.specs.Ranges.{sampling, row_bits, quiet, entries_most, row_settings_fit}
 use Rattle.measure.specs.Refusals.{given}

@@ -1,17 +1,18 @@
 -- Reads become runs one run at a time: a run goes on while the reads are equal, and the runs after it are those of the
 -- reads after it.
-use Prim.Native.Nat.{ℕ, suc, ◌+◌, ◌-◌, ◌≤◌, ◌<◌}
-use mathlib.Core.Path.{◌≡◌, refl, sym, ap, ◌∙◌}
-use mathlib.Core.List.{List, [], ◌∷◌, ◌++◌}
-use native.Mathlib.Omega.{arith}
-use lib.ListN.{length, drop, get_or, length-append, drop_of_length-le}
-use lib.Seq.{sets}
-use borrow.Author.Tests.{eq-eqb, ne_eqb}
-use Rattle.capture.specs.Numbers.{further, spelled}
+use Rattle.std.proofs.Common.{ℕ, suc, ◌+◌, ◌-◌, ◌*◌, ◌≤◌, ◌<◌, ◌≡◌, refl, ap, ◌∙◌, List, [], ◌∷◌, ◌++◌, arith}
+use Rattle.std.proofs.Common.{add-zero, add-one, eqb, length, take, drop, length-append, Bool, true, false, eq-eqb}
+use Rattle.std.proofs.Common.{ne_eqb, eqb-true}
+use Rattle.std.proofs.lemmas.List.{take_rest}
+use borrow.Author.Tests.{eqb-false}
+use Rattle.measure.specs.Choose.{choose}
+use Rattle.measure.specs.Ranges.{entries_most}
+use Rattle.capture.specs.Numbers.{further, bound, spelled}
 use Rattle.capture.specs.Writing.{runs_after, runs_of, numbers}
-use Rattle.capture.proofs.Groups.{from_byte}
-use Rattle.capture.proofs.Spelling.{size_run}
-use Rattle.measure.proofs.Stores.{Stored, stored_none, stored_part, stored_all}
+use Rattle.capture.proofs.Groups.{either}
+use Rattle.capture.proofs.Runs.{sum}
+use Rattle.capture.proofs.Sinks.{Taking, Lawful, taking_all, taking_next, taking_part}
+use Rattle.capture.proofs.Spelling.{size_low}
 
 after_same : (level count read : ℕ) (l : List ℕ) → read ≡ level
     → runs_after level count (read ∷ l) ≡ runs_after level (suc count) l
@@ -27,109 +28,117 @@ after_none : (level count : ℕ) → runs_after level count [] ≡ count ∷ run
 unfolding runs_after runs_of
 after_none level count = refl
 
--- the run that begins at a place has come as far as another
-pub record Same (s : List ℕ) (at end : ℕ) : Type 0 where
-  pub run : runs_of (drop at s) ≡ runs_after (get_or s at 0) (end - at) (drop end s)
-  pub on : at < end
-  pub within : end ≤ length s
+-- how many reads at the front are of a level
+abbrev pub alike : ℕ → List ℕ → ℕ
+alike level [] = 0
+alike level (read ∷ reads) = choose (eqb read level) (suc (alike level reads)) 0
 
-pub same_none : (s : List ℕ) (at : ℕ) → at < length s → Same s at (at + 1)
+pub alike_hit : (level read : ℕ) (reads : List ℕ) → (read ≡ level → ⊥) → alike level (read ∷ reads) ≡ 0
+alike_hit level read reads h = rw (ne_eqb read level h)
+
+pub alike_miss : (level read : ℕ) (reads : List ℕ) → read ≡ level
+    → alike level (read ∷ reads) ≡ alike level reads + 1
+alike_miss level read reads h = rw (eq-eqb read level h, add-one)
+
+pub alike_within : (level : ℕ) (reads : List ℕ) → alike level reads ≤ length reads
+alike_within level [] = omega arith
+alike_within level (read ∷ reads) =
+    either (λ n. n ≤ suc (length reads)) (eqb read level) (λ e. omega (arith, alike_within level reads))
+    (λ e. omega arith)
+
+-- a run goes on over those, and then the runs of the others follow
+run_after : (level count : ℕ) (reads : List ℕ)
+    → runs_after level count reads ≡ (count + alike level reads) ∷ runs_of (drop (alike level reads) reads)
+run_after level count [] = rw add-zero (after_none level count)
+run_after level count (read ∷ reads) = go (eqb read level) refl (run_after level (suc count) reads)
+  where
+    go : (test : Bool) → eqb read level ≡ test
+        → runs_after level (suc count) reads
+        ≡ (suc count + alike level reads) ∷ runs_of (drop (alike level reads) reads)
+        → runs_after level count (read ∷ reads)
+        ≡ (count + alike level (read ∷ reads)) ∷ runs_of (drop (alike level (read ∷ reads)) (read ∷ reads))
+    go true e rest =
+        let f : suc count + alike level reads ≡ count + suc (alike level reads) = omega arith in
+        rw e (after_same level count read reads (eqb-true read level e) ∙ rest ∙ rw f)
+    go false e rest = rw (e, add-zero) (after_other level count read reads (eqb-false read level e))
+
+pub run_first : (level : ℕ) (reads : List ℕ)
+    → runs_of (level ∷ reads) ≡ (1 + alike level reads) ∷ runs_of (drop (alike level reads) reads)
 unfolding runs_of
-same_none s at h =
-    let e : at + 1 - at ≡ 1 = omega arith in
-    record { run = rw (from_byte s at (get_or s at 0) h refl, e); on = omega arith; within = omega arith }
+run_first level reads = run_after level 1 reads
 
-module _ {s : List ℕ} {at end : ℕ} (q : Same s at end) where
-  pub same_more : end < length s → get_or s end 0 ≡ get_or s at 0 → Same s at (end + 1)
-  same_more h e =
-      let f : suc (end - at) ≡ end + 1 - at = omega arith in
-      record {
-        run = q.run ∙ ap (runs_after (get_or s at 0) (end - at)) (from_byte s end (get_or s end 0) h refl)
-            ∙ after_same (get_or s at 0) (end - at) (get_or s end 0) (drop (end + 1) s) e ∙ rw f;
-        on = omega arith;
-        within = omega arith;
-      }
+-- the same with the others as the code has them
+pub next_run : (level : ℕ) (others : List ℕ) (more : ℕ) → more ≡ alike level others
+    → runs_of (level ∷ others) ≡ (1 + more) ∷ runs_of (take (length others - more) (drop more others))
+next_run level others more e = rw (take_rest, e) (run_first level others)
 
-  pub same_end : end < length s → (get_or s end 0 ≡ get_or s at 0 → ⊥)
-      → runs_of (drop at s) ≡ (end - at) ∷ runs_of (drop end s)
-  same_end h e =
-      let f = from_byte s end (get_or s end 0) h refl in
-      q.run ∙ ap (runs_after (get_or s at 0) (end - at)) f
-      ∙ after_other (get_or s at 0) (end - at) (get_or s end 0) (drop (end + 1) s) e
-      ∙ ap (λ (l : List ℕ). (end - at) ∷ runs_of l) (sym f)
+-- the runs have as many reads as there are, and few bytes
+sum_after : (level count : ℕ) (reads : List ℕ) → sum (runs_after level count reads) ≡ count + length reads
+unfolding runs_after
+sum_after level count [] = refl
+sum_after level count (read ∷ reads) =
+    either (λ runs. sum runs ≡ count + suc (length reads)) (eqb read level)
+    (λ e. omega (arith, sum_after level (suc count) reads)) (λ e. omega (arith, sum_after read 1 reads))
 
-  pub same_all : length s ≤ end → runs_of (drop at s) ≡ (end - at) ∷ runs_of (drop end s)
-  same_all h =
-      let f = drop_of_length-le s h in
-      q.run ∙ ap (runs_after (get_or s at 0) (end - at)) f ∙ after_none (get_or s at 0) (end - at)
-      ∙ ap (λ (l : List ℕ). (end - at) ∷ runs_of l) (sym f)
+pub sum_runs : (reads : List ℕ) → sum (runs_of reads) ≡ length reads
+unfolding runs_of
+sum_runs [] = refl
+sum_runs (read ∷ reads) = omega (arith, sum_after read 1 reads)
+
+pub no_runs : (reads : List ℕ) → length reads ≡ 0 → runs_of reads ≡ []
+unfolding runs_of
+no_runs [] e = refl
+no_runs (read ∷ reads) e = absurd (omega arith)
 
 -- the bytes of runs
 pub numbers_one : (v : ℕ) (vs : List ℕ) → numbers (v ∷ vs) ≡ spelled v ++ numbers vs
 unfolding numbers
 numbers_one v vs = refl
 
-runs_left : (s : List ℕ) (at end : ℕ) → runs_of (drop at s) ≡ (end - at) ∷ runs_of (drop end s)
-    → numbers (runs_of (drop at s)) ≡ spelled (end - at) ++ numbers (runs_of (drop end s))
-runs_left s at end e = ap numbers e ∙ numbers_one (end - at) (runs_of (drop end s))
-
-runs_over : (s : List ℕ) (at : ℕ) → length s ≤ at → numbers (runs_of (drop at s)) ≡ []
-unfolding runs_of numbers
-runs_over s at h = rw (drop_of_length-le s h)
-
--- runs whose bytes are counted: so many, and those of the runs still to come
-pub record Counted (s : List ℕ) (at size : ℕ) : Type 0 where
-  pub whole : size + length (numbers (runs_of (drop at s))) ≡ length (numbers (runs_of s))
-  pub few : size ≤ at
-  pub within : at ≤ length s
-
-pub counted_none : (s : List ℕ) → Counted s 0 0
-counted_none s = record { whole = omega arith; few = omega arith; within = omega arith }
-
-module _ {s : List ℕ} {at size : ℕ} (q : Counted s at size) where
-  pub counted_one : (end : ℕ) → at < end → end ≤ length s → runs_of (drop at s) ≡ (end - at) ∷ runs_of (drop end s)
-      → Counted s end (size + length (spelled (end - at)))
-  counted_one end l h e = record {
-    whole = omega (
+few_after : (level count : ℕ) (reads : List ℕ)
+    → length (numbers (runs_after level count reads)) ≤ count + 2 * length reads + 1
+unfolding runs_after numbers
+few_after level count [] = omega (arith, size_low further count, length-append (spelled count) [])
+few_after level count (read ∷ reads) =
+    either (λ runs. length (numbers runs) ≤ count + 2 * suc (length reads) + 1) (eqb read level)
+    (λ e. omega (arith, few_after level (suc count) reads))
+    (λ e.
+    omega (
       arith,
-      q.whole,
-      ap length (runs_left s at end e),
-      length-append (spelled (end - at)) (numbers (runs_of (drop end s))),
-    );
-    few = omega (arith, q.few, size_run further (end - at) (omega arith));
-    within = h;
-  }
+      size_low further count,
+      length-append (spelled count) (numbers (runs_after read 1 reads)),
+      few_after read 1 reads,
+    ))
 
-  pub counted_all : length s ≤ at → size ≡ length (numbers (runs_of s))
-  counted_all h = omega (arith, q.whole, ap length (runs_over s at h))
+pub few_bytes : (reads : List ℕ) → length (numbers (runs_of reads)) ≤ 2 * length reads
+unfolding runs_of numbers
+few_bytes [] = omega arith
+few_bytes (read ∷ reads) = omega (arith, few_after read 1 reads)
 
--- runs that are put in an output: their bytes so far, and those of the runs still to come
-pub record Laid (s out₀ : List ℕ) (from : ℕ) (out : List ℕ) (at to : ℕ) : Type 0 where
-  pub stored : Stored out₀ from (numbers (runs_of s)) out to (numbers (runs_of (drop at s)))
-  pub within : at ≤ length s
+-- of `all`, what a sink took since it was s₀, where the runs of reads are still to come
+pub record Coming {S : Type 0} (took : S → List ℕ → S → Type 0) (s₀ : S) (all : List ℕ) (s : S) (reads : List ℕ)
+    : Type 0 where
+  pub taking : Taking took s₀ all s (numbers (runs_of reads))
+  pub low : sum (runs_of reads) ≤ entries_most
 
-pub laid_none : (s out : List ℕ) (from : ℕ) → Laid s out from out 0 from
-laid_none s out from = record { stored = stored_none out from (numbers (runs_of s)); within = omega arith }
+module _ {S : Type 0} {room : S → ℕ} {took : S → List ℕ → S → Type 0} (laws : Lawful room took) {s₀ s : S}
+    {all reads : List ℕ} (q : Coming took s₀ all s reads) where
+  pub coming_all : runs_of reads ≡ [] → took s₀ all s
+  unfolding numbers
+  coming_all e = taking_all laws (rw e at q.taking)
 
-module _ {s out₀ : List ℕ} {from : ℕ} {out : List ℕ} {at to : ℕ} (q : Laid s out₀ from out at to) (end : ℕ)
-    (e : runs_of (drop at s) ≡ (end - at) ∷ runs_of (drop end s)) where
-  -- there is room for the next run
-  pub laid_room : to + length (spelled (end - at)) ≤ from + length (numbers (runs_of s))
-  laid_room =
-      omega (
-        arith,
-        q.stored.reach,
-        ap length (runs_left s at end e),
-        length-append (spelled (end - at)) (numbers (runs_of (drop end s))),
-      )
+  module _ {run : ℕ} (others : List ℕ) (e : runs_of reads ≡ run ∷ runs_of others) where
+    parts : numbers (runs_of reads) ≡ spelled run ++ numbers (runs_of others)
+    parts = ap numbers e ∙ numbers_one run (runs_of others)
 
-  pub laid_one : end ≤ length s → (out' : List ℕ) (to' : ℕ) → to' ≡ to + length (spelled (end - at))
-      → out' ≡ sets out to (spelled (end - at)) → Laid s out₀ from out' end to'
-  laid_one h out' to' t o = record {
-    stored = stored_part (spelled (end - at)) out' to' (rw (runs_left s at end e) at q.stored) o t;
-    within = h;
-  }
+    pub coming_low : run < bound further
+    coming_low = omega (arith, q.low, ap sum e)
 
-pub laid_all : {s out₀ : List ℕ} {from : ℕ} {out : List ℕ} {at to : ℕ} → Laid s out₀ from out at to → length s ≤ at
-    → out ≡ sets out₀ from (numbers (runs_of s))
-laid_all {s} {at = at} q h = stored_all (rw (runs_over s at h) at q.stored)
+    pub coming_room : length all ≤ room s₀ → length (spelled run) ≤ room s
+    coming_room h = taking_next laws (spelled run) (numbers (runs_of others)) (rw parts at q.taking) h
+
+    pub coming_one : (s' : S) → took s (spelled run) s' → Coming took s₀ all s' others
+    coming_one s' t = record {
+      taking = taking_part laws (spelled run) s' (rw parts at q.taking) t;
+      low = omega (arith, q.low, ap sum e);
+    }

@@ -1,16 +1,10 @@
 -- What stands at the front of bytes follows from the first byte and what stands after it, and is as small as its bytes
 -- allow.
-use Prim.Native.Nat.{ℕ, zero, suc, ◌+◌, ◌-◌, ◌*◌, ◌≤◌, ◌<◌}
-use mathlib.Core.Path.{◌≡◌, refl}
-use mathlib.Core.List.{List, [], ◌∷◌}
-use mathlib.Core.Bool.{Bool, true, false}
-use native.Mathlib.Numerals.{add-one}
+use Rattle.std.proofs.Common.{ℕ, zero, suc, ◌+◌, ◌-◌, ◌*◌, ◌≤◌, ◌<◌, ◌≡◌, refl, List, [], ◌∷◌, Bool, true, false}
+use Rattle.std.proofs.Common.{arith, ltb, leb, eqb, length, drop, get_or, lt-ltb, le-ltb, le-leb}
+use Rattle.std.proofs.Common.{eq-eqb, ne_eqb, leb-true, ltb-true}
 use native.Mathlib.Nat.{pow-succ', one-le-pow, pow-le-pow_right}
-use native.Mathlib.Omega.{arith}
-use lib.Dec.{ltb, leb, eqb}
-use lib.ListN.{length, drop, get_or}
-use lib.Seq.{drop-cons}
-use borrow.Author.Tests.{lt-ltb, le-ltb, le-leb, lt-leb, eq-eqb, ne_eqb, leb-true, ltb-true}
+use borrow.Author.Tests.{lt-leb}
 use Rattle.measure.specs.Choose.{choose}
 use Rattle.capture.specs.Numbers.{Group, value, cut, long, before, following, group, last_most, bound}
 
@@ -19,10 +13,6 @@ pub either : {A : Type 0} (P : A → Type 0) (test : Bool) {one other : A} → (
     → (test ≡ false → P other) → P (choose test one other)
 either P true f g = f refl
 either P false f g = g refl
-
--- the bytes from a place on
-pub from_byte : (s : List ℕ) (at b : ℕ) → at < length s → b ≡ get_or s at 0 → drop at s ≡ b ∷ drop (at + 1) s
-from_byte s at b h e = rw (add-one, e) (drop-cons s at 0 h)
 
 -- a byte that follows another of its number
 pub following_none : (more : ℕ) → following more [] ≡ cut
@@ -62,8 +52,9 @@ following_on (suc more) b l p h =
     simp (ne_eqb b 0 n, le-ltb b 128 h, fewer)
 
 -- a last byte of 0, at a place of the bytes
-pub following_zero_at : (more at : ℕ) (s : List ℕ) → at < length s → get_or s at 0 ≡ 0 → following more (drop at s) ≡ long
-following_zero_at more at s h e = rw (from_byte s at _ h refl) (following_zero more _ _ e)
+pub following_zero_at : (more at b : ℕ) (s rest : List ℕ) → drop at s ≡ b ∷ rest → b ≡ 0
+    → following more (drop at s) ≡ long
+following_zero_at more at b s rest e z = rw e (following_zero more b rest z)
 
 -- a number's first byte
 pub group_none : (more : ℕ) → group more [] ≡ cut

@@ -1,5 +1,6 @@
 pub mod CasesHold
 pub mod Groups
+pub mod Fronts
 pub mod Places
 pub mod Reaching
 pub mod Headings
@@ -9,6 +10,7 @@ pub mod Tally
 pub mod Captures
 pub mod Unrolling
 pub mod ReadLaws
+pub mod Sinks
 pub mod Spelling
 pub mod Grouping
 pub mod WriteLaws

@@ -1,10 +1,5 @@
 -- A reader that a caller can have stands among its bytes: a number that was read ends within them.
-use Prim.Native.Nat.{ℕ, ◌≤◌}
-use mathlib.Core.Path.{refl}
-use mathlib.Core.List.{List}
-use native.Mathlib.Omega.{arith}
-use denote.Ref.{Bor}
-use lib.ListN.{length, drop, length-drop}
+use Rattle.std.proofs.Common.{ℕ, ◌≤◌, refl, List, arith, Bor, length, drop, length-drop}
 use Rattle.capture.specs.Numbers.{Group, value, cut, long, group, further, placed, number_at}
 use Rattle.capture.specs.Held.{place_after, Reached, at_first, moved, Stands}
 use Rattle.capture.specs.declared.held.CaptureReader.{CaptureReader}

@@ -1,14 +1,10 @@
 -- Each number of a capture that was written is read back where it stands, so the whole is; and the reads are those of
 -- their runs.
-use Prim.Native.Nat.{ℕ, suc, ◌+◌, ◌-◌, ◌≤◌, ◌<◌}
-use mathlib.Core.Path.{◌≡◌, refl, sym, ap, ◌∙◌}
-use mathlib.Core.List.{List, [], ◌∷◌, ◌++◌, append_assoc}
-use mathlib.Core.Bool.{Bool, true, false, ◌&&◌}
-use native.Mathlib.Omega.{arith}
-use lib.Dec.{eqb}
-use lib.ListN.{length, drop, replicate, length-append, length-drop, replicate-append-replicate}
-use lib.Seq.{drop_at, drop-drop}
-use borrow.Author.Tests.{eqb-true, eqb-false, le-leb}
+use Rattle.std.proofs.Common.{ℕ, suc, ◌+◌, ◌-◌, ◌≤◌, ◌<◌, ◌≡◌, refl, sym, ap, ◌∙◌, List, [], ◌∷◌, ◌++◌, append_assoc}
+use Rattle.std.proofs.Common.{Bool, true, false, ◌&&◌, arith, eqb, length, drop, replicate, length-append}
+use Rattle.std.proofs.Common.{length-drop, drop_at, drop-drop, eqb-true, le-leb}
+use lib.ListN.{replicate-append-replicate}
+use borrow.Author.Tests.{eqb-false}
 use Rattle.measure.specs.Choose.{choose, between}
 use Rattle.measure.specs.Ranges.{sampling, row_bits, quiet, entries_most, capture_most}
 use Rattle.measure.specs.Levels.{Levels}

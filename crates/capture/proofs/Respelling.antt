@@ -1,13 +1,9 @@
 -- The bytes of a number are read back as the number, and a number that was read has the bytes of its value.
-use Prim.Native.Nat.{ℕ, zero, suc, ◌+◌, ◌-◌, ◌*◌, ◌/◌, ◌%◌, ◌≤◌, ◌<◌}
-use mathlib.Core.Path.{◌≡◌, refl, sym, ap, ◌∙◌}
-use mathlib.Core.List.{List, [], ◌∷◌, ◌++◌}
-use native.Mathlib.Omega.{arith}
+use Rattle.std.proofs.Common.{ℕ, zero, suc, ◌+◌, ◌-◌, ◌*◌, ◌/◌, ◌%◌, ◌≤◌, ◌<◌, ◌≡◌, refl, sym, ap, ◌∙◌, List, [], ◌∷◌}
+use Rattle.std.proofs.Common.{◌++◌, arith, ltb, leb, eqb, length, take, drop, take-append-drop, drop-drop, le-leb}
+use Rattle.std.proofs.Common.{ltb-true, ltb-false}
 use native.Mathlib.Decide.{dec_le}
-use lib.Dec.{ltb, leb, eqb}
-use lib.ListN.{length, take, drop, take-append-drop}
-use lib.Seq.{drop-drop}
-use borrow.Author.Tests.{le-leb, ltb-true, ltb-false, eqb-false}
+use borrow.Author.Tests.{eqb-false}
 use Rattle.measure.specs.Refusals.{given}
 use Rattle.capture.specs.Numbers.{Group, value, cut, long, before, following, group, further, last_most, bound}
 use Rattle.capture.specs.Numbers.{Numeral, placed, number_at, grouped, spelled}

@@ -1,18 +1,12 @@
 -- The two round trips: a capture's numbers and its bytes determine one another, and so do its runs and its reads.
-use Prim.Native.Nat.{ℕ, ◌≤◌}
-use mathlib.Core.Path.{◌≡◌, refl, sym, ap, ◌∙◌}
-use mathlib.Core.List.{List}
-use native.Mathlib.Omega.{arith}
-use lib.Dec.{ltb}
-use lib.ListN.{length, take, drop}
-use lib.Seq.{take_at}
-use borrow.Author.Tests.{le-ltb, ltb-false}
+use Rattle.std.proofs.Common.{ℕ, ◌≤◌, ◌≡◌, refl, sym, ap, ◌∙◌, List, arith, ltb, length, take, drop, take_at, le-ltb}
+use Rattle.std.proofs.Common.{ltb-false}
 use Rattle.measure.specs.Ranges.{entries_most, row_settings_fit}
 use Rattle.measure.specs.Levels.{AtMost, Levels}
 use Rattle.measure.specs.Lists.{first_above, some_above, onto}
 use Rattle.measure.specs.Refusals.{Answer, given, refused, refused_after}
 use Rattle.measure.proofs.Given.{refused_none, held, failed}
-use Rattle.measure.proofs.LevelLaws.{most_at, most_none_some, none_above}
+use Rattle.measure.proofs.LevelLaws.{most_at, most_none_some, none_some}
 use Rattle.capture.specs.Capture.{Capture, capture, reads_of_runs}
 use Rattle.capture.specs.Writing.{runs_of, first_level, capture_of}
 use Rattle.capture.specs.Answers.{summary, unrolled, read_back, written}
@@ -126,4 +120,4 @@ read_written_back bytes room room' out s e f h =
     rw (← r.summed_up, front)
     (write_whole c.k c.n c.Q reads out a.in_range
     (omega (arith, a.few, length_reads c.level c.runs))
-    (omega (arith, none_above 1 reads (reads_levels c.level c.runs a.low))) (rw same h) ∙ rw same)
+    (none_some 1 reads (reads_levels c.level c.runs a.low)) (rw same h) ∙ rw same)

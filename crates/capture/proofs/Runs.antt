@@ -1,13 +1,10 @@
 -- The runs from a place on are the run there and the runs from the place after it; so they can be walked one at a time.
-use Prim.Native.Nat.{ℕ, zero, suc, ◌+◌, ◌-◌, ◌≤◌, ◌<◌}
-use mathlib.Core.Path.{◌≡◌, refl, sym, ap, ◌∙◌}
-use mathlib.Core.List.{List, [], ◌∷◌}
-use mathlib.Core.Bool.{Bool, true, false}
-use native.Mathlib.Omega.{arith}
+use Rattle.std.proofs.Common.{ℕ, zero, suc, ◌+◌, ◌-◌, ◌≤◌, ◌<◌, ◌≡◌, refl, sym, ap, ◌∙◌, List, [], ◌∷◌, Bool, true}
+use Rattle.std.proofs.Common.{false, ◌&&◌, arith, leb, length, replicate, length-append, le-leb, leb-true}
 use native.Mathlib.Decide.{dec_le}
-use lib.Dec.{leb}
-use lib.ListN.{length, replicate, length-append, length-replicate}
-use borrow.Author.Tests.{le-leb, lt-leb, leb-true}
+use lib.ListN.{length-replicate}
+use borrow.Author.Tests.{lt-leb}
+use Rattle.measure.specs.Choose.{choose, between}
 use Rattle.measure.specs.Levels.{Levels}
 use Rattle.measure.specs.Refusals.{Answer, given, refused, refused_after}
 use Rattle.measure.proofs.Both.{both}
@@ -17,7 +14,7 @@ use Rattle.capture.specs.Capture.{then, fitting_at, joined, fits_after, some_run
 use Rattle.capture.specs.Capture.{reads_of_runs}
 use Rattle.capture.proofs.Places.{number_on}
 use Rattle.capture.proofs.Headings.{then_given, then_same, fitting_refused, fitting_in, fitting_out}
-use Rattle.capture.proofs.Headings.{fitting_given}
+use Rattle.capture.proofs.Headings.{fitting_given, in_range_lem}
 
 -- the runs from a place before the end go by the number there
 module _ (most total : ℕ) (s : List ℕ) (at : ℕ) where
@@ -77,6 +74,33 @@ runs_here total s at h =
     (λ run e. let on : at < run.after = fitting_on (fits_after total) s at run e in
     ap (joined run.value)
     (runs_enough (length s - 1) (length s) (total + run.value) s run.after (omega arith) (omega arith)))
+
+-- a run, as the code asks it: from 1 to what is left of the greatest total
+pub judged_run : (left : ℕ) (s : List ℕ) (at : ℕ) → left ≤ total_most
+    → fitting_at (between 1 left) s at ≡ fitting_at (fits_after (total_most - left)) s at
+unfolding fitting_at
+judged_run left s at h =
+    then_same (number_at s at) _ _ (λ n e. ap (λ (fits : Bool). choose fits (given n) (refused 8 at)) (same n.value))
+  where
+    most : (v : ℕ) → Dec (v ≤ left) → leb v left ≡ leb (total_most - left + v) total_most
+    most v (yes l) = le-leb v left l ∙ sym (le-leb (total_most - left + v) total_most (omega arith))
+    most v (no l) = lt-leb v left (omega arith) ∙ sym (lt-leb (total_most - left + v) total_most (omega arith))
+
+    same : (v : ℕ) → between 1 left v ≡ fits_after (total_most - left) v
+    same v = ap (λ (test : Bool). leb 1 v && test) (most v (dec_le v left))
+
+-- one that was read
+pub record Run (left : ℕ) (at : ℕ) (n : Numeral) : Type 0 where
+  pub some : 1 ≤ n.value
+  pub low : n.value ≤ left
+  pub on : at < n.after
+
+pub run_read : (left : ℕ) (s : List ℕ) (at : ℕ) (n : Numeral) → fitting_at (between 1 left) s at ≡ given n
+    → Run left at n
+run_read left s at n e =
+    let f = fitting_given (between 1 left) s at n e in
+    let g = in_range_lem 1 left n.value f.1 in
+    record { some = g.0; low = g.1; on = number_on s at n f.0 }
 
 module _ (total : ℕ) (s : List ℕ) (at : ℕ) (h : at < length s) where
   pub runs_refused : (number place : ℕ) → number_at s at ≡ refused number place

@@ -1,16 +1,11 @@
 -- A number is spelled group by group: the lowest seven bits, then what is left of it, until that is below 128.
-use Prim.Native.Nat.{ℕ, zero, suc, ◌+◌, ◌/◌, ◌%◌, ◌^◌, ◌≤◌, ◌<◌}
-use mathlib.Core.Path.{◌≡◌, refl, ap}
-use mathlib.Core.List.{List, [], ◌∷◌}
-use native.Mathlib.Omega.{arith}
+use Rattle.std.proofs.Common.{ℕ, zero, suc, ◌+◌, ◌/◌, ◌%◌, ◌^◌, ◌≤◌, ◌<◌, ◌≡◌, refl, List, [], ◌∷◌, arith, length}
+use Rattle.std.proofs.Common.{lt-ltb, le-ltb}
 use native.Mathlib.Decide.{dec_le}
 use native.Mathlib.Nat.{pow-succ'}
-use lib.ListN.{length, set}
-use lib.Seq.{sets}
-use borrow.Author.Tests.{lt-ltb, le-ltb}
 use Rattle.capture.specs.Numbers.{further, bound, grouped, spelled}
 use Rattle.capture.proofs.Groups.{bound_suc}
-use Rattle.measure.proofs.Stores.{Stored, stored_none, stored_one, stored_all}
+use Rattle.capture.proofs.Sinks.{Taking, Lawful, taking_none, taking_part, taking_all, taking_room}
 
 pub grouped_one : (more v : ℕ) → v < 128 → grouped more v ≡ v ∷ []
 unfolding grouped
@@ -52,7 +47,7 @@ size_most (suc more) v = go (dec_le 128 v) (size_most more (v / 128))
     go (yes h) rest = rw (grouped_on more v h) (omega arith)
     go (no h) rest = rw (grouped_one (suc more) v (omega arith)) (omega arith)
 
-size_low : (more v : ℕ) → length (grouped more v) ≤ v + 1
+pub size_low : (more v : ℕ) → length (grouped more v) ≤ v + 1
 unfolding grouped
 size_low zero v = omega arith
 size_low (suc more) v = go (dec_le 128 v) (size_low more (v / 128))
@@ -83,51 +78,29 @@ size_groups (suc more) (suc groups) v l = go (dec_le 128 v) (size_groups more gr
     go (yes h) rest = rw (grouped_on more v h) (omega (arith, rest (omega (arith, pow-succ' 128 (suc groups)))))
     go (no h) rest = rw (grouped_one (suc more) v (omega arith)) (omega arith)
 
--- a number whose bytes are counted: so many, and those of what is left
-pub record Sized (v left size : ℕ) : Type 0 where
+-- a number that is put into a sink: its bytes so far, and those of what is left
+pub record Put {S : Type 0} (took : S → List ℕ → S → Type 0) (v : ℕ) (s₀ : S) (left : ℕ) (s : S) : Type 0 where
   pub more : ℕ
   pub low : left < bound more
-  pub few : size + more ≡ further + 1
-  pub whole : size + length (grouped more left) ≡ length (spelled v) + 1
+  pub taking : Taking took s₀ (spelled v) s (grouped more left)
 
-pub sized_none : (v : ℕ) → v < bound further → Sized v v 1
-sized_none v h = record { more = further; low = h; few = omega arith; whole = omega arith }
+module _ {S : Type 0} {room : S → ℕ} {took : S → List ℕ → S → Type 0} (laws : Lawful room took) where
+  pub put_none : (v : ℕ) (s : S) → v < bound further → Put took v s v s
+  put_none v s h = record { more = further; low = h; taking = taking_none laws s (spelled v) }
 
-module _ {v left size : ℕ} (q : Sized v left size) where
-  pub sized_one : 128 ≤ left → Sized v (left / 128) (size + 1)
-  sized_one h =
-      let o : On q.more left = on q.more left h q.low in
-      record {
-        more = o.fewer;
-        low = o.low;
-        few = omega (arith, q.few, o.one_more);
-        whole =
-            omega (arith, q.whole, ap length o.is);
-      }
+  module _ {v left : ℕ} {s₀ s : S} (q : Put took v s₀ left s) where
+    -- there is room for a byte
+    pub put_room : length (spelled v) ≤ room s₀ → 0 < room s
+    put_room h = omega (arith, taking_room laws q.taking h, size_some q.more left)
 
-  pub sized_all : left < 128 → size ≡ length (spelled v)
-  sized_all h = omega (arith, q.whole, ap length (grouped_one q.more left h))
+    pub put_one : (s' : S) → 128 ≤ left → took s ((left % 128 + 128) ∷ []) s' → Put took v s₀ (left / 128) s'
+    put_one s' h e =
+        let o : On q.more left = on q.more left h q.low in
+        record {
+          more = o.fewer;
+          low = o.low;
+          taking = taking_part laws ((left % 128 + 128) ∷ []) s' (rw o.is at q.taking) e;
+        }
 
--- a number that is put in an output: its bytes so far, and those of what is left
-pub record Put (v : ℕ) (out₀ : List ℕ) (at : ℕ) (out : List ℕ) (left to : ℕ) : Type 0 where
-  pub more : ℕ
-  pub low : left < bound more
-  pub stored : Stored out₀ at (spelled v) out to (grouped more left)
-
-pub put_none : (v : ℕ) (out : List ℕ) (at : ℕ) → v < bound further → Put v out at out v at
-put_none v out at h = record { more = further; low = h; stored = stored_none out at (spelled v) }
-
-module _ {v : ℕ} {out₀ : List ℕ} {at : ℕ} {out : List ℕ} {left to : ℕ} (q : Put v out₀ at out left to) where
-  -- there is a byte to come
-  pub put_room : at + length (spelled v) ≤ length out₀ → to < length out₀
-  put_room h = omega (arith, q.stored.reach, size_some q.more left)
-
-  pub put_one : 128 ≤ left → Put v out₀ at (set out to (left % 128 + 128)) (left / 128) (to + 1)
-  put_one h =
-      let o : On q.more left = on q.more left h q.low in
-      record { more = o.fewer; low = o.low; stored = stored_one (rw o.is at q.stored) }
-
-  pub put_all : left < 128 → (to + 1 ≡ at + length (spelled v)) × (set out to left ≡ sets out₀ at (spelled v))
-  put_all h =
-      let last : Stored out₀ at (spelled v) out to (left ∷ []) = rw (grouped_one q.more left h) at q.stored in
-      (omega (arith, last.reach), stored_all (stored_one last))
+    pub put_all : (s' : S) → left < 128 → took s (left ∷ []) s' → took s₀ (spelled v) s'
+    put_all s' h e = taking_all laws (taking_part laws (left ∷ []) s' (rw (grouped_one q.more left h) at q.taking) e)

@@ -1,14 +1,10 @@
 -- Runs become reads one run at a time: the reads stored so far and those of the runs still to come are the reads of
 -- them all.
-use Prim.Native.Nat.{ℕ, ◌+◌, ◌-◌, ◌≤◌, ◌<◌}
-use mathlib.Core.Path.{◌≡◌, refl, sym, ap}
-use mathlib.Core.List.{List, [], ◌++◌}
-use mathlib.Core.Bool.{true}
-use native.Mathlib.Omega.{arith}
-use lib.Dec.{leb}
-use lib.ListN.{length, replicate, length-append, length-replicate}
-use lib.Seq.{sets}
-use borrow.Author.Tests.{leb-true}
+use Rattle.std.proofs.Common.{ℕ, ◌+◌, ◌-◌, ◌≤◌, ◌<◌, ◌≡◌, refl, sym, ap, List, [], ◌++◌, append_assoc, true, arith}
+use Rattle.std.proofs.Common.{leb, length, take, drop, replicate, length-append, length-drop, drop-drop}
+use Rattle.std.proofs.Common.{length-take-le, leb-true}
+use lib.ListN.{length-replicate}
+use lib.Seq.{sets, sets-eq}
 use Rattle.measure.specs.Refusals.{Answer, given, refused, refused_after}
 use Rattle.capture.specs.Numbers.{Numeral, number_at}
 use Rattle.capture.specs.Capture.{then, runs_from, reads_of_runs}
@@ -93,3 +89,15 @@ module _ {s : List ℕ} {from level : ℕ} {out₀ out : List ℕ} {at done curr
       let none : q.others ≡ [] = cc (runs_end done s at h, q.spelt) in
       let e : out ≡ sets out₀ 0 (reads_of_runs level q.runs) = stored_all (rw none at q.stored) in
       rw (q.whole, e)
+
+-- a part of an output that is filled with a level
+pub filled_part : (out : List ℕ) (at run level : ℕ) {filled : List ℕ} → at + run ≤ length out
+    → filled ≡ replicate (length (take (at + run - at) (drop at out))) level
+    → take at out ++ (filled ++ drop (at + run - at) (drop at out)) ≡ sets out at (replicate run level)
+filled_part out at run level h e =
+    let size : at + run - at ≡ run = omega arith in
+    let long : length (take run (drop at out)) ≡ run =
+    length-take-le run (drop at out) (omega (arith, length-drop at out)) in
+    rw (e, size, long, drop-drop run at out)
+    (sym (rw (append_assoc, length-replicate) at
+    (sets-eq (replicate run level) out at (omega (arith, length-replicate run level)))))

@@ -1,33 +1,27 @@
 -- Rules F and R: what the operations on captures answer and leave in the lent output, for all input, and what each case
 -- of the code says.
-use Rattle.std.specs.Prelude.{ℕ, List, length, ltb}
+use Rattle.std.specs.Prelude.{ℕ, List, length, ltb, Result, Ok, Err}
 use Rattle.measure.specs.Choose.{choose}
 use Rattle.measure.specs.Ranges.{entries_most, row_settings_fit}
 use Rattle.measure.specs.Lists.{onto}
-use Rattle.measure.specs.Refusals.{Answer, given, refused, refused_after, denied, ranged, limited, entered, lent}
+use Rattle.measure.specs.Refusals.{Answer, given, refused, refused_after, says, ranged, limited, entered, lent}
 use Rattle.capture.specs.Numbers.{Group, value, cut, long, Numeral}
 use Rattle.capture.specs.Capture.{Heading, Capture, then, capture, reads_of_runs}
 use Rattle.capture.specs.Writing.{capture_of}
-use Rattle.capture.specs.declared.Front.{Front}
-use Rattle.capture.specs.declared.Front.TheVariants.{Value, Cut, Long}
+use Rattle.measure.specs.declared.Refusal.{Refusal}
+use Rattle.measure.specs.declared.Refusal.TheVariants.{Cut as CutAt, Form}
+use Rattle.capture.specs.declared.reading.Front.{Front}
+use Rattle.capture.specs.declared.reading.Fault.{Fault}
+use Rattle.capture.specs.declared.reading.Fault.TheVariants.{Cut, Long}
 use Rattle.capture.specs.declared.Number.{Number}
-use Rattle.capture.specs.declared.Number.TheVariants.{Is, Refused as NumberRefused}
 use Rattle.capture.specs.declared.Header.{Header}
-use Rattle.capture.specs.declared.Head.{Head}
-use Rattle.capture.specs.declared.Head.TheVariants.{Found, Refused as HeadRefused}
 use Rattle.capture.specs.declared.Summary.{Summary}
-use Rattle.capture.specs.declared.Checked.{Checked}
-use Rattle.capture.specs.declared.Checked.TheVariants.{Capture as Good, Refused}
-use Rattle.capture.specs.declared.Written.{Written}
-use Rattle.capture.specs.declared.Written.TheVariants.{Bytes, Refused as WrittenRefused}
 
 -- F14: a capture's settings, and how many reads and runs it has
 abbrev pub summary : Capture → Summary
 summary c =
     record {
-      k = record { 0 = c.k };
-      n = c.n;
-      q = record { 0 = c.Q };
+      settings = record { k = record { 0 = c.k }; n = c.n; q = record { 0 = c.Q } };
       reads = record { 0 = length (reads_of_runs c.level c.runs) };
       runs = length c.runs;
     }
@@ -60,32 +54,41 @@ written k n Q reads output =
     (entered 1 reads output
     (lent (capture_of k n Q reads) output)))
 
+-- A8: the refusal of a number that does not stand at a place
+abbrev pub fault_at : ℕ → Fault → Refusal
+fault_at place Cut = CutAt place
+fault_at place Long = Form place
+
 -- A8: what each case of the code's answers says
-abbrev pub front_says : Front → Group
-front_says (Value v size) = value v size
-front_says Cut = cut
-front_says Long = long
+abbrev pub front_says : Result Front Fault → Group
+front_says (Ok front) = value front.value front.size
+front_says (Err Cut) = cut
+front_says (Err Long) = long
 
 -- A8
-abbrev pub number_says : Number → Answer Numeral
-number_says (Is v after) = given (record { value = v; after = after })
-number_says (NumberRefused refusal) = denied refusal
+abbrev pub number_says : Result Number Refusal → Answer Numeral
+number_says answer = says (λ number. record { value = number.value; after = number.after }) answer
 
 -- A8
 abbrev pub headed : Header → Heading
-headed h = record { k = h.k.0; n = h.n; Q = h.q.0; level = h.level; level_at = h.level_at; after = h.after }
+headed h =
+    record {
+      k = h.settings.k.0;
+      n = h.settings.n;
+      Q = h.settings.q.0;
+      level = h.level;
+      level_at = h.level_at;
+      after = h.after;
+    }
 
 -- A8
-abbrev pub head_says : Head → Answer Heading
-head_says (Found h) = given (headed h)
-head_says (HeadRefused refusal) = denied refusal
+abbrev pub head_says : Result Header Refusal → Answer Heading
+head_says answer = says headed answer
 
 -- A8
-abbrev pub checked_says : Checked → Answer Summary
-checked_says (Good s) = given s
-checked_says (Refused refusal) = denied refusal
+abbrev pub checked_says : Result Summary Refusal → Answer Summary
+checked_says answer = says (λ summary. summary) answer
 
 -- A8
-abbrev pub written_says : Written → Answer ℕ
-written_says (Bytes n) = given n
-written_says (WrittenRefused refusal) = denied refusal
+abbrev pub written_says : Result ℕ Refusal → Answer ℕ
+written_says answer = says (λ size. size) answer

@@ -41,9 +41,7 @@ WrittenReadsBack =
     ≡ (
       given
           (record {
-            k = record { 0 = k };
-            n = n;
-            q = record { 0 = Q };
+            settings = record { k = record { 0 = k }; n = n; q = record { 0 = Q } };
             reads = record { 0 = length reads };
             runs =
                 length (runs_of reads);
@@ -56,4 +54,5 @@ abbrev pub ReadWritesBack : Type 0
 ReadWritesBack =
     (bytes room room' out : List ℕ) (s : Summary) → AtMost 255 bytes
     → read_back bytes room ≡ (given s, room') → length bytes ≤ length out
-    → written s.k.0 s.n s.q.0 (take s.reads.0 room') out ≡ (given (length bytes), onto bytes out)
+    → written s.settings.k.0 s.settings.n s.settings.q.0 (take s.reads.0 room') out
+    ≡ (given (length bytes), onto bytes out)

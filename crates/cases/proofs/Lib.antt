@@ -1,4 +1,4 @@
 pub mod Signs
 pub mod Entries
 pub mod Laying
-pub mod Names
+pub mod Listing

@@ -1,94 +1,67 @@
--- The first of a sign, as a place goes on in a text.
-use Rattle.std.proofs.Common.{◌≡◌, ℕ, suc, ◌+◌, ◌*◌, ◌<◌, ◌≤◌, List, length, get_or, drop, refl}
-use borrow.Author.Tests.{eq-eqb, ne_eqb, lt-ltb, le-ltb}
-use lib.Seq.{drop-cons}
-use lib.ListN.{drop_of_length-le}
-use native.Mathlib.Numerals.{add-one}
-use Rattle.cases.specs.Reading.{first_of, digit_of, value_on, digits_on, first_digit, times_of, times_size}
+-- The signs of a text, one after another.
+use Rattle.std.proofs.Common.{◌≡◌, ℕ, suc, ◌+◌, ◌-◌, ◌*◌, ◌<◌, ◌≤◌, List, [], ◌∷◌, length, drop, refl, arith, eq-eqb, ne_eqb, lt-ltb, le-ltb, Some, None, Option, true, false, Bool}
+use Rattle.measure.specs.Choose.{choose}
+use Rattle.cases.specs.Reading.{first_of, digit_of, goes_on, value_on, digits_on, first_digit}
 
--- where the sign stands, none is before it
-pub first_here : (text : List ℕ) (at sign : ℕ) → at < length text → get_or text at 0 ≡ sign →
-    first_of sign (drop at text) ≡ 0
+-- where the sign stands first, none is before it; where another does, there is one more
+pub first_hit : (sign first : ℕ) (more : List ℕ) → first ≡ sign → first_of sign (first ∷ more) ≡ 0
 unfolding first_of
-first_here text at sign h e = rw (drop-cons text at 0 h, eq-eqb (get_or text at 0) sign e) refl
+first_hit sign first more e = rw (eq-eqb first sign e) refl
 
--- where another stands, there is one before it more than from the next place on
-pub first_later : (text : List ℕ) (at sign : ℕ) → at < length text → (get_or text at 0 ≡ sign → ⊥) →
-    first_of sign (drop at text) ≡ suc (first_of sign (drop (at + 1) text))
+pub first_miss : (sign first : ℕ) (more : List ℕ) → (first ≡ sign → ⊥)
+    → first_of sign (first ∷ more) ≡ first_of sign more + 1
 unfolding first_of
-first_later text at sign h e = rw (drop-cons text at 0 h, ne_eqb (get_or text at 0) sign e, add-one at) refl
+first_miss sign first more e = rw (ne_eqb first sign e) (omega arith)
 
--- at the end there is none
-pub first_none : (text : List ℕ) (at sign : ℕ) → length text ≤ at → first_of sign (drop at text) ≡ 0
-unfolding first_of
-first_none text at sign h = rw (drop_of_length-le text h) refl
+-- a sign that is a digit, and one that is none
+pub digit_is : (sign : ℕ) → 48 ≤ sign → sign ≤ 57 → digit_of sign ≡ sign - 48
+digit_is sign l m = rw (le-ltb sign 48 l, le-ltb 57 sign m)
 
--- a number goes on where its next sign is a digit and it is short enough
-module _ (text : List ℕ) (at value : ℕ) (h : at < length text) where
-  pub value_goes_on : digit_of (get_or text at 0) ≤ 9 → value < 100000000000000000 →
-      value_on value (drop at text) ≡ value_on (value * 10 + digit_of (get_or text at 0)) (drop (at + 1) text)
-  unfolding value_on
-  value_goes_on d v =
-      rw (drop-cons text at 0 h, le-ltb 9 (digit_of (get_or text at 0)) d, lt-ltb value 100000000000000000 v, add-one at) refl
+pub digit_below : (sign : ℕ) → sign < 48 → digit_of sign ≡ 10
+digit_below sign l = rw (lt-ltb sign 48 l)
 
-  pub digits_go_on : digit_of (get_or text at 0) ≤ 9 → value < 100000000000000000 →
-      digits_on value (drop at text) ≡ suc (digits_on (value * 10 + digit_of (get_or text at 0)) (drop (at + 1) text))
-  unfolding digits_on
-  digits_go_on d v =
-      rw (drop-cons text at 0 h, le-ltb 9 (digit_of (get_or text at 0)) d, lt-ltb value 100000000000000000 v, add-one at) refl
+pub digit_above : (sign : ℕ) → 57 < sign → digit_of sign ≡ 10
+digit_above sign l = rw (le-ltb sign 48 (omega arith), lt-ltb 57 sign l)
 
-  pub value_ends : 9 < digit_of (get_or text at 0) → value_on value (drop at text) ≡ value
-  unfolding value_on
-  value_ends d = rw (drop-cons text at 0 h, lt-ltb 9 (digit_of (get_or text at 0)) d) refl
-
-  pub digits_end : 9 < digit_of (get_or text at 0) → digits_on value (drop at text) ≡ 0
-  unfolding digits_on
-  digits_end d = rw (drop-cons text at 0 h, lt-ltb 9 (digit_of (get_or text at 0)) d) refl
-
-  pub value_long : digit_of (get_or text at 0) ≤ 9 → 100000000000000000 ≤ value → value_on value (drop at text) ≡ value
-  unfolding value_on
-  value_long d v =
-      rw (drop-cons text at 0 h, le-ltb 9 (digit_of (get_or text at 0)) d, le-ltb value 100000000000000000 v) refl
-
-  pub digits_long : digit_of (get_or text at 0) ≤ 9 → 100000000000000000 ≤ value → digits_on value (drop at text) ≡ 0
-  unfolding digits_on
-  digits_long d v =
-      rw (drop-cons text at 0 h, le-ltb 9 (digit_of (get_or text at 0)) d, le-ltb value 100000000000000000 v) refl
-
--- at the end of the text it ends
-pub value_none : (text : List ℕ) (at value : ℕ) → length text ≤ at → value_on value (drop at text) ≡ value
-unfolding value_on
-value_none text at value h = rw (drop_of_length-le text h) refl
-
-pub digits_none : (text : List ℕ) (at value : ℕ) → length text ≤ at → digits_on value (drop at text) ≡ 0
-unfolding digits_on
-digits_none text at value h = rw (drop_of_length-le text h) refl
-
--- the first digit, as a place goes on in a text
-pub digit_here : (text : List ℕ) (at : ℕ) → at < length text → digit_of (get_or text at 0) < 10 →
-    first_digit (drop at text) ≡ 0
+-- a first digit
+pub digit_hit : (first : ℕ) (more : List ℕ) → digit_of first < 10 → first_digit (first ∷ more) ≡ 0
 unfolding first_digit
-digit_here text at h d = rw (drop-cons text at 0 h, lt-ltb (digit_of (get_or text at 0)) 10 d) refl
+digit_hit first more d = rw (lt-ltb (digit_of first) 10 d) refl
 
-pub digit_later : (text : List ℕ) (at : ℕ) → at < length text → 10 ≤ digit_of (get_or text at 0) →
-    first_digit (drop at text) ≡ suc (first_digit (drop (at + 1) text))
+pub digit_miss : (first : ℕ) (more : List ℕ) → 10 ≤ digit_of first
+    → first_digit (first ∷ more) ≡ first_digit more + 1
 unfolding first_digit
-digit_later text at h d = rw (drop-cons text at 0 h, le-ltb (digit_of (get_or text at 0)) 10 d, add-one at) refl
+digit_miss first more d = rw (le-ltb (digit_of first) 10 d) (omega arith)
 
-pub digit_none : (text : List ℕ) (at : ℕ) → length text ≤ at → first_digit (drop at text) ≡ 0
-unfolding first_digit
-digit_none text at h = rw (drop_of_length-le text h) refl
+-- a number goes on with a sign, or ends before it
+module _ (text after : List ℕ) (value sign : ℕ) (e : text ≡ sign ∷ after) where
+  pub number_goes_on : (more : ℕ) → choose (goes_on value sign) (Some (value * 10 + digit_of sign)) None ≡ Some more
+      → (value_on value text ≡ value_on more after)
+      × (drop (digits_on value text) text ≡ drop (digits_on more after) after)
+  unfolding value_on digits_on
+  number_goes_on more f = rw e (go (goes_on value sign) refl f)
+    where
+      go : (on : Bool) → goes_on value sign ≡ on → choose on (Some (value * 10 + digit_of sign)) None ≡ Some more
+          → (choose (goes_on value sign) (value_on (value * 10 + digit_of sign) after) value ≡ value_on more after)
+          × (drop (choose (goes_on value sign) (suc (digits_on (value * 10 + digit_of sign) after)) 0) (sign ∷ after)
+          ≡ drop (digits_on more after) after)
+      go true g k = let same : value * 10 + digit_of sign ≡ more = cc in rw (g, same) (refl, refl)
+      go false g k = let z : ◌≡◌ {A = ℕ} 0 1 = cc in absurd (omega arith)
 
--- how often an entry stands, by what follows at a place
-pub times_once : (text : List ℕ) (at : ℕ) → length text ≤ at →
-    (times_of (drop at text) ≡ 1) × (times_size (drop at text) ≡ 0)
-times_once text at h = rw (drop_of_length-le text h) (refl, refl)
+  pub number_ends : ◌≡◌ {A = Option ℕ} (choose (goes_on value sign) (Some (value * 10 + digit_of sign)) None) None
+      → (value_on value text ≡ value) × (digits_on value text ≡ 0)
+  unfolding value_on digits_on
+  number_ends f = rw e (go (goes_on value sign) refl f)
+    where
+      go : (on : Bool) → goes_on value sign ≡ on
+          → ◌≡◌ {A = Option ℕ} (choose on (Some (value * 10 + digit_of sign)) None) None
+          → (choose (goes_on value sign) (value_on (value * 10 + digit_of sign) after) value ≡ value)
+          × (choose (goes_on value sign) (suc (digits_on (value * 10 + digit_of sign) after)) 0 ≡ 0)
+      go true g k = let z : ◌≡◌ {A = ℕ} 0 1 = cc in absurd (omega arith)
+      go false g k = rw g (refl, refl)
 
-pub times_one : (text : List ℕ) (at : ℕ) → at < length text → (get_or text at 0 ≡ 120 → ⊥) →
-    (times_of (drop at text) ≡ 1) × (times_size (drop at text) ≡ 0)
-times_one text at h e = rw (drop-cons text at 0 h, ne_eqb (get_or text at 0) 120 e) (refl, refl)
-
-pub times_many : (text : List ℕ) (at : ℕ) → at < length text → get_or text at 0 ≡ 120 →
-    (times_of (drop at text) ≡ value_on 0 (drop (at + 1) text))
-    × (times_size (drop at text) ≡ suc (digits_on 0 (drop (at + 1) text)))
-times_many text at h e = rw (drop-cons text at 0 h, eq-eqb (get_or text at 0) 120 e, add-one at) (refl, refl)
+pub number_none : (text : List ℕ) (value : ℕ) → length text ≡ 0
+    → (value_on value text ≡ value) × (digits_on value text ≡ 0)
+unfolding value_on digits_on
+number_none [] value e = (refl, refl)
+number_none (first ∷ more) value e = absurd (omega arith)

@@ -2,16 +2,11 @@
 use Rattle.std.specs.Prelude.{ℕ, zero, suc, ◌+◌, ◌-◌, ◌*◌, ◌%◌, Bool, true, false, List, [], ◌∷◌, ◌++◌, length, take, drop, set, get_or, max, replicate, min, eqb, ltb}
 use Rattle.measure.specs.Choose.{choose}
 use Rattle.measure.specs.Lists.{onto}
-use Rattle.cases.specs.declared.reading.Numbers.{Numbers}
 
 -- how many signs of a text stand before the first of this one: all of them where there is none
 unfoldable pub first_of : (sign : ℕ) (text : List ℕ) → ℕ
 first_of sign [] = 0
 first_of sign (first ∷ more) = choose (eqb first sign) 0 (suc (first_of sign more))
-
--- the first place of a text, from this one on, that has a sign
-abbrev pub found_from : (from sign : ℕ) (text : List ℕ) → ℕ
-found_from from sign text = from + first_of sign (drop from text)
 
 -- the text before the first of a sign, or all of it where there is none
 abbrev pub before_first : (sign : ℕ) (text : List ℕ) → List ℕ
@@ -111,19 +106,14 @@ number_at place text = number_among (length text) place text
 abbrev pub number_words : (case : List ℕ) → List ℕ
 number_words case = before_first 124 (after_first 58 case)
 
--- the numbers of a case, in their order
-abbrev pub numbers_in : (case : List ℕ) → Numbers
-numbers_in case =
-    record {
-      n0 = number_at 0 (number_words case);
-      n1 = number_at 1 (number_words case);
-      n2 = number_at 2 (number_words case);
-      n3 = number_at 3 (number_words case);
-      n4 = number_at 4 (number_words case);
-      n5 = number_at 5 (number_words case);
-      n6 = number_at 6 (number_words case);
-      n7 = number_at 7 (number_words case);
-    }
+-- so many numbers of a text from a place on, in their order, and 0 after the last
+unfoldable pub numbers_from : (count place : ℕ) (text : List ℕ) → List ℕ
+numbers_from zero place text = []
+numbers_from (suc count) place text = number_at place text ∷ numbers_from count (suc place) text
+
+-- the first numbers of a case, so many
+abbrev pub numbers_in : (count : ℕ) (case : List ℕ) → List ℕ
+numbers_in count case = numbers_from count 0 (number_words case)
 
 -- how many entries a case says that its lent output is to have, after a > (62)
 abbrev pub room_of : (case : List ℕ) → ℕ
@@ -200,20 +190,11 @@ listed_or_out_size text out size lent =
     (written_to (copied_size size out lent) (entries_of (own_of text)) (copied_onto size out lent))
     (listed_size text lent)
 
--- how many signs of a word are those of a name, once the name has one more: all of them where they differ
-abbrev pub alike : (same sign : ℕ) (word : List ℕ) → ℕ
-alike same sign word =
-    choose (ltb same (length word)) (choose (eqb (get_or word same 0) sign) (suc same) (length word)) same
+-- the words of a case stand after the first space (32) after the : (58)
+abbrev pub words_of : (case : List ℕ) → List ℕ
+words_of case = after_first 32 (after_first 58 case)
 
--- which of the names that are left is a word's, counted on from this one: a name ends with a space (32), of which so
--- many signs are the word's already, and the word goes on after it
-unfoldable pub named_from : (count same : ℕ) (word names : List ℕ) → ℕ
-named_from count same word [] = count
-named_from count same word (sign ∷ names) =
-    choose (eqb sign 32)
-    (choose (ltb (alike same sign word) (length word)) count (named_from (suc count) 0 word names))
-    (named_from count (alike same sign word) word names)
-
--- which of some names is that of a case's operation, which stands after the first space (32) after the : (58)
-abbrev pub operation_in : (case names : List ℕ) → ℕ
-operation_in case names = named_from 0 0 (after_first 32 (after_first 58 case)) names
+-- the name of a case's operation is the first of them, if another follows: empty where none does
+abbrev pub operation_in : (case : List ℕ) → List ℕ
+operation_in case =
+    choose (ltb (suc (first_of 32 (words_of case))) (length (words_of case))) (before_first 32 (words_of case)) []

@@ -1,260 +1,178 @@
 // Taking a case apart: its operation, its numbers and its lists.
-ghost use Rattle.std.specs.Prelude.{◌≡◌, ◌+◌, ◌-◌, ◌%◌, ◌<◌, ◌≤◌, length, take, drop, get_or, slice_index, EachIndex};
-ghost use Rattle.cases.specs.Reading.{found_from, before_first, after_first, begins_a_case, laid, with_room, copied_onto, copied_size};
-ghost use Rattle.cases.specs.Reading.{digit_of, value_on, digits_on, first_digit, times_of, times_size, entry_number, entry_times, entry_size, number_at, numbers_in, room_of, entries_of, written, written_to, repeated, repeated_to};
-ghost use Rattle.cases.specs.Reading.{listed, listed_size, listed_or_out, listed_or_out_size, alike, named_from, operation_in};
+ghost use Rattle.std.specs.Prelude.{◌≡◌, ltb, MatchOption, ◌*◌, ◌+◌, ◌-◌, ◌%◌, ◌<◌, ◌≤◌, length, take, drop, get_or};
+ghost use Rattle.std.specs.Prelude.{slice_index, EachIndex};
+ghost use Rattle.cases.specs.Reading.{first_of, before_first, after_first, begins_a_case, laid, with_room, copied_onto};
+ghost use Rattle.cases.specs.Reading.{copied_size};
+ghost use Rattle.measure.specs.Choose.{choose};
+ghost use Rattle.cases.specs.Reading.{digit_of, goes_on, from_digit, value_on, digits_on, first_digit, times_of};
+ghost use Rattle.cases.specs.Reading.{times_size, entry_number, entry_times, entry_size, number_at, numbers_in};
+ghost use Rattle.cases.specs.Reading.{room_of, entries_of, written, written_to, repeated, repeated_to};
+ghost use Rattle.cases.specs.Reading.{listed, listed_size, listed_or_out, listed_or_out_size, operation_in};
 
-// The first place of a text from this one on that has a sign, and its end where none has.
-#[tactic(auto, using(crate::proofs::Signs::first_here, crate::proofs::Signs::first_later, crate::proofs::Signs::first_none))]
-pub fn find(text: &[u8], from: usize, sign: u8) -> usize
-    requires { from ≤ length text.now }
-    ensures found { result ≡ found_from from sign text.now }
-    ensures from_there { from ≤ result }
+// The first place of a text that has a sign, and its end where none has.
+pub fn find(text: &[u8], sign: u8) -> usize
+    ensures found { result ≡ first_of sign text.now }
     ensures within { result ≤ length text.now }
 {
-    let mut at = from;
-    while at < text.len() {
-        if text[at] == sign {
-            return at;
-        }
-        at += 1;
-    }
-    at
+    text.iter()
+        .position(|other| *other == sign)
+        .unwrap_or(text.len())
 }
 
 // Whether a line is a case.
 pub fn is_case(line: &[u8]) -> bool
     ensures { result ≡ begins_a_case line.now }
 {
-    if line.len() < 1 {
-        return false;
+    match line.first() {
+        Some(first) => *first != b'#',
+        None => false,
     }
-    line[0] != b'#'
 }
 
 // The text before the first of a sign, or all of it where there is none.
 pub fn until(text: &[u8], sign: u8) -> &[u8]
     ensures { result.now ≡ before_first sign text.now }
 {
-    let from = 0;
-    let end = find(text, 0, sign);
-    &text[from..end]
+    let end = find(text, sign);
+    &text[..end]
 }
 
 // The text after the first of a sign, and nothing where there is none.
 pub fn after(text: &[u8], sign: u8) -> &[u8]
     ensures { result.now ≡ after_first sign text.now }
 {
-    let at = find(text, 0, sign);
-    if at < text.len() {
-        let start = at + 1;
-        &text[start..]
-    } else {
-        &text[at..]
-    }
+    let at = find(text, sign);
+    text.get(at + 1..).unwrap_or_default()
 }
 
-// How many signs of a word are those of a name, once the name has one more: all of them where they differ.
-fn alike(word: &[u8], same: usize, sign: u8) -> usize
-    ensures { result ≡ alike same sign word.now }
+// The name of a case's operation; empty where nothing follows it.
+pub fn operation(case: &[u8]) -> &[u8]
+    ensures { result.now ≡ operation_in case.now }
 {
-    if word.len() <= same {
-        return same;
+    let words = after(after(case, b':'), b' ');
+    if after(words, b' ').is_empty() {
+        return &[];
     }
-    if word[same] == sign {
-        same + 1
-    } else {
-        word.len()
-    }
+    until(words, b' ')
 }
 
-// Which of some names, counted from 0, is the word that a text begins with. Each name ends with a space.
-#[tactic(auto, using(crate::proofs::Names::named_here, crate::proofs::Names::named_later, crate::proofs::Names::named_on, crate::proofs::Names::named_none))]
-fn which(word: &[u8], names: &[u8]) -> usize
-    ensures { result ≡ named_from 0 0 word.now names.now }
-{
-    let mut count: usize = 0;
-    let mut same: usize = 0;
-    let mut at = 0;
-    while at < names.len() {
-        same = alike(word, same, names[at]);
-        if names[at] == b' ' {
-            if same < word.len() {
-                return count;
-            }
-            count += 1;
-            same = 0;
-        }
-        at += 1;
-    }
-    count
-}
-
-// Which of some names, counted from 0, is that of a case's operation; as many as there are where none is.
-pub fn operation(case: &[u8], names: &[u8]) -> usize
-    ensures { result ≡ operation_in case.now names.now }
-{
-    which(after(after(case, b':'), b' '), names)
-}
-
-// A number that stands in a text, and the place after it.
-#[derive(Drop)]
-struct Found {
+// A number at the start of a text, and the text after it.
+#[derive(Clone, Copy)]
+struct Read<'a> {
     value: usize,
-    next: usize,
+    rest: &'a [u8],
 }
 
-// The digit that a sign is, above 9 where it is none.
-fn digit(sign: u8) -> usize
-    ensures { result ≡ digit_of sign }
+// A number of more digits is not read.
+const LONG: usize = 100_000_000_000_000_000;
+
+// Whether a sign is a digit.
+fn is_digit(sign: u8) -> bool
+    ensures { result ≡ ltb (digit_of sign) 10 }
 {
-    if sign < b'0' {
-        return 10;
-    }
-    if b'9' < sign {
-        return 10;
-    }
-    (sign - b'0') as usize
+    sign.is_ascii_digit()
 }
 
-// The number whose digits begin at a place, 0 where none does. It has eighteen digits at most.
-#[tactic(auto, using(crate::proofs::Signs::value_goes_on, crate::proofs::Signs::digits_go_on, crate::proofs::Signs::value_ends, crate::proofs::Signs::digits_end, crate::proofs::Signs::value_long, crate::proofs::Signs::digits_long, crate::proofs::Signs::value_none, crate::proofs::Signs::digits_none))]
-fn number(text: &[u8], from: usize) -> Found
-    ensures value { result.value ≡ value_on 0 (drop from text.now) }
-    ensures next { result.next ≡ from + digits_on 0 (drop from text.now) }
+// A number with one digit more, and nothing where the sign is no digit or the number has eighteen digits.
+fn longer(value: usize, sign: u8) -> Option<usize>
+    ensures { result ≡ choose (goes_on value sign) (Some (value * 10 + digit_of sign)) None }
 {
-    let mut value: usize = 0;
-    let mut at = from;
-    while at < text.len() {
-        let next = digit(text[at]);
-        if 9 < next {
-            return Found {
-                value: value,
-                next: at,
-            };
-        }
-        if 100000000000000000 <= value {
-            return Found {
-                value: value,
-                next: at,
-            };
-        }
-        value = value * 10 + next;
-        at += 1;
+    if !is_digit(sign) {
+        return None;
     }
-    Found {
-        value: value,
-        next: at,
+    if LONG <= value {
+        return None;
     }
+    Some(value * 10 + usize::from(sign - b'0'))
 }
 
-// The first place from this one on that has a digit; no place of the text where none has.
-#[tactic(auto, using(crate::proofs::Signs::digit_here, crate::proofs::Signs::digit_later, crate::proofs::Signs::digit_none))]
-fn next_digit(text: &[u8], from: usize) -> usize
-    ensures { result ≡ from + first_digit (drop from text.now) }
+// The number whose digits begin a text, 0 where none does. It has eighteen digits at most.
+fn number(text: &[u8]) -> Read<'_>
+    ensures value { result.value ≡ value_on 0 text.now }
+    ensures rest { result.rest.now ≡ drop (digits_on 0 text.now) text.now }
 {
-    let mut at = from;
-    while at < text.len() {
-        if digit(text[at]) < 10 {
-            return at;
+    let mut value = 0;
+    let mut rest = text;
+    while let Some((sign, after)) = rest.split_first() {
+        match longer(value, *sign) {
+            Some(more) => {
+                value = more;
+                rest = after;
+            }
+            None => return Read { value, rest },
         }
-        at += 1;
     }
-    at
+    Read { value, rest }
 }
 
-// An entry of a list: its number, how often it stands there, and the place after it.
-#[derive(Drop)]
-struct Entry {
+// A text from its first digit on; nothing of it where it has none.
+fn from_digit(text: &[u8]) -> &[u8]
+    ensures { result.now ≡ from_digit text.now }
+{
+    let before = text
+        .iter()
+        .position(|sign| is_digit(*sign))
+        .unwrap_or(text.len());
+    &text[before..]
+}
+
+// An entry of a list: its number, how often it stands there, and the text after it.
+#[derive(Clone, Copy)]
+struct Entry<'a> {
     number: usize,
     times: usize,
-    next: usize,
+    rest: &'a [u8],
 }
 
-// The first entry from a place on; one that stands there no time where there is none.
-#[tactic(auto, using(crate::proofs::Entries::entry_number_at, crate::proofs::Entries::entry_times_at, crate::proofs::Entries::entry_size_at, crate::proofs::Entries::entry_number_none, crate::proofs::Entries::entry_times_none, crate::proofs::Entries::entry_size_none))]
-fn entry_at(text: &[u8], from: usize) -> Entry
-    ensures number { result.number ≡ entry_number (drop from text.now) }
-    ensures times { result.times ≡ entry_times (drop from text.now) }
-    ensures next { result.next ≡ from + entry_size (drop from text.now) }
+// How often an entry stands that such a text follows: as often as an x and a number after it say, or else once.
+fn times(text: &[u8]) -> Read<'_>
+    ensures value { result.value ≡ times_of text.now }
+    ensures rest { result.rest.now ≡ drop (times_size text.now) text.now }
 {
-    let at = next_digit(text, from);
-    if text.len() <= at {
-        return Entry {
-            number: 0,
-            times: 0,
-            next: at,
-        };
+    match text.split_first() {
+        Some((b'x', after)) => number(after),
+        _ => Read {
+            value: 1,
+            rest: text,
+        },
     }
-    let first = number(text, at);
-    let many = times(text, first.next);
-    Entry {
+}
+
+// The first entry of a text, if it has one.
+fn first_entry(text: &[u8]) -> Option<Entry<'_>>
+    ensures { MatchOption result (length text.now ≤ first_digit text.now)
+        (λ entry. (first_digit text.now < length text.now)
+        × (entry.number ≡ entry_number text.now)
+        × (entry.times ≡ entry_times text.now)
+        × (entry.rest.now ≡ drop (entry_size text.now) text.now)) }
+{
+    let digits = from_digit(text);
+    if digits.is_empty() {
+        return None;
+    }
+    let first = number(digits);
+    let many = times(first.rest);
+    Some(Entry {
         number: first.value,
         times: many.value,
-        next: many.next,
-    }
+        rest: many.rest,
+    })
 }
 
-// How often an entry stands that ends at this place: as often as an x and a number after it say, or else once.
-#[tactic(auto, using(crate::proofs::Signs::times_once, crate::proofs::Signs::times_one, crate::proofs::Signs::times_many))]
-fn times(text: &[u8], at: usize) -> Found
-    ensures value { result.value ≡ times_of (drop at text.now) }
-    ensures next { result.next ≡ at + times_size (drop at text.now) }
-{
-    if text.len() <= at {
-        return Found { value: 1, next: at };
-    }
-    if text[at] != b'x' {
-        return Found { value: 1, next: at };
-    }
-    number(text, at + 1)
-}
-
-// The number at a place of a list of numbers, 0 past its end. A list has no more entries than signs.
-#[tactic(auto, using(crate::proofs::Entries::among_found, crate::proofs::Entries::among_on, crate::proofs::Entries::among_ended))]
+// The number at a place of a list of numbers, 0 past its end.
 fn at_place(text: &[u8], place: usize) -> usize
     ensures { result ≡ number_at place text.now }
 {
     let mut left = place;
-    let mut at = 0;
-    for turn in 0..text.len() {
-        let entry = entry_at(text, at);
+    let mut rest = text;
+    while let Some(entry) = first_entry(rest) {
         if left < entry.times {
             return entry.number;
         }
         left -= entry.times;
-        at = entry.next;
+        rest = entry.rest;
     }
     0
-}
-
-// The numbers of a case, in their order, and 0 after the last.
-#[derive(Clone, Copy)]
-pub struct Numbers {
-    pub n0: usize,
-    pub n1: usize,
-    pub n2: usize,
-    pub n3: usize,
-    pub n4: usize,
-    pub n5: usize,
-    pub n6: usize,
-    pub n7: usize,
-}
-
-pub fn numbers_of(case: &[u8]) -> Numbers
-    ensures { result ≡ numbers_in case.now }
-{
-    let words = until(after(case, b':'), b'|');
-    Numbers {
-        n0: at_place(words, 0),
-        n1: at_place(words, 1),
-        n2: at_place(words, 2),
-        n3: at_place(words, 3),
-        n4: at_place(words, 4),
-        n5: at_place(words, 5),
-        n6: at_place(words, 6),
-        n7: at_place(words, 7),
-    }
 }
 
 // Fills a list of numbers with those that a text says, and with 0 after them.
@@ -266,7 +184,17 @@ pub fn number_list(text: &[u8], list: &mut [usize])
     }
 }
 
-// A number as a byte; what is left when it is divided by 256, where it is none.
+// The first numbers of a case, in their order, and 0 after the last.
+pub fn numbers_of<const COUNT: usize>(case: &[u8]) -> [usize; COUNT]
+    ensures { result ≡ numbers_in COUNT case.now }
+{
+    let mut numbers = [0; COUNT];
+    number_list(until(after(case, b':'), b'|'), &mut numbers);
+    numbers
+}
+
+// A number as a byte; what is left when it is divided by 256, where it is none. (A TryFrom would have a refusal here
+// that never comes.)
 pub fn byte(n: usize) -> u8
     ensures { result ≡ n % 256 }
 {
@@ -287,7 +215,6 @@ fn put(list: &mut [u8], from: usize, entry: u8, count: usize) -> usize
 }
 
 // Puts the entries that a text names into a list, from a place on, and gives the place after the last.
-#[tactic(auto, using(crate::proofs::Laying::among_next, crate::proofs::Laying::among_done, crate::proofs::Laying::written_none, crate::proofs::Laying::written_next))]
 fn entries(text: &[u8], list: &mut [u8], from: usize) -> usize
     requires { from ≤ length list.old }
     ensures written { list.new ≡ written from (entries_of text.now) list.old }
@@ -295,16 +222,16 @@ fn entries(text: &[u8], list: &mut [u8], from: usize) -> usize
     ensures within { result ≤ length list.old }
 {
     let mut size = from;
-    let mut at = 0;
-    for turn in 0..text.len() {
-        let entry = entry_at(text, at);
+    let mut rest = text;
+    while let Some(entry) = first_entry(rest) {
         size = put(list, size, byte(entry.number), entry.times);
-        at = entry.next;
+        rest = entry.rest;
     }
     size
 }
 
-// Goes over the first entries of a list again and again until there are so many.
+// Goes over the first entries of a list again and again until there are so many. Each entry is read from the list that
+// it is written to, so the loop goes by places.
 #[tactic(auto, using(crate::proofs::Laying::gone_on, crate::proofs::Laying::gone_over_all))]
 fn over_again(list: &mut [u8], size: usize, most: usize) -> usize
     requires { size ≤ length list.old }
@@ -334,22 +261,14 @@ pub fn list(text: &[u8], list: &mut [u8]) -> usize
 pub fn front(list: &[u8], size: usize) -> &[u8]
     ensures { result.now ≡ take size list.now }
 {
-    let from = 0;
-    if size < list.len() {
-        &list[from..size]
-    } else {
-        &list[from..]
-    }
+    &list[..size.min(list.len())]
 }
 
 // The letter that the word at the start of a text begins with, a space where it is none.
 pub fn letter(text: &[u8]) -> u8
     ensures { result ≡ get_or text.now 1 32 }
 {
-    if text.len() < 2 {
-        return b' ';
-    }
-    text[1]
+    text.get(1).copied().unwrap_or(b' ')
 }
 
 // Copies so many entries of a list, and gives how many; none where there is no room for them.

@@ -1,5 +1,5 @@
 // Printing what a case gives, on standard output.
-use measure::Refusal;
+use measure::{Count, Refusal};
 use std::io;
 
 // A list of more entries is printed as a summary.
@@ -20,49 +20,44 @@ pub fn named(rt: &impl Print, name: &[u8], n: usize) -> io::Result<()> {
 }
 
 pub fn refused(rt: &impl Print, refusal: Refusal) -> io::Result<()> {
-    named(rt, b" refused ", measure::number(refusal))?;
-    named(rt, b" at ", measure::place(refusal))
+    named(rt, b" refused ", refusal.number())?;
+    named(rt, b" at ", refusal.place())
 }
 
-fn entry(rt: &impl Print, x: u8) -> io::Result<()> {
-    count(rt, x as usize)
+// Prints how much an operation has written, or why it refused, and gives how much that is.
+pub fn written<T: Count>(rt: &impl Print, answer: Result<T, Refusal>) -> io::Result<usize> {
+    match answer {
+        Ok(result) => {
+            let made = result.count();
+            count(rt, made)?;
+            Ok(made)
+        }
+        Err(refusal) => {
+            refused(rt, refusal)?;
+            Ok(0)
+        }
+    }
 }
 
 fn entries(rt: &impl Print, list: &[u8]) -> io::Result<()> {
-    let mut i = 0;
-    while i < list.len() {
-        entry(rt, list[i])?;
-        i += 1;
+    for entry in list {
+        count(rt, usize::from(*entry))?;
     }
     Ok(())
 }
 
 // How many entries of a list are this one.
 fn times(list: &[u8], entry: u8) -> usize {
-    let mut found: usize = 0;
-    let mut i = 0;
-    while i < list.len() {
-        if list[i] == entry {
-            found += 1;
-        }
-        i += 1;
-    }
-    found
+    list.iter().filter(|other| **other == entry).count()
 }
 
 fn mixed(sum: usize, entry: u8) -> usize {
-    (sum % 65521 * 31 + entry as usize) % 65521
+    (sum % 65521 * 31 + usize::from(entry)) % 65521
 }
 
 // A number that each entry of a list changes, by its place as well as by its value.
 fn digest(list: &[u8]) -> usize {
-    let mut sum: usize = 0;
-    let mut i = 0;
-    while i < list.len() {
-        sum = mixed(sum, list[i]);
-        i += 1;
-    }
-    sum
+    list.iter().fold(0, |sum, entry| mixed(sum, *entry))
 }
 
 fn summary(rt: &impl Print, list: &[u8]) -> io::Result<()> {
@@ -74,10 +69,8 @@ fn summary(rt: &impl Print, list: &[u8]) -> io::Result<()> {
 
 // The entries of a list of numbers.
 pub fn numbers(rt: &impl Print, list: &[usize]) -> io::Result<()> {
-    let mut i = 0;
-    while i < list.len() {
-        count(rt, list[i])?;
-        i += 1;
+    for n in list {
+        count(rt, *n)?;
     }
     Ok(())
 }
@@ -97,11 +90,8 @@ pub fn count(rt: &impl Print, n: usize) -> io::Result<()> {
 
 // A number after a space, with a minus sign where it is below zero.
 pub fn signed(rt: &impl Print, n: i64) -> io::Result<()> {
-    if n < 0 {
-        named(rt, b" -", (-1 - n) as usize + 1)
-    } else {
-        count(rt, n as usize)
-    }
+    text(rt, b" ")?;
+    rt.print(n)
 }
 
 // A case as it is written, before what it gives.

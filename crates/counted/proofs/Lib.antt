@@ -4,3 +4,4 @@ pub mod Samples
 pub mod AllFound
 pub mod Continuing
 pub mod Later
+pub mod Counting

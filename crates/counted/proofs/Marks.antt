@@ -8,7 +8,7 @@ use Prim.Native.Nat.{ℕ, zero, suc, ◌+◌, ◌-◌, ◌<◌, ◌≤◌}
 use native.Mathlib.Numerals.{add-one}
 use native.Mathlib.Omega.{arith}
 use lib.Dec.{eqb}
-use lib.ListN.{length, drop, get_or, drop_of_length-le}
+use lib.ListN.{length, drop, get_or}
 use lib.Seq.{drop-cons}
 use borrow.Author.Tests.{eq-eqb, ne_eqb}
 use Rattle.measure.specs.Choose.{choose}
@@ -25,11 +25,6 @@ pub mark_past : (level : ℕ) (reads : List ℕ) (i d : ℕ) → i < length read
     → from_mark level (drop i reads) ≡ from_mark level (drop (i + 1) reads)
 unfolding from_mark
 mark_past level reads i d h e = rw (drop-cons reads i d h, eq-eqb (get_or reads i d) level e, add-one)
-
--- past the last read there is no mark
-pub mark_end : (level : ℕ) (reads : List ℕ) (i : ℕ) → length reads ≤ i → from_mark level (drop i reads) ≡ []
-unfolding from_mark
-mark_end level reads i h = rw (drop_of_length-le reads h)
 
 -- reads j up to m, which are at the level, are passed
 pub mark_stretch : (level : ℕ) (reads : List ℕ) (j m d : ℕ) → j ≤ m → m ≤ length reads
@@ -50,12 +45,6 @@ pub mark_at : (level : ℕ) (reads : List ℕ) (j m d : ℕ) → j ≤ m → m <
     → from_mark level (drop j reads) ≡ drop m reads
 mark_at level reads j m d h l same differs = mark_stretch level reads j m d h (omega arith) same
     ∙ mark_here level reads m d l differs
-
--- there is no mark where no read from j on differs
-pub mark_none : (level : ℕ) (reads : List ℕ) (j d : ℕ) → j ≤ length reads
-    → ((i : ℕ) → j ≤ i → i < length reads → get_or reads i d ≡ level) → from_mark level (drop j reads) ≡ []
-mark_none level reads j d h same =
-    mark_stretch level reads j (length reads) d h (omega arith) same ∙ mark_end level reads (length reads) (omega arith)
 
 -- where the first j reads do not differ, the mark is not among them
 pub mark_late : (level : ℕ) (reads : List ℕ) (j d : ℕ)
@@ -93,3 +82,7 @@ mark_dropped level (read ∷ reads) =
     go false e few =
         let none : suc (length reads) - suc (length reads) ≡ 0 = omega arith in
         rw none
+
+-- the reads from a mark on are some of the reads
+pub marked_few : (level : ℕ) (reads : List ℕ) → length (from_mark level reads) ≤ length reads
+marked_few level reads = omega (arith, mark_late level reads 0 0 (λ i p q. absurd (omega arith)))

@@ -1,12 +1,13 @@
 -- Rules C and R: what it answers and leaves in the lent output, for all input, and what each case of the code says.
-use Rattle.std.specs.Prelude.{ℕ, Bool, ◌&&◌, List, length, leb, ltb, eqb}
+use Rattle.std.specs.Prelude.{ℕ, Bool, ◌&&◌, List, length, leb, ltb, eqb, Result, Ok, Err}
 use Rattle.measure.specs.Choose.{choose}
 use Rattle.measure.specs.Ranges.{sampling, bits_most, entries_most}
 use Rattle.measure.specs.Lists.{onto}
 use Rattle.measure.specs.Refusals.{Answer, given, refused, refused_after, denied, ranged, limited, entered}
 use Rattle.counted.specs.Counted.{counted, current}
-use Rattle.counted.specs.declared.Received.{Received}
-use Rattle.counted.specs.declared.Received.TheVariants.{Bits, RanOut, Refused}
+use Rattle.counted.specs.declared.Found.{Found}
+use Rattle.counted.specs.declared.Stop.{Stop}
+use Rattle.counted.specs.declared.Stop.TheVariants.{RanOut, Refused}
 
 -- C6, C7, R5, R31: The bits found stand at the output's front, also where they are fewer than asked for, which is
 -- refusal 5 and says how many they are. The place of the current read comes with both.
@@ -29,7 +30,7 @@ counted_bits k n level reads output =
     (counted_into n (counted k n level reads) (current k n level reads) output))))
 
 -- A8: what each case of the code's answer says
-abbrev pub counted_says : Received → Answer (ℕ × ℕ)
-counted_says (Bits n at) = given (n, at)
-counted_says (RanOut n at) = refused_after 5 at n
-counted_says (Refused refusal) = denied refusal
+abbrev pub counted_says : Result Found Stop → Answer (ℕ × ℕ)
+counted_says (Ok found) = given (found.bits, found.at)
+counted_says (Err (RanOut found)) = refused_after 5 found.at found.bits
+counted_says (Err (Refused refusal)) = denied refusal

@@ -4,19 +4,32 @@
 ghost use Rattle.std.specs.Prelude.{◌≡◌, ◌+◌, ◌^◌, ◌≤◌, ◌<◌, length, drop};
 ghost use Rattle.measure.specs.Cells.{bit_of};
 ghost use Rattle.counted.specs.Counted.{from_mark, counted, current as current_read};
+ghost use Rattle.counted.specs.declared.Stop.TheVariants.{Refused};
 ghost use Rattle.counted.specs.Answers.{counted_in_range, counted_into, counted_bits, counted_says};
 
 use measure::{BITS_MOST, ENTRIES_MOST, HIGH, ReadCycles, Refusal, SAMPLING_LEAST, SAMPLING_MOST};
 
-// What the counted receiver answers.
+// So many bits, which stand at the front of the lent output; and the place of the current read.
 #[derive(Clone, Copy)]
-pub enum Received {
-    // All n bits were found and stand at the front of the lent output; and the place of the current read.
-    Bits(usize, usize),
-    // Refusal 5: the reads ran out after so many bits, which stand at the front of the lent output; and the place of
-    // the current read.
-    RanOut(usize, usize),
+pub struct Found {
+    pub bits: usize,
+    pub at: usize,
+}
+
+// Why the counted receiver does not give all n bits.
+#[derive(Clone, Copy)]
+pub enum Stop {
+    // Refusal 5: the reads ran out after fewer bits.
+    RanOut(Found),
     Refused(Refusal),
+}
+
+impl From<Refusal> for Stop {
+    ghost from_gives = { λ refusal stop. stop ≡ Refused refusal };
+
+    fn from(refusal: Refusal) -> Stop {
+        Stop::Refused(refusal)
+    }
 }
 
 // Tells whether k, n and the level in force are in range.
@@ -26,59 +39,55 @@ fn in_range(k: ReadCycles, n: usize, level: u8) -> bool
     measure::between(SAMPLING_LEAST, SAMPLING_MOST, k.0) & (n <= BITS_MOST) & (level <= HIGH)
 }
 
-// Gives the place of the next mark: where, from `current` on, a read is first unlike the level; the number of reads
-// where none is.
-fn find_mark(reads: &[u8], current: usize, level: u8) -> usize
-    requires { current ≤ length reads.now }
-    ensures { (result ≤ length reads.now)
-        × (from_mark level (drop current reads.now) ≡ drop result reads.now) }
+// Gives the reads from the mark on: from the first that is unlike the level in force.
+fn from_mark(reads: &[u8], level: u8) -> &[u8]
+    ensures { result.now ≡ from_mark level reads.now }
 {
-    let mut i = current;
-    while i < reads.len() {
-        if reads[i] != level {
-            return i;
-        }
-        i += 1;
-    }
-    i
-}
-
-// Gives the place of the sample: k reads after its mark.
-fn sample_after(mark: usize, k: ReadCycles) -> usize
-    requires { mark + k.0 < 2 ^ 64 }
-    ensures { result ≡ mark + k.0 }
-{
-    mark + k.0
+    let mark = reads
+        .iter()
+        .position(|read| *read != level)
+        .unwrap_or(reads.len());
+    &reads[mark..]
 }
 
 // Gives the bit that a mark and its sample stand for.
 fn bit(mark: u8, sample: u8) -> u8
     ensures { result ≡ bit_of mark sample }
 {
-    if sample == mark { 0 } else { 1 }
+    u8::from(sample != mark)
 }
 
 // Finds n bits, or as many as there are, and writes them.
-fn count_into(k: ReadCycles, n: usize, level: u8, reads: &[u8], out: &mut [u8]) -> Received
+fn count_into(
+    k: ReadCycles,
+    n: usize,
+    level: u8,
+    reads: &[u8],
+    out: &mut [u8],
+) -> Result<Found, Stop>
     requires { n ≤ length out.old }
     ensures { counted_into n (counted k.0 n level reads.now)
         (current_read k.0 n level reads.now) out.old ≡ (counted_says result, out.new) }
 {
+    let front = &mut out[..n];
     let mut held = level;
-    let mut current = 0;
-    let mut i = 0;
-    while i < n {
-        let mark = find_mark(reads, current, held);
-        let left = reads.len() - mark;
-        if left <= k.0 {
-            return Received::RanOut(i, current);
+    let mut left = reads;
+    for (i, place) in front.iter_mut().enumerate() {
+        let marked = from_mark(left, held);
+        if marked.len() <= k.0 {
+            return Err(Stop::RanOut(Found {
+                bits: i,
+                at: reads.len() - left.len(),
+            }));
         }
-        current = sample_after(mark, k);
-        held = reads[current];
-        out[i] = bit(reads[mark], held);
-        i += 1;
+        left = &marked[k.0..];
+        held = left[0];
+        *place = bit(marked[0], held);
     }
-    Received::Bits(n, current)
+    Ok(Found {
+        bits: n,
+        at: reads.len() - left.len(),
+    })
 }
 
 // The counted receiver. Gives the n bits of a message that starts with the level in force, each from its mark and the
@@ -91,22 +100,25 @@ fn count_into(k: ReadCycles, n: usize, level: u8, reads: &[u8], out: &mut [u8]) 
 // the reads from there on, with that sample as the level, or the same level as before where no bit was found: n bits
 // and then m are the n + m bits that one call would find, also where n + m is above 1,024.
 #[tactic(auto, unfolding(crate::specs::Answers::counted_bits))]
-pub fn count_bits(k: ReadCycles, n: usize, level: u8, reads: &[u8], out: &mut [u8]) -> Received
+pub fn count_bits(
+    k: ReadCycles,
+    n: usize,
+    level: u8,
+    reads: &[u8],
+    out: &mut [u8],
+) -> Result<Found, Stop>
     ensures { counted_bits k.0 n level reads.now out.old
         ≡ (counted_says result, out.new) }
 {
     if !in_range(k, n, level) {
-        return Received::Refused(Refusal::Setting(0));
+        return Err(Stop::Refused(Refusal::Setting(0)));
     }
     if reads.len() > ENTRIES_MOST {
-        return Received::Refused(Refusal::Limit);
+        return Err(Stop::Refused(Refusal::Limit));
     }
-    let bad = measure::first_above(reads, HIGH);
-    if bad < reads.len() {
-        return Received::Refused(Refusal::Entry(bad));
-    }
+    measure::check_entries(reads, HIGH)?;
     if out.len() < n {
-        return Received::Refused(Refusal::Room);
+        return Err(Stop::Refused(Refusal::Room));
     }
     count_into(k, n, level, reads, out)
 }

@@ -1,12 +1,8 @@
 -- Lists of bytes and words, from a place on: the word or byte at the place, and then those after it.
-use mathlib.Core.Path.{◌≡◌, refl, ap, ◌∙◌}
-use mathlib.Core.List.{List, [], ◌∷◌}
-use Prim.Native.Nat.{ℕ, suc, ◌+◌, ◌*◌, ◌%◌, ◌≤◌, ◌<◌}
-use native.Mathlib.Numerals.{add-one}
-use native.Mathlib.Omega.{arith}
-use lib.ListN.{length, drop, get_or, drop_of_length-le}
-use lib.Seq.{drop-cons}
+use Rattle.std.proofs.Common.{◌≡◌, refl, ap, ◌∙◌, List, [], ◌∷◌, ◌++◌, ℕ, suc, ◌+◌, ◌*◌, ◌%◌, ◌≤◌, ◌<◌, add-one}
+use Rattle.std.proofs.Common.{arith, length, drop, get_or, drop_of_length-le, drop-cons}
 use Rattle.halfcells.specs.HalfCells.{bits_of, word_from, words_from, half_cells, no_edge_from, byte_of, bytes_of}
+use Rattle.halfcells.specs.Turns.{level_after}
 use Rattle.halfcells.proofs.Bits.{length_bits}
 use Rattle.halfcells.proofs.Edges.{edges_most, edges_past, edges_within}
 use Rattle.halfcells.proofs.ReadWhole.{last_bit}
@@ -21,6 +17,24 @@ words_step v bytes i h = rw (drop-cons bytes i 0 h, add-one)
 pub words_end : (v : ℕ) (bytes : List ℕ) (i : ℕ) → length bytes ≤ i → words_from v (drop i bytes) ≡ []
 unfolding words_from
 words_end v bytes i h = rw (drop_of_length-le bytes h)
+
+-- the words of bytes, and then those of the bytes after them
+pub words_append : (v : ℕ) (one other : List ℕ)
+    → words_from v (one ++ other) ≡ words_from v one ++ words_from (level_after v one) other
+unfolding words_from level_after
+words_append v [] other = refl
+words_append v (byte ∷ one) other =
+    ap (λ (l : List ℕ). word_from v byte ∷ l) (words_append (word_from v byte % 2) one other)
+
+-- the level on which they end, from a place on
+pub level_step : (v : ℕ) (bytes : List ℕ) (i : ℕ) → i < length bytes
+    → level_after v (drop i bytes) ≡ level_after (word_from v (get_or bytes i 0) % 2) (drop (i + 1) bytes)
+unfolding level_after
+level_step v bytes i h = rw (drop-cons bytes i 0 h, add-one)
+
+pub level_end : (v : ℕ) (bytes : List ℕ) (i : ℕ) → length bytes ≤ i → level_after v (drop i bytes) ≡ v
+unfolding level_after
+level_end v bytes i h = rw (drop_of_length-le bytes h)
 
 pub length_words : (v : ℕ) (bytes : List ℕ) → length (words_from v bytes) ≡ length bytes
 unfolding words_from

@@ -1,14 +1,11 @@
 -- Rules W and R: what encoding and decoding answer and leave in the lent output, for all input, and what each case of
 -- the code says.
-use Rattle.std.specs.Prelude.{ℕ, ◌*◌, Bool, List, length, ltb}
+use Rattle.std.specs.Prelude.{ℕ, ◌*◌, Bool, List, length, ltb, Result}
 use Rattle.measure.specs.Choose.{choose}
 use Rattle.measure.specs.Ranges.{words_most}
-use Rattle.measure.specs.Refusals.{Answer, given, refused, denied, limited, lent}
+use Rattle.measure.specs.Refusals.{Answer, refused, says, limited, lent}
+use Rattle.measure.specs.declared.Refusal.{Refusal}
 use Rattle.halfcells.specs.HalfCells.{words_of, first_no_edge, bytes_of}
-use Rattle.halfcells.specs.declared.Encoded.{Encoded}
-use Rattle.halfcells.specs.declared.Encoded.TheVariants.{Words, Refused as EncodeRefused}
-use Rattle.halfcells.specs.declared.Decoded.{Decoded}
-use Rattle.halfcells.specs.declared.Decoded.TheVariants.{Bytes, Refused as DecodeRefused}
 
 -- R70: encoding: refusal 3 for more than 128 bytes, then 4; no setting is taken, and each byte is good
 unfoldable pub encoded : (bytes output : List ℕ) → Answer ℕ × List ℕ
@@ -30,11 +27,9 @@ decoded words output =
     (lent (bytes_of words) output))
 
 -- A8: what each case of the code's answers says
-abbrev pub encoded_says : Encoded → Answer ℕ
-encoded_says (Words count) = given count
-encoded_says (EncodeRefused refusal) = denied refusal
+abbrev pub encoded_says : Result ℕ Refusal → Answer ℕ
+encoded_says answer = says (λ count. count) answer
 
 -- A8
-abbrev pub decoded_says : Decoded → Answer ℕ
-decoded_says (Bytes count) = given count
-decoded_says (DecodeRefused refusal) = denied refusal
+abbrev pub decoded_says : Result ℕ Refusal → Answer ℕ
+decoded_says answer = says (λ count. count) answer

@@ -1,7 +1,13 @@
 // The table of the shifter's words.
 ghost use Rattle.std.specs.Prelude.{◌≡◌};
-ghost use Rattle.halfcells.specs.HalfCells.{high_word};
+ghost use Rattle.halfcells.specs.HalfCells.{word_from};
 ghost use Rattle.halfcells.specs.Words.{words};
+
+// The level of a half cell.
+pub const HIGH: u16 = 1;
+
+// A word with every half cell high.
+const ALL_HIGH: u16 = 0xffff;
 
 // The word of each byte for a line that enters high, byte 0 first.
 pub const HIGH_WORDS: [u16; 256] = [
@@ -29,11 +35,19 @@ pub const HIGH_WORDS: [u16; 256] = [
     0x5553, 0x5552, 0x5554, 0x5555,
 ];
 
-// Gives the word of a byte for a line that enters high. The table is handed in, so that it is laid down once for a
-// message and not once for each byte.
-pub fn high_word(table: &[u16; 256], byte: u8) -> u16
-    requires { table.now ≡ words }
-    ensures { result ≡ high_word byte }
-{
-    table[byte as usize]
+// The table, lent, so that it is laid down once for a message and not once for each byte.
+#[derive(Clone, Copy)]
+pub struct Table<'a> {
+    pub high: &'a [u16; 256],
+    ghost is_the_table: { high.now ≡ words },
+}
+
+impl Table<'_> {
+    // Gives the word of a byte for a line that enters at a level.
+    pub fn word(self, level: u16, byte: u8) -> u16
+        ensures { result ≡ word_from level byte }
+    {
+        let word = self.high[usize::from(byte)];
+        if level == HIGH { word } else { ALL_HIGH - word }
+    }
 }

@@ -1,21 +1,20 @@
 -- A wave that is smoothed block by block: what has been written and what is still to come make the smoothed wave. The
 -- first block has high before it, and every other g cycles of the wave.
-use mathlib.Core.Path.{◌≡◌, refl, sym, ap, ◌∙◌}
+use Rattle.std.proofs.Common.{◌≡◌, sym, ap, ◌∙◌, List, ◌++◌, ℕ, ◌+◌, ◌-◌, ◌≤◌, ◌<◌, min, arith, length, take, drop, replicate, length-take}
 use mathlib.Core.Logic.{dite}
-use mathlib.Core.List.{List}
-use Prim.Native.Nat.{ℕ, ◌+◌, ◌-◌, ◌≤◌, ◌<◌, min}
 use native.Mathlib.Decide.{dec_le}
-use native.Mathlib.Omega.{arith}
-use lib.ListN.{length, replicate, length-replicate, get_or-replicate}
-use lib.Seq.{sets}
+use lib.ListN.{length-replicate, get_or-replicate}
+use lib.Seq.{sets, length-sets}
+use Rattle.std.proofs.lemmas.List.{get_or-drop, get_or-take, get_or_append_left, get_or-append-add}
 use Rattle.measure.specs.Lists.{onto}
 use Rattle.measure.proofs.Laid.{laid_first}
 use Rattle.measure.proofs.Stores.{Stored, stored_none, stored_part, stored_all}
 use Rattle.line.specs.Smooth.{smooth}
 use Rattle.line.specs.Windows.{level_at, led, agreeing, listed}
+use Rattle.line.proofs.PartLent.{sets_part}
 use Rattle.line.proofs.SmoothLaws.{length_smooth}
-use Rattle.line.proofs.Windows.{agreeing_same, length_listed, listed_at, listed_same, listed_split}
-use Rattle.line.proofs.Windows.{sets_before, sets_within, led_before, led_from, smooth_listed}
+use Rattle.line.proofs.Windows.{agreeing_same, length_listed, listed_same, listed_split}
+use Rattle.line.proofs.Windows.{led_before, led_from, smooth_listed}
 
 -- the first `done` cycles are written, and the rest is to come
 abbrev pub Smoothing : (g : ℕ) (wave out₀ out : List ℕ) (done : ℕ) → Type 0
@@ -51,55 +50,69 @@ module _ (g : ℕ) (wave : List ℕ) (most : g ≤ 64) where
       rw (f, d) (same (i + j) (omega arith))))
       (rw (length_listed smoothed done count))
 
-  module _ (first : ℕ) (is-first : first ≡ min (length wave) 64) (lead : List ℕ)
-      (leads : sets (replicate 128 1) g (listed (level_at wave) 0 first) ≡ lead) where
-    size : length (listed (level_at wave) 0 first) ≡ first
-    size = length_listed (level_at wave) 0 first
+  -- the list that the first block is smoothed from: high, and the front of the wave from place g on
+  module _ (first : ℕ) (is-first : first ≡ min (length wave) 64) (front rest : List ℕ)
+      (copied : front ≡ take first wave) where
+    abbrev high : List ℕ
+    high = take g (replicate 128 1)
 
-    -- the list that the first block is smoothed from
+    abbrev lead : List ℕ
+    lead = high ++ (front ++ rest)
+
     led_at : (i : ℕ) → i < first + g → level_at lead i ≡ led g wave i
     led_at i h =
-        ap (λ (l : List ℕ). level_at l i) (sym leads)
-        ∙ dite (dec_le g i) later λ n.
-        sets_before (replicate 128 1) g (listed (level_at wave) 0 first) i (omega arith)
-        ∙ get_or-replicate 128 i 1 2 (omega arith) ∙ sym (led_before g wave i (omega arith))
+        dite (dec_le g i) later λ n.
+        get_or_append_left high (front ++ rest) 2 i (omega (arith, before))
+        ∙ get_or-take g (replicate 128 1) i 2 (omega arith) ∙ get_or-replicate 128 i 1 2 (omega arith)
+        ∙ sym (led_before g wave i (omega arith))
       where
-        later : g ≤ i → level_at (sets (replicate 128 1) g (listed (level_at wave) 0 first)) i ≡ led g wave i
-        later l =
-            let e : g + (i - g) ≡ i = omega arith in
-            let f : 0 + (i - g) ≡ i - g = omega arith in
-            rw e at
-            (sets_within (replicate 128 1) g (listed (level_at wave) 0 first) (i - g) (omega (arith, size))
-            (omega (arith, size, length-replicate {A = ℕ} 128 1)))
-            ∙ rw f at (listed_at (level_at wave) 0 first (i - g) (omega arith)) ∙ sym (led_from g wave i l)
+        before : length high ≡ g
+        before = omega (arith, length-take {A = ℕ} g (replicate 128 1), length-replicate {A = ℕ} 128 1)
 
-    pub first_block : (out₀ out : List ℕ) → sets out₀ 0 (listed (agreeing (level_at lead) g) 0 first) ≡ out
-        → Smoothing g wave out₀ out first
-    first_block out₀ out is =
+        later : g ≤ i → level_at lead i ≡ led g wave i
+        later l =
+            let e : length high + (i - g) ≡ i = omega (arith, before) in
+            rw e at (get_or-append-add high (front ++ rest) (i - g) 2)
+            ∙ get_or_append_left front rest 2 (i - g) (omega (arith, ap length copied, length-take first wave))
+            ∙ ap (λ (l : List ℕ). level_at l (i - g)) copied ∙ get_or-take first wave (i - g) 2 (omega arith)
+            ∙ sym (led_from g wave i l)
+
+    pub first_block : (out₀ block : List ℕ) → first ≤ length out₀ → listed (agreeing (level_at lead) g) 0 first ≡ block
+        → Smoothing g wave out₀ (block ++ drop first out₀) first
+    first_block out₀ block room is =
         let e : length wave - 0 ≡ length wave = omega arith in
         let f : 0 + first ≡ first = omega arith in
-        rw f at (more out₀ out₀ out 0 first (level_at lead) 0
-        (rw e (stored_none out₀ 0 (listed smoothed 0 (length wave)))) (omega arith) is λ i h.
+        let long : length block ≡ first = ap length (sym is) ∙ length_listed (agreeing (level_at lead) g) 0 first in
+        rw f at (more out₀ out₀ (block ++ drop first out₀) 0 first (level_at lead) 0
+        (rw e (stored_none out₀ 0 (listed smoothed 0 (length wave)))) (omega arith)
+        (ap (λ (l : List ℕ). sets out₀ 0 l) is
+        ∙ laid_first block out₀ (omega (arith, long)) ∙ ap (λ (n : ℕ). block ++ drop n out₀) long) λ i h.
         let z : 0 + i ≡ i = omega arith in
         rw z (led_at i h))
 
-  pub further_none : (out : List ℕ) (first : ℕ) → first ≡ min (length wave) 64 → Further g wave out first out first
-  further_none out first is = record { enough = omega arith; within = omega arith; size = refl; goes_on = λ start h. h }
-
-  pub further_one : (out₀ : List ℕ) (first : ℕ) (out out' : List ℕ) (done count : ℕ)
-      → Further g wave out₀ first out done → done < length wave → done + count ≤ length wave → length out' ≡ length out
-      → sets out done (listed (agreeing (level_at wave) g) (done - g) count) ≡ out'
-      → Further g wave out₀ first out' (done + count)
-  further_one out₀ first out out' done count q less room kept is =
+  pub further_one : (out₀ : List ℕ) (first : ℕ) (out block : List ℕ) (done end : ℕ)
+      → Further g wave out₀ first out done → length wave ≤ length out₀ → done < end → end ≤ length wave
+      → listed (agreeing (level_at (drop (done - g) wave)) g) 0 (end - done) ≡ block
+      → Further g wave out₀ first (take done out ++ (block ++ drop (end - done) (drop done out))) end
+  further_one out₀ first out block done end q fits less room is =
       let past : g ≤ done = omega (arith, q.enough) in
+      let W : ℕ → ℕ = level_at (drop (done - g) wave) in
+      let long : length block ≡ end - done = ap length (sym is) ∙ length_listed (agreeing W g) 0 (end - done) in
+      let there : done + (end - done) ≡ end = omega arith in
+      let laid : sets out done (listed (agreeing W g) 0 (end - done))
+      ≡ take done out ++ (block ++ drop (end - done) (drop done out)) =
+      ap (λ (l : List ℕ). sets out done l) is ∙ sets_part block out done (end - done) long (omega (arith, q.size)) in
       record {
         enough = omega (arith, q.enough);
         within = room;
-        size = kept ∙ q.size;
+        size = ap length (sym laid) ∙ length-sets out done (listed (agreeing W g) 0 (end - done)) ∙ q.size;
         goes_on = λ start h.
-            more start out out' done count (level_at wave) (done - g) (q.goes_on start h) room is λ i l.
+            rw there at
+            (more start out (take done out ++ (block ++ drop (end - done) (drop done out))) done (end - done) W 0
+            (q.goes_on start h) (omega arith) laid λ i l.
+            let z : 0 + i ≡ i = omega arith in
             let e : done - g + i ≡ done + i - g = omega arith in
-            rw e (sym (led_from g wave (done + i) (omega arith)));
+            rw z (get_or-drop (done - g) wave i 2 ∙ rw e (sym (led_from g wave (done + i) (omega arith)))));
       }
 
   pub smoothing_all : (out₀ out : List ℕ) (done : ℕ) → Smoothing g wave out₀ out done → length wave ≤ done

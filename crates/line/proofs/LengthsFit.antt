@@ -1,14 +1,7 @@
 -- Lists of lengths that pass the judging keep to their bounds, and a judging that goes from place to place.
-use mathlib.Core.Path.{◌≡◌, refl}
-use mathlib.Core.Bool.{true, false}
-use mathlib.Core.List.{List, [], ◌∷◌}
-use Prim.Native.Nat.{ℕ, zero, suc, ◌+◌, ◌<◌, ◌≤◌}
-use native.Mathlib.Numerals.{add-one}
-use native.Mathlib.Omega.{arith}
-use lib.Dec.{leb}
-use lib.ListN.{length, drop, get_or, replicate, drop_of_length-le}
-use lib.Seq.{drop-cons}
-use borrow.Author.Tests.{le-leb, lt-leb, ltb-true}
+use Rattle.std.proofs.Common.{◌≡◌, refl, Bool, true, false, ◌&&◌, List, [], ◌∷◌, ℕ, zero, suc, ◌<◌, ◌≤◌, arith, leb, length, get_or, replicate, le-leb, ltb-true}
+use Rattle.std.specs.Bool.{MatchBool}
+use Rattle.std.specs.List.{AllWithin, HoldsAt}
 use Rattle.measure.specs.Choose.{between}
 use Rattle.measure.specs.Ranges.{cycle_length, entries_most}
 use Rattle.measure.proofs.Both.{both, both_3, each, range_ends}
@@ -16,36 +9,35 @@ use Rattle.line.specs.Answers.{bounds_fit, all_between, phase_fits, lengths_fit}
 use Rattle.line.specs.Running.{clock_of, Lengths}
 use Rattle.line.proofs.WanderClocks.{clock_first, clock_next}
 
--- the lengths from a place on: with one that keeps to the bounds it is the rest that is judged
-module _ (least most : ℕ) (lengths : List ℕ) (i : ℕ) where
-  pub between_on : i < length lengths → least ≤ get_or lengths i 0 → get_or lengths i 0 ≤ most
-      → all_between least most (drop i lengths) ≡ all_between least most (drop (i + 1) lengths)
-  unfolding all_between
-  between_on here low high =
-      rw (
-        drop-cons lengths i 0 here,
-        le-leb least (get_or lengths i 0) low,
-        le-leb (get_or lengths i 0) most high,
-        add-one i,
-      )
+-- lengths of which each keeps to the bounds, and of which one does not
+all_in : (least most : ℕ) (lengths : List ℕ)
+    → AllWithin (λ one. between least most one ≡ true) lengths 0 (length lengths)
+    → all_between least most lengths ≡ true
+unfolding all_between
+all_in least most [] all = refl
+all_in least most (one ∷ lengths) all =
+    rw (all 0 0 (omega arith) (omega arith))
+    (all_in least most lengths λ k d low high. all (suc k) d (omega arith) (omega arith))
 
-  pub below_least : i < length lengths → get_or lengths i 0 < least → all_between least most (drop i lengths) ≡ false
-  unfolding all_between
-  below_least here low = rw (drop-cons lengths i 0 here, lt-leb least (get_or lengths i 0) low)
+one_out : (least most : ℕ) (lengths : List ℕ) (k : ℕ) → k < length lengths
+    → HoldsAt (λ one. between least most one ≡ false) lengths k → all_between least most lengths ≡ false
+unfolding all_between
+one_out least most [] k here out = absurd (omega arith)
+one_out least most (one ∷ lengths) zero here out = rw (out 0)
+one_out least most (one ∷ lengths) (suc k) here out =
+    rw (one_out least most lengths k (omega arith) (λ d. out d)) (none (between least most one))
+  where
+    none : (b : Bool) → (b && false) ≡ false
+    none true = refl
+    none false = refl
 
-  pub above_most : i < length lengths → least ≤ get_or lengths i 0 → most < get_or lengths i 0
-      → all_between least most (drop i lengths) ≡ false
-  unfolding all_between
-  above_most here low high =
-      rw (
-        drop-cons lengths i 0 here,
-        le-leb least (get_or lengths i 0) low,
-        lt-leb (get_or lengths i 0) most high,
-      )
-
-  pub between_end : length lengths ≤ i → all_between least most (drop i lengths) ≡ true
-  unfolding all_between
-  between_end over = rw (drop_of_length-le lengths over)
+-- what tells whether each does tells what the judging does
+pub judges : (least most : ℕ) (lengths : List ℕ) (r : Bool)
+    → MatchBool r (AllWithin (λ one. between least most one ≡ true) lengths 0 (length lengths))
+    ((k : ℕ) × (k < length lengths) × HoldsAt (λ one. between least most one ≡ false) lengths k)
+    → all_between least most lengths ≡ r
+judges least most lengths true all = all_in least most lengths all
+judges least most lengths false (k, here, out) = one_out least most lengths k here out
 
 -- each length of a list that has passed keeps to the bounds
 pub between_at : (least most : ℕ) (lengths : List ℕ) → all_between least most lengths ≡ true

@@ -19,6 +19,7 @@ pub mod Times
 pub mod WarpRun
 pub mod LineLaws
 pub mod Fronts
+pub mod PartLent
 pub mod KnownCycles
 pub mod WanderCasesHold
 pub mod WanderLaws

@@ -1,15 +1,11 @@
 -- Settle read by read: a known read stays and an unknown one is the next choice, so every read is a level where the
 -- choices are.
-use mathlib.Core.Path.{◌≡◌, refl, ap}
+use Rattle.std.proofs.Common.{Bor, Iter, ◌≡◌, refl, ap, List, [], ◌∷◌, ℕ, zero, suc, ◌+◌, ◌<◌, ◌≤◌, add-one, arith, length, drop, get_or, drop_of_length-le, drop-cons, eq-eqb, ne_eqb}
 use mathlib.Core.Logic.{dite}
-use mathlib.Core.List.{List, [], ◌∷◌}
-use Prim.Native.Nat.{ℕ, zero, suc, ◌+◌, ◌<◌, ◌≤◌}
-use native.Mathlib.Numerals.{add-one}
 use native.Mathlib.Decide.{ℕ_discrete}
-use native.Mathlib.Omega.{arith}
-use lib.ListN.{length, drop, get_or, drop_of_length-le}
-use lib.Seq.{drop-cons, drop-drop}
-use borrow.Author.Tests.{eq-eqb, ne_eqb}
+use Rattle.std.specs.Prelude.{Option, None, Some}
+use Rattle.std.specs.Option.{option_copied, unwrap_or}
+use Rattle.std.specs.Slice.Iter.{iter_rest, iter_steps}
 use Rattle.line.specs.Settle.{next_choice, settle}
 use Rattle.measure.specs.Levels.{AtMost, Levels}
 use Rattle.measure.proofs.LevelLaws.{most_drop}
@@ -50,12 +46,11 @@ settle_most (read ∷ reads) choices all levels =
     rw (ne_eqb read 2 known) (omega (arith, all.0), settle_most reads choices all.1 levels))
 
 -- from a place on, for a loop that counts by one
-pub settle_unknown : (reads choices : List ℕ) (i used : ℕ) → i < length reads → get_or reads i 0 ≡ 2
-    → settle (drop i reads) (drop used choices)
-    ≡ next_choice (drop used choices) ∷ settle (drop (i + 1) reads) (drop (used + 1) choices)
+pub settle_unknown : (reads choices : List ℕ) (i : ℕ) → i < length reads → get_or reads i 0 ≡ 2
+    → settle (drop i reads) choices ≡ next_choice choices ∷ settle (drop (i + 1) reads) (drop 1 choices)
 unfolding settle
-settle_unknown reads choices i used h unknown =
-    rw (drop-cons reads i 0 h, eq-eqb (get_or reads i 0) 2 unknown, drop-drop 1 used choices, add-one i)
+settle_unknown reads choices i h unknown =
+    rw (drop-cons reads i 0 h, eq-eqb (get_or reads i 0) 2 unknown, add-one i)
 
 pub settle_known : (reads choices : List ℕ) (i : ℕ) → i < length reads → (get_or reads i 0 ≡ 2 → ⊥)
     → settle (drop i reads) choices ≡ get_or reads i 0 ∷ settle (drop (i + 1) reads) choices
@@ -66,9 +61,13 @@ pub settle_end : (reads choices : List ℕ) (i : ℕ) → length reads ≤ i →
 unfolding settle
 settle_end reads choices i h = rw (drop_of_length-le reads h)
 
-pub next_there : (choices : List ℕ) (used : ℕ) → used < length choices
-    → next_choice (drop used choices) ≡ get_or choices used 0
-next_there choices used h = rw (drop-cons choices used 0 h)
+none_left : (choices : List ℕ) → length choices ≡ 0 → (0 ≡ next_choice choices) × (choices ≡ drop 1 choices)
+none_left [] e = (refl, refl)
+none_left (choice ∷ choices) e = absurd (omega arith)
 
-pub next_none : (choices : List ℕ) (used : ℕ) → length choices ≤ used → next_choice (drop used choices) ≡ 0
-next_none choices used h = rw (drop_of_length-le choices h)
+-- what is taken of the choices left is the next one, or low, and the rest is left
+pub next_taken : (before after : Iter ℕ) (taken : Option (Bor ℕ)) → iter_steps before taken after
+    → (unwrap_or (option_copied taken) 0 ≡ next_choice (iter_rest before))
+    × (iter_rest after ≡ drop 1 (iter_rest before))
+next_taken before after None (none, same) = rw same (none_left (iter_rest before) none)
+next_taken before after (Some choice) steps = rw steps (refl, refl)

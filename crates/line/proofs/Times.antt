@@ -1,7 +1,7 @@
 -- Times that pass the test of their ranges are in them: each part of a conjunction that holds does.
 use mathlib.Core.Path.{◌≡◌}
 use mathlib.Core.Bool.{true}
-use Prim.Native.Nat.{ℕ, ◌+◌, ◌*◌, ◌<◌, ◌≤◌}
+use Prim.Native.Nat.{ℕ, ◌*◌, ◌<◌, ◌≤◌}
 use native.Mathlib.Nat.{mul-le-mul, lt_of_mul-lt-mul_right}
 use native.Mathlib.Omega.{arith}
 use borrow.Author.Tests.{ltb-true, leb-true}
@@ -37,7 +37,3 @@ product_most n w few fits = mul-le-mul few (cycle_most w fits)
 -- a cycle that starts before a time by which the wave ends is one of the wave's
 pub in_wave : (w n k t : ℕ) → k * w < t → t ≤ n * w → k < n
 in_wave w n k t begun ends = lt_of_mul-lt-mul_right w (omega arith)
-
--- each cycle starts a cycle's length after the one before
-pub next_start : (w i next : ℕ) → i + 1 ≡ next → next * w ≡ i * w + w
-next_start w i next e = rw (← e) (omega arith)

@@ -1,17 +1,8 @@
 -- A read under way: with each cycle looked at, what it has found and the cycles to come still make the same read and
 -- leave the same cycle.
-use mathlib.Core.Path.{◌≡◌, refl, sym, ◌∙◌}
+use Rattle.std.proofs.Common.{◌≡◌, sym, ◌∙◌, true, List, ℕ, suc, ◌+◌, ◌*◌, ◌<◌, ◌≤◌, add-suc, suc-add, add-one, arith, length, drop, get_or, ltb, lt-ltb, le-ltb}
 use mathlib.Core.Logic.{dite}
-use mathlib.Core.Bool.{true}
-use mathlib.Core.List.{List}
-use Prim.Native.Nat.{ℕ, suc, ◌+◌, ◌*◌, ◌<◌, ◌≤◌}
-use native.Mathlib.Nat.{add-suc, suc-add}
-use native.Mathlib.Numerals.{add-one}
 use native.Mathlib.Decide.{dec_lt}
-use native.Mathlib.Omega.{arith}
-use lib.ListN.{length, drop, get_or}
-use lib.Dec.{ltb}
-use borrow.Author.Tests.{lt-ltb, le-ltb}
 use Rattle.measure.specs.Choose.{choose}
 use Rattle.measure.specs.Ranges.{cycle_length}
 use Rattle.line.specs.Warp.{cycle_start, reconcile, look, dropped}
@@ -32,13 +23,6 @@ module _ (starts : ℕ → ℕ) (t : ℕ) (levels : List ℕ) where
         gone = λ h. rw (dropped_more starts t levels i here h, add-suc, ← suc-add);
         kept = λ h. omega (arith, dropped_none starts t levels i here h);
       })
-
-  -- a level is to be reconciled with what is left
-  pub way_from : (level next : ℕ) → starts next < t
-      → UnderWay starts t levels (reconcile level (look starts t next (drop next levels)))
-      (next + dropped starts t next (drop next levels)) level next
-  way_from level next begun =
-      record { more = λ h. refl; done = λ h. absurd (omega arith); gone = λ h. refl; kept = λ h. absurd (omega arith) }
 
   -- one cycle more has been looked at; the last one before it ended at `end`, before the read
   pub way_on : (read left level i end level' next : ℕ) → UnderWay starts t levels read left level i
@@ -76,30 +60,12 @@ module _ (starts : ℕ → ℕ) (t : ℕ) (levels : List ℕ) where
 
 -- a read that ends at t, of cycles that are w long
 module _ (w t : ℕ) (levels : List ℕ) where
-  -- it ends before the last cycle looked at is over
-  pub finds_kept : {read left level next end v u e : ℕ} → UnderWay (cycle_start w) t levels read left level next
-      → next * w ≡ end → t < end → (level ≡ v) × (u + 1 ≡ next) × (end ≡ e)
-      → (read ≡ v) × (left ≡ u) × ((u + 1) * w ≡ e)
-  finds_kept way at_end within (is, last, ends) =
-      (way.done (omega arith) ∙ is, omega (arith, way.kept (omega arith)), rw last (at_end ∙ ends))
-
-  -- it ends with the last cycle looked at
-  pub finds_gone : {read left level next end v u e : ℕ} → cycle_length w ≡ true
-      → UnderWay (cycle_start w) t levels read left level next
-      → next * w ≡ end → t ≡ end → (level ≡ v) × (u ≡ next) × ((u + 1) * w ≡ e)
-      → (read ≡ v) × (left ≡ u) × ((u + 1) * w ≡ e)
-  finds_gone fits way at_end with_it (is, leaves, ends) = (
-    way.done (omega arith) ∙ is,
-    way_gone (cycle_start w) t levels way (omega arith) (omega (arith, cycle_least w fits)) ∙ sym leaves,
-    ends,
-  )
-
-  -- it ends in either way
+  -- it ends by the end of the last cycle looked at
   pub finds_left : {read left level next end v u e : ℕ} → cycle_length w ≡ true
-      → UnderWay (cycle_start w) t levels read left level next
-      → next * w ≡ end → t ≤ end → (level ≡ v) × (choose (ltb t end) (u + 1) u ≡ next) × ((u + 1) * w ≡ e)
+      → UnderWay (cycle_start w) t levels read left level next → next * w ≡ end
+      → (t ≤ end) × (level ≡ v) × (choose (ltb t end) (u + 1) u ≡ next) × ((u + 1) * w ≡ e)
       → (read ≡ v) × (left ≡ u) × ((u + 1) * w ≡ e)
-  finds_left {end = end} fits way at_end over (is, leaves, ends) = (
+  finds_left {end = end} fits way at_end (over, is, leaves, ends) = (
     way.done (omega arith) ∙ is,
     dite (dec_lt t end) (λ h. omega (arith, way.kept (omega arith), rw (lt-ltb t end h) at leaves))
         (λ h.

@@ -1,14 +1,10 @@
 -- The clocks that lists of lengths make: as far as there are lengths they have the rules' times, and after them they go
 -- on.
-use mathlib.Core.Path.{◌≡◌, refl}
-use mathlib.Core.Logic.{⊎_elim, dite}
-use mathlib.Core.List.{List}
-use Prim.Native.Nat.{ℕ, zero, suc, ◌+◌, ◌<◌, ◌≤◌}
-use native.Mathlib.Nat.{zero-add, eq-or-lt_of_le}
+use Rattle.std.proofs.Common.{sum, ◌≡◌, refl, ⊎_elim, List, ℕ, zero, suc, ◌+◌, ◌<◌, ◌≤◌, zero-add, eq-or-lt_of_le, add-one, arith, length, take, get_or}
+use mathlib.Core.Logic.{dite}
 use native.Mathlib.Decide.{dec_lt}
-use native.Mathlib.Numerals.{add-one}
-use native.Mathlib.Omega.{arith}
-use lib.ListN.{length, get_or, get_or-eq_default}
+use lib.ListN.{get_or-eq_default}
+use Rattle.std.proofs.lemmas.List.Sums.{sum_by_more}
 use Rattle.measure.proofs.LevelLaws.{get_d_any}
 use Rattle.line.specs.Wander.{start_of}
 use Rattle.line.specs.Running.{clock_of, Lengths}
@@ -46,6 +42,14 @@ module _ (past from : ℕ) (lengths : List ℕ) where
     where
       over : (i : ℕ) → length lengths ≤ i → get_or lengths i past ≡ past
       over i h = get_or-eq_default lengths past h
+
+-- when so many cycles are over, they have taken the sum of their lengths
+pub clock_sum : (from : ℕ) (lengths : List ℕ) (n : ℕ) → n ≤ length lengths
+    → clock_of 1 from lengths n ≡ from + sum (take n lengths)
+clock_sum from lengths zero within = omega (arith, clock_first 1 from lengths)
+clock_sum from lengths (suc n) within =
+    let more = rw (add-one n) at (sum_by_more (λ (x : ℕ). x) lengths n 0 within) in
+    omega (arith, clock_next 1 from lengths n within, clock_sum from lengths n (omega arith), more)
 
 -- the clock of a judged list: no time of it is more than the code's numbers hold
 module _ {lengths : List ℕ} (judged : Lengths lengths) (from : ℕ) where

@@ -1,17 +1,10 @@
 -- What levels one after another agree on: two stretches of them that meet or overlap agree on what the whole does. A
 -- wave with g high cycles before it is smoothed by what g + 1 of its levels agree on.
-use mathlib.Core.Path.{◌≡◌, refl, sym, ap, subst, ◌∙◌}
-use mathlib.Core.Logic.{◌≢◌, dite}
-use mathlib.Core.List.{List, [], ◌∷◌, ◌++◌}
-use Prim.Native.Nat.{ℕ, zero, suc, ◌+◌, ◌-◌, ◌≤◌, ◌<◌}
-use native.Mathlib.Nat.{add-zero, add-suc, suc-add, add_assoc}
+use Rattle.std.proofs.Common.{◌≡◌, refl, sym, ap, subst, ◌∙◌, ◌≢◌, List, ◌∷◌, ◌++◌, ℕ, zero, suc, ◌+◌, ◌-◌, ◌≤◌, ◌<◌, add-zero, add-suc, suc-add, add_assoc, arith, add-one, length, get_or, ext_get_or, eq-eqb, ne_eqb, lt-ltb, le-ltb}
+use mathlib.Core.Logic.{dite}
 use native.Mathlib.Decide.{ℕ_discrete, dec_le}
-use native.Mathlib.Omega.{arith}
-use native.Mathlib.Numerals.{add-one}
-use lib.ListN.{length, set, length-set}
-use lib.Seq.{sets, get_or-set_same, get_or-set_other, ext_get_or}
-use borrow.Author.Tests.{eq-eqb, ne_eqb, lt-ltb, le-ltb}
-use Rattle.measure.proofs.Stores.{Stored, stored_none, stored_one, stored_all}
+use Rattle.std.proofs.lemmas.List.{get_or_append_left}
+use Rattle.measure.proofs.LevelLaws.{get_d_any}
 use Rattle.line.specs.Smooth.{smooth}
 use Rattle.line.specs.Warp.{reconcile}
 use Rattle.line.specs.Windows.{level_at, led, agreeing, listed, agreed_apart, Holds, Widens}
@@ -122,59 +115,23 @@ listed_split f from (suc one) other =
     let e : suc one + other ≡ suc (one + other) = omega arith in
     rw (e, add-suc from one, ← suc-add from one) (ap (λ l. f from ∷ l) (listed_split f (suc from) one other))
 
--- values that are stored from a place on one after another, and of which i have been
-pub record Listing (out₀ : List ℕ) (to : ℕ) (f : ℕ → ℕ) (from count : ℕ) (out : List ℕ) (i : ℕ) : Type 0 where
-  pub within : i ≤ count
-  pub stored : Stored out₀ to (listed f from count) out (to + i) (listed f (from + i) (count - i))
-
-pub listing_none : (out : List ℕ) (to : ℕ) (f : ℕ → ℕ) (from count : ℕ) → Listing out to f from count out 0
-listing_none out to f from count =
-    let e : count - 0 ≡ count = omega arith in
-    record {
-      within = omega arith;
-      stored = rw (add-zero to, add-zero from, e) (stored_none out to (listed f from count));
-    }
-
-module _ {out₀ : List ℕ} {to : ℕ} {f : ℕ → ℕ} {from count : ℕ} {out : List ℕ} {i : ℕ}
-    (q : Listing out₀ to f from count out i) where
-  pub listing_one : (v : ℕ) → f (from + i) ≡ v → i < count → Listing out₀ to f from count (set out (to + i) v) (i + 1)
-  unfolding listed
-  listing_one v is h =
-      let e : count - i ≡ suc (count - (i + 1)) = omega arith in
-      let there : to + (i + 1) ≡ to + i + 1 = omega arith in
-      let next : suc (from + i) ≡ from + (i + 1) = omega arith in
-      record { within = omega arith; stored = rw there (stored_one (rw (e, is, next) at q.stored)) }
-
-  pub listing_all : count ≤ i → out ≡ sets out₀ to (listed f from count)
-  unfolding listed
-  listing_all h =
-      let e : count - i ≡ 0 = omega arith in
-      stored_all (rw e at q.stored)
-
--- a list after a run of stores, by places: before it and within it
-pub sets_before : (l : List ℕ) (from : ℕ) (stored : List ℕ) (i : ℕ) → i < from
-    → level_at (sets l from stored) i ≡ level_at l i
-sets_before l from [] i h = refl
-sets_before l from (x ∷ stored) i h =
-    sets_before (set l from x) (suc from) stored i (omega arith) ∙ get_or-set_other l from i x 2 (omega arith)
-
-pub sets_within : (l : List ℕ) (from : ℕ) (stored : List ℕ) (i : ℕ) → i < length stored
-    → from + length stored ≤ length l
-    → level_at (sets l from stored) (from + i) ≡ level_at stored i
-sets_within l from [] i h room = absurd (omega arith)
-sets_within l from (x ∷ stored) zero h room =
-    rw (add-zero from)
-    (sets_before (set l from x) (suc from) stored from (omega arith) ∙ get_or-set_same l from x 2 (omega arith))
-sets_within l from (x ∷ stored) (suc i) h room =
-    rw (add-suc from i, ← suc-add from i)
-    (sets_within (set l from x) (suc from) stored i (omega arith) (rw length-set (omega arith)))
-
--- what is stored at the front of a list stands there
-front_stored : (held stored after : List ℕ) (i : ℕ) → i < length stored → length stored ≤ length held
-    → sets held 0 stored ≡ after → level_at after i ≡ level_at stored i
-front_stored held stored after i h room is =
+-- a list whose entries are such values, in turn
+pub listed_by : (f : ℕ → ℕ) (xs : List ℕ) (count : ℕ) → length xs ≡ count
+    → ((i : ℕ) → i < count → get_or xs i 0 ≡ f i) → listed f 0 count ≡ xs
+listed_by f xs count size is =
+    ext_get_or 2 (listed f 0 count) xs (length_listed f 0 count ∙ sym size)
+    λ i p. let q : i < count = rw (length_listed f 0 count) at p in
     let e : 0 + i ≡ i = omega arith in
-    ap (λ (l : List ℕ). level_at l i) (sym is) ∙ rw e at (sets_within held 0 stored i h (omega arith))
+    rw e at (listed_at f 0 count i q) ∙ sym (is i q) ∙ get_d_any xs i 0 2 (omega arith)
+
+-- values one after another stand at the front of a list
+front_at : (f : ℕ → ℕ) (front rest : List ℕ) (count : ℕ) → listed f 0 count ≡ front → (i : ℕ) → i < count
+    → level_at (front ++ rest) i ≡ f i
+front_at f front rest count is i h =
+    let size : length front ≡ count = ap length (sym is) ∙ length_listed f 0 count in
+    let e : 0 + i ≡ i = omega arith in
+    get_or_append_left front rest 2 i (omega arith) ∙ ap (λ (l : List ℕ). level_at l i) (sym is)
+    ∙ rw e at (listed_at f 0 count i h)
 
 -- a list of what reach + 1 levels agree on, compared with itself some places further on, is one of what more of them do
 module _ (W : ℕ → ℕ) (reach apart start count : ℕ) (held : List ℕ) (near : apart ≤ suc reach) where
@@ -184,69 +141,55 @@ module _ (W : ℕ → ℕ) (reach apart start count : ℕ) (held : List ℕ) (ne
       rw (holds (i + apart) (omega arith), holds i (omega arith), ← add_assoc start i apart)
       (agree_wider W reach apart (start + i) near)
 
-  -- also where it is stored at the front of another list
-  pub stored_wider : (spare after : List ℕ) → Holds W reach start (count + apart) held → count ≤ length spare
-      → sets spare 0 (listed (agreed_apart (level_at held) apart) 0 count) ≡ after
-      → Holds W (reach + apart) start count after
-  stored_wider spare after holds room is i h =
-      let wider = listed (agreed_apart (level_at held) apart) 0 count in
-      let size : length wider ≡ count = length_listed (agreed_apart (level_at held) apart) 0 count in
-      let e : 0 + i ≡ i = omega arith in
-      front_stored spare wider after i (omega arith) (omega arith) is
-      ∙ rw e at (listed_at (agreed_apart (level_at held) apart) 0 count i h) ∙ holds_wider holds i h
+  -- also where it stands at the front of another list
+  pub front_wider : (front rest : List ℕ) → Holds W reach start (count + apart) held
+      → listed (agreed_apart (level_at held) apart) 0 count ≡ front
+      → Holds W (reach + apart) start count (front ++ rest)
+  front_wider front rest holds is i h =
+      front_at (agreed_apart (level_at held) apart) front rest count is i h ∙ holds_wider holds i h
 
-module _ (reach g count : ℕ) (held out : List ℕ) (to : ℕ) (after : List ℕ) where
+module _ (reach g count : ℕ) (held after : List ℕ) where
   -- the last step
   pub widens_last : reach < g → g - reach ≤ reach + 1
-      → sets out to (listed (agreed_apart (level_at held) (g - reach)) 0 count) ≡ after
-      → Widens reach g count held out to after
+      → listed (agreed_apart (level_at held) (g - reach)) 0 count ≡ after → Widens reach g count held after
   widens_last less near is W start holds =
       let e : reach + (g - reach) ≡ g = omega arith in
-      ap (λ (l : List ℕ). sets out to l)
-      (sym (listed_same (agreed_apart (level_at held) (g - reach)) (agreeing W g) 0 start count λ i h.
+      sym (listed_same (agreed_apart (level_at held) (g - reach)) (agreeing W g) 0 start count λ i h.
       let f : 0 + i ≡ i = omega arith in
       rw f
       (holds_wider W reach (g - reach) start count held (omega arith) holds i h
-      ∙ ap (λ (n : ℕ). agreeing W n (start + i)) e)))
+      ∙ ap (λ (n : ℕ). agreeing W n (start + i)) e))
       ∙ is
 
-  -- any other
-  pub widens_again : (spare spared : List ℕ) → reach + 1 < g - reach → count + g ≤ length spare
-      → sets spare 0 (listed (agreed_apart (level_at held) (reach + 1)) 0 (count + (g - reach - (reach + 1)))) ≡ spared
-      → Widens (reach + (reach + 1)) g count spared out to after → Widens reach g count held out to after
-  widens_again spare spared more room is again W start holds =
-      let wanted = count + (g - reach - (reach + 1)) in
+  -- any other, which stands at the front of another list
+  pub widens_again : (wanted : ℕ) (front rest : List ℕ) → reach + 1 < g - reach
+      → wanted ≡ count + (g - reach - (reach + 1))
+      → listed (agreed_apart (level_at held) (reach + 1)) 0 wanted ≡ front
+      → Widens (reach + (reach + 1)) g count (front ++ rest) after → Widens reach g count held after
+  widens_again wanted front rest more size is again W start holds =
       let had : count + (g - reach) ≡ wanted + (reach + 1) = omega arith in
       let wants : count + (g - (reach + (reach + 1))) ≡ wanted = omega arith in
       again W start
-      (rw wants
-      (stored_wider W reach (reach + 1) start wanted held (omega arith) spare spared (rw had at holds) (omega arith)
-      is))
+      (rw wants (front_wider W reach (reach + 1) start wanted held (omega arith) front rest (rw had at holds) is))
 
 -- the first step, from the levels themselves
 first_step : (W : ℕ → ℕ) (i : ℕ) → agreed_apart W 1 i ≡ agreeing W 1 i
 unfolding agreeing
 first_step W i = rw add-one
 
-module _ (W : ℕ → ℕ) (from count : ℕ) (out : List ℕ) (to : ℕ) (after : List ℕ) where
+module _ (W : ℕ → ℕ) (count : ℕ) (after : List ℕ) where
   -- it is the only one for a g of 1
-  pub block_one : (g : ℕ) → g ≡ 1 → sets out to (listed (agreed_apart W 1) from count) ≡ after
-      → sets out to (listed (agreeing W g) from count) ≡ after
+  pub block_one : (g : ℕ) → g ≡ 1 → listed (agreed_apart W 1) 0 count ≡ after → listed (agreeing W g) 0 count ≡ after
   block_one g e is =
-      rw e
-      (ap (λ (l : List ℕ). sets out to l)
-      (sym (listed_same (agreed_apart W 1) (agreeing W 1) from from count λ i h. first_step W (from + i)))
-      ∙ is)
+      rw e (sym (listed_same (agreed_apart W 1) (agreeing W 1) 0 0 count λ i h. first_step W (0 + i)) ∙ is)
 
-  pub block_more : (g : ℕ) (held first : List ℕ) → count + (g - 1) ≤ length held
-      → sets held 0 (listed (agreed_apart W 1) from (count + (g - 1))) ≡ first → Widens 1 g count first out to after
-      → sets out to (listed (agreeing W g) from count) ≡ after
-  block_more g held first room is widens =
-      let wanted = count + (g - 1) in
-      let size : length (listed (agreed_apart W 1) from wanted) ≡ wanted = length_listed (agreed_apart W 1) from wanted in
-      widens W from λ i h.
-      front_stored held (listed (agreed_apart W 1) from wanted) first i (omega arith) (omega arith) is
-      ∙ listed_at (agreed_apart W 1) from wanted i h ∙ first_step W (from + i)
+  pub block_more : (g wanted : ℕ) (front rest : List ℕ) → wanted ≡ count + (g - 1)
+      → listed (agreed_apart W 1) 0 wanted ≡ front → Widens 1 g count (front ++ rest) after
+      → listed (agreeing W g) 0 count ≡ after
+  block_more g wanted front rest size is widens =
+      widens W 0 λ i h.
+      let e : 0 + i ≡ i = omega arith in
+      rw e (front_at (agreed_apart W 1) front rest wanted is i (omega arith) ∙ first_step W i)
 
 module _ (g : ℕ) (wave : List ℕ) where
   -- the led wave by places

@@ -1,17 +1,16 @@
 -- Rules L and R: what each pass answers and leaves in the lent output, for all input, and what each case of the code
 -- says.
-use Rattle.std.specs.Prelude.{ℕ, Bool, true, ◌&&◌, List, [], ◌∷◌, length, leb, ltb}
+use Rattle.std.specs.Prelude.{ℕ, Bool, true, ◌&&◌, List, [], ◌∷◌, length, leb, ltb, Result}
 use Rattle.measure.specs.Choose.{between}
 use Rattle.measure.specs.Ranges.{settling, cycle_length, entries_most}
-use Rattle.measure.specs.Refusals.{Answer, given, denied, ranged, limited, entered, lent}
+use Rattle.measure.specs.Refusals.{Answer, says, ranged, limited, entered, lent}
 use Rattle.line.specs.Smooth.{smooth}
 use Rattle.line.specs.Warp.{warp}
 use Rattle.line.specs.Wander.{warp_by_lengths}
 use Rattle.line.specs.Settle.{settle}
-use Rattle.line.specs.declared.Smoothed.{Smoothed}
-use Rattle.line.specs.declared.Smoothed.TheVariants.{Wave, Refused as SmoothRefused}
-use Rattle.line.specs.declared.Read.{Read}
-use Rattle.line.specs.declared.Read.TheVariants.{Reads, Refused}
+use Rattle.measure.specs.declared.Refusal.{Refusal}
+use Rattle.measure.specs.declared.WriterCycles.{WriterCycles}
+use Rattle.measure.specs.declared.ReadCycles.{ReadCycles}
 
 -- R44: smooth takes levels: a 2 is refused
 unfoldable pub smoothed : (g : ℕ) (levels output : List ℕ) → Answer ℕ × List ℕ
@@ -73,11 +72,9 @@ settled reads choices output =
     (lent (settle reads choices) output))))
 
 -- A8: what each case of the code's answers says
-abbrev pub smoothed_says : Smoothed → Answer ℕ
-smoothed_says (Wave cycles) = given cycles.0
-smoothed_says (SmoothRefused refusal) = denied refusal
+abbrev pub smoothed_says : Result WriterCycles Refusal → Answer ℕ
+smoothed_says answer = says (λ cycles. cycles.0) answer
 
 -- A8: the same of both warps and of settle
-abbrev pub read_says : Read → Answer ℕ
-read_says (Reads reads) = given reads.0
-read_says (Refused refusal) = denied refusal
+abbrev pub read_says : Result ReadCycles Refusal → Answer ℕ
+read_says answer = says (λ reads. reads.0) answer

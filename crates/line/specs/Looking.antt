@@ -1,10 +1,10 @@
 -- A read of warp, cycle by cycle. The private functions promise each other what stands here; no public promise cites
 -- it.
-use Rattle.std.specs.Prelude.{ℕ, suc, ◌+◌, ◌*◌, ◌<◌, ◌≤◌, ◌≡◌, true, List, length, drop}
-use Rattle.measure.specs.Ranges.{cycle_length, entries_most}
+use Rattle.std.specs.Prelude.{ℕ, suc, ◌+◌, ◌*◌, ◌<◌, ◌≤◌, ◌≡◌, List, length, drop, ltb}
+use Rattle.measure.specs.Choose.{choose}
 use Rattle.line.specs.Warp.{cycle_start, reconcile, look, dropped}
-use Rattle.line.specs.declared.Looking.{Looking}
-use Rattle.line.specs.declared.Looked.{Looked}
+use Rattle.line.specs.declared.steady.Looking.{Looking}
+use Rattle.line.specs.declared.steady.Looked.{Looked}
 
 -- A read that ends at t is to be `read` and to leave cycle `left`. It has found `level` in the cycles before `next`.
 pub record UnderWay (starts : ℕ → ℕ) (t : ℕ) (levels : List ℕ) (read left level next : ℕ) : Type 0 where
@@ -27,20 +27,31 @@ left_from w t levels i = i + dropped (cycle_start w) t i (drop i levels)
 abbrev pub block_most : ℕ
 block_most = 64
 
--- The read goes on after the last cycle looked at, whose end is carried along, and it ends by the wave's end. A whole
--- block is `span` long.
-abbrev pub GoesOn : (w span t : ℕ) → List ℕ → Looking → Type 0
-GoesOn w span t levels looking =
-    (cycle_length w ≡ true) × (length levels ≤ entries_most) × (looking.next.0 * w ≡ looking.end.0)
-    × (looking.end.0 < t) × (t ≤ length levels * w) × (block_most * w ≡ span)
+-- the start that is carried along is that of the next cycle
+abbrev pub CarriesStart : (w : ℕ) → Looking → Type 0
+CarriesStart w looking = looking.next.0 * w ≡ looking.start.0
 
--- it is the same read after some cycles more, and the end that is carried along is that of the last of them
+-- the end that is carried on is that of the cycle left
+abbrev pub CarriesEnd : (w : ℕ) → Looked → Type 0
+CarriesEnd w x = (x.left.0 + 1) * w ≡ x.end.0
+
+-- the read goes on with the next cycle, and it ends by the wave's end
+abbrev pub GoesOn : (w t : ℕ) → List ℕ → Looking → Type 0
+GoesOn w t levels looking = CarriesStart w looking × (looking.start.0 < t) × (t ≤ length levels * w)
+
+-- it is the same read after some cycles more
 abbrev pub Onward : (w t : ℕ) → List ℕ → Looking → Looking → Type 0
 Onward w t levels before after =
     UnderWay (cycle_start w) t levels (read_from w t levels before.level before.next.0)
     (left_from w t levels before.next.0) after.level after.next.0
-    × (before.next.0 < after.next.0) × (after.next.0 ≤ length levels) × (after.next.0 * w ≡ after.end.0)
+    × (before.next.0 < after.next.0) × (after.next.0 ≤ length levels) × CarriesStart w after
 
--- what is found is the read and the cycle that it leaves, and the end that is carried on is that cycle's
+-- a read that ends by the end of the last cycle looked at, and the cycle that it leaves: that one, if it ends later
+abbrev pub Ends : (w t : ℕ) → Looking → Looked → Type 0
+Ends w t looking x =
+    (t ≤ looking.start.0) × (looking.level ≡ x.level)
+    × (choose (ltb t looking.start.0) (x.left.0 + 1) x.left.0 ≡ looking.next.0) × CarriesEnd w x
+
+-- what is found is the read and the cycle that it leaves
 abbrev pub Finds : (w read left : ℕ) → Looked → Type 0
-Finds w read left x = (read ≡ x.level) × (left ≡ x.left.0) × ((x.left.0 + 1) * w ≡ x.end.0)
+Finds w read left x = (read ≡ x.level) × (left ≡ x.left.0) × CarriesEnd w x

@@ -2,7 +2,7 @@
 use Rattle.std.specs.Prelude.{ℕ, zero, suc, ◌+◌, ◌<◌, ◌≤◌, ◌≡◌, List, length, drop, get_or}
 use Rattle.measure.specs.Ranges.{entries_most}
 use Rattle.line.specs.Warp.{look, dropped}
-use Rattle.line.specs.declared.wander.Seen.{Seen}
+use Rattle.line.specs.declared.steady.Looking.{Looking}
 
 -- The clock that lengths make, from a first start on. It goes on after the last length with cycles `past` long, which
 -- no read looks at, so that it never stands still.
@@ -23,10 +23,10 @@ pub record EndBy (reads : ℕ → ℕ) (most end n : ℕ) : Type 0 where
   pub late : n < most → end < reads (suc n)
 
 -- a read that ends at t is what its look from cycle `first` on says, and the cycle that it leaves starts when it says
-abbrev pub Sees : (starts : ℕ → ℕ) (t first : ℕ) → List ℕ → Seen → Type 0
+abbrev pub Sees : (starts : ℕ → ℕ) (t first : ℕ) → List ℕ → Looking → Type 0
 Sees starts t first levels x =
     (look starts t first (drop first levels) ≡ x.level)
-    × (first + dropped starts t first (drop first levels) ≡ x.left.0) × (starts x.left.0 ≡ x.start.0)
+    × (first + dropped starts t first (drop first levels) ≡ x.next.0) × (starts x.next.0 ≡ x.start.0)
 
 -- so many reads are there of a wave of so many cycles: of no cycle none
 pub record Counts (all p : ℕ) (cycles reads : List ℕ) (n : ℕ) : Type 0 where

@@ -1,7 +1,6 @@
 -- Smooth, as the code goes about it: a cycle is known if it and the g cycles before it have one level. The private
 -- functions promise each other what stands here; no public promise cites it.
 use Rattle.std.specs.Prelude.{ℕ, zero, suc, ◌+◌, ◌-◌, ◌<◌, ◌≡◌, List, [], ◌∷◌, get_or, ltb}
-use Rattle.std.proofs.lemmas.List.Edits.{sets}
 use Rattle.measure.specs.Choose.{choose}
 use Rattle.line.specs.Warp.{reconcile}
 
@@ -31,8 +30,8 @@ agreed_apart W apart i = reconcile (W (i + apart)) (W i)
 abbrev pub Holds : (W : ℕ → ℕ) (reach start count : ℕ) → List ℕ → Type 0
 Holds W reach start count held = (i : ℕ) → i < count → level_at held i ≡ agreeing W reach (start + i)
 
--- whatever W such a list is of, what `g + 1` of its levels agree on is stored from a place on
-abbrev pub Widens : (reach g count : ℕ) (held out : List ℕ) (to : ℕ) (after : List ℕ) → Type 0
-Widens reach g count held out to after =
+-- whatever W such a list is of, what `g + 1` of its levels agree on is what is found
+abbrev pub Widens : (reach g count : ℕ) (held after : List ℕ) → Type 0
+Widens reach g count held after =
     (W : ℕ → ℕ) (start : ℕ) → Holds W reach start (count + (g - reach)) held
-    → sets out to (listed (agreeing W g) start count) ≡ after
+    → listed (agreeing W g) start count ≡ after

@@ -7,219 +7,171 @@ ghost use Rattle.line.specs.Running.{clock_of, Lengths, EndBy, Sees, Counts};
 ghost use Rattle.line.specs.Answers.{bounds_fit, all_between, phase_fits, lengths_fit};
 ghost use Rattle.line.specs.Answers.{read_says, warped_by_lengths};
 
-use crate::{Read, agreed};
+use crate::agreed;
+use crate::steady::Looking;
 use measure::{
     CYCLE_LEAST, CYCLE_MOST, ENTRIES_MOST, ReadCycles, Refusal, TimeUnits, UNKNOWN, WriterCycles,
 };
 
-// Tells whether the least length and the greatest are in range and in order.
-fn bounds_fit(least: TimeUnits, most: TimeUnits) -> bool
-    ensures { bounds_fit least.0 most.0 ≡ result }
-{
-    let low = least.0;
-    let high = most.0;
-    measure::between(CYCLE_LEAST, CYCLE_MOST, low)
-        & measure::between(CYCLE_LEAST, CYCLE_MOST, high)
-        & (low <= high)
+// The least and the greatest that some lengths may be.
+#[derive(Clone, Copy)]
+pub struct Bounds {
+    pub least: TimeUnits,
+    pub most: TimeUnits,
 }
 
-// Tells whether each length of a list is from the least to the greatest.
-#[tactic(auto, using(crate::proofs::LengthsFit::between_on, crate::proofs::LengthsFit::below_least, crate::proofs::LengthsFit::above_most, crate::proofs::LengthsFit::between_end))]
-fn all_between(lengths: &[usize], least: TimeUnits, most: TimeUnits) -> bool
-    ensures { all_between least.0 most.0 lengths.now ≡ result }
-{
-    let low = least.0;
-    let high = most.0;
-    let mut i = 0;
-    while i < lengths.len() {
-        let one = lengths[i];
-        if one < low {
-            return false;
-        }
-        if high < one {
-            return false;
-        }
-        i += 1;
+impl Bounds {
+    // Tells whether both are in range and in order.
+    fn fit(self) -> bool
+        ensures { bounds_fit self.least.0 self.most.0 ≡ result }
+    {
+        measure::between(CYCLE_LEAST, CYCLE_MOST, self.least.0)
+            & measure::between(CYCLE_LEAST, CYCLE_MOST, self.most.0)
+            & (self.least.0 <= self.most.0)
     }
-    true
+
+    // Tells whether each length of a list keeps to them.
+    fn hold(self, lengths: &[usize]) -> bool
+        ensures { all_between self.least.0 self.most.0 lengths.now ≡ result }
+    {
+        lengths.iter().all(|length| measure::between(self.least.0, self.most.0, *length))
+    }
 }
 
 // Tells whether p is below the first writer cycle's length. Where there is none, p is not asked about.
 fn phase_fits(p: TimeUnits, cycles: &[usize]) -> bool
     ensures { phase_fits p.0 cycles.now ≡ result }
 {
-    let phase = p.0;
-    if cycles.len() == 0 {
-        return true;
-    }
-    phase < cycles[0]
+    cycles.first().is_none_or(|first| p.0 < *first)
+}
+
+// Tells whether the bounds of both lengths are in range and in order, each length keeps to its bounds, and p is below
+// the first writer cycle's length.
+fn lengths_fit(w: Bounds, r: Bounds, p: TimeUnits, cycles: &[usize], reads: &[usize]) -> bool
+    ensures { lengths_fit w.least.0 w.most.0 r.least.0 r.most.0 p.0 cycles.now reads.now
+        ≡ result }
+{
+    w.fit() & r.fit() & w.hold(cycles) & r.hold(reads) & phase_fits(p, cycles)
 }
 
 // The number of cycles that have both a level and a length.
 fn cycles_with_both(wave: &[u8], cycles: &[usize]) -> WriterCycles
     ensures { length (take (length cycles.now) wave.now) ≡ result.0 }
 {
-    if wave.len() < cycles.len() {
-        return WriterCycles(wave.len());
-    }
-    WriterCycles(cycles.len())
+    WriterCycles(wave.len().min(cycles.len()))
 }
 
-// When so many cycles are over.
-fn wave_end(cycles: &[usize], n: WriterCycles) -> TimeUnits
-    requires { Lengths cycles.now × (n.0 ≤ length cycles.now) }
-    ensures { clock_of 1 0 cycles.now n.0 ≡ result.0 }
-{
-    let all = n.0;
-    let mut end = 0;
-    let mut i = 0;
-    while i < all {
-        end += cycles[i];
-        i += 1;
-    }
-    TimeUnits(end)
+// Reads that start at p and last as their lengths say, which have been judged.
+#[derive(Clone, Copy)]
+struct Reads<'a> {
+    lengths: &'a [usize],
+    p: TimeUnits,
+    ghost judged: { Lengths lengths.now },
 }
 
-// The number of reads that have a length and end by `end`.
-fn reads_by(reads: &[usize], p: TimeUnits, end: TimeUnits) -> ReadCycles
-    requires { Lengths reads.now × (p.0 ≤ 65535) }
-    ensures { EndBy (clock_of 1 p.0 reads.now) (length reads.now) end.0 result.0 }
-{
-    let until = end.0;
-    let mut t = p.0;
-    let mut j = 0;
-    while j < reads.len() {
-        t += reads[j];
-        if until < t {
-            return ReadCycles(j);
+// A wave whose cycles last as their lengths say, which have been judged.
+#[derive(Clone, Copy)]
+struct Wandering<'a> {
+    wave: &'a [u8],
+    cycles: &'a [usize],
+    ghost judged: { Lengths cycles.now },
+    ghost lasting: { length wave.now ≤ length cycles.now },
+}
+
+impl<'a> Reads<'a> {
+    // The number of reads that have a length and end by `end`.
+    fn count_by(self, end: TimeUnits) -> ReadCycles
+        requires { self.p.0 ≤ 65535 }
+        ensures { EndBy (clock_of 1 self.entry.p.0 self.entry.lengths.now) (length self.entry.lengths.now) end.0
+            result.0 }
+    {
+        let mut t = self.p.0;
+        for (j, length) in self.lengths.iter().enumerate() {
+            t += *length;
+            if end.0 < t {
+                return ReadCycles(j);
+            }
         }
-        j += 1;
-    }
-    ReadCycles(j)
-}
-
-// What a read is, the first cycle that it leaves for the next read, and when that cycle starts.
-#[derive(Drop)]
-struct Seen {
-    level: u8,
-    left: WriterCycles,
-    start: TimeUnits,
-}
-
-// One read, which ends at `t`: it looks at the cycles left over, one after another, of which the first starts at
-// `start`.
-fn look_along(
-    wave: &[u8],
-    cycles: &[usize],
-    first: WriterCycles,
-    start: TimeUnits,
-    t: TimeUnits,
-) -> Seen
-    requires { Lengths cycles.now × (length wave.now ≤ length cycles.now)
-        × (clock_of 1 0 cycles.now first.0 ≡ start.0) × (start.0 < t.0)
-        × (t.0 ≤ clock_of 1 0 cycles.now (length wave.now)) }
-    ensures { Sees (clock_of 1 0 cycles.now) t.0 first.0 wave.now result }
-{
-    let until = t.0;
-    let i = first.0;
-    let mut level = wave[i];
-    let mut begun = start.0;
-    let mut over = begun + cycles[i];
-    let mut next = i + 1;
-    while over < until {
-        level = agreed(level, wave[next]);
-        begun = over;
-        over = begun + cycles[next];
-        next += 1;
-    }
-    if over == until {
-        return Seen {
-            level: level,
-            left: WriterCycles(next),
-            start: TimeUnits(over),
-        };
-    }
-    let last = next - 1;
-    Seen {
-        level: level,
-        left: WriterCycles(last),
-        start: TimeUnits(begun),
+        ReadCycles(self.lengths.len())
     }
 }
 
-// The number of reads: those that have a length and end by the end of the last cycle that has both a level and a
-// length.
-fn count_by_lengths(
-    all: WriterCycles,
-    cycles: &[usize],
-    reads: &[usize],
-    p: TimeUnits,
-) -> ReadCycles
-    requires { Lengths cycles.now × Lengths reads.now × (all.0 ≤ length cycles.now)
-        × (phase_fits p.0 cycles.now ≡ true) }
-    ensures { Counts all.0 p.0 cycles.now reads.now result.0 }
-{
-    let some = all.0;
-    if some == 0 {
-        return ReadCycles(0);
+impl<'a> Wandering<'a> {
+    // When the last cycle is over.
+    fn end(self) -> TimeUnits
+        ensures { clock_of 1 0 self.entry.cycles.now (length self.entry.wave.now) ≡ result.0 }
+    {
+        TimeUnits(self.cycles[..self.wave.len()].iter().sum())
     }
-    let end = wave_end(cycles, all);
-    reads_by(reads, p, end)
-}
 
-// Writes the reads one after another. The end of the current read and the start of the first cycle left are carried
-// along.
-fn warp_along(
-    wave: &[u8],
-    cycles: &[usize],
-    reads: &[usize],
-    p: TimeUnits,
-    n: ReadCycles,
-    out: &mut [u8],
-)
-    requires { Lengths cycles.now × Lengths reads.now × (length wave.now ≤ length cycles.now)
-        × (p.0 < clock_of 1 0 cycles.now 1)
-        × EndBy (clock_of 1 p.0 reads.now) (length reads.now) (clock_of 1 0 cycles.now (length wave.now))
-        n.0
-        × (n.0 ≤ length out.old) }
-    ensures { onto (take n.0
-        (warp_by (clock_of 1 0 cycles.now) (clock_of 1 p.0 reads.now) wave.now))
-        out.old ≡ out.new }
-{
-    let all = n.0;
-    let mut t = p.0;
-    let mut first = WriterCycles(0);
-    let mut start = TimeUnits(0);
-    let mut j = 0;
-    while j < all {
-        t += reads[j];
-        let seen = look_along(wave, cycles, first, start, TimeUnits(t));
-        out[j] = seen.level;
-        first = seen.left;
-        start = seen.start;
-        j += 1;
+    // The number of reads: those that have a length and end by the end of the last cycle.
+    fn count(self, reads: Reads<'a>) -> ReadCycles
+        requires { phase_fits reads.p.0 self.cycles.now ≡ true }
+        ensures { Counts (length self.entry.wave.now) reads.entry.p.0 self.entry.cycles.now reads.entry.lengths.now
+            result.0 }
+    {
+        if self.wave.len() == 0 {
+            return ReadCycles(0);
+        }
+        reads.count_by(self.end())
     }
-}
 
-// Tells whether the bounds of both lengths are in range and in order, each length keeps to its bounds, and p is below
-// the first writer cycle's length.
-fn lengths_fit(
-    w1: TimeUnits,
-    w2: TimeUnits,
-    r1: TimeUnits,
-    r2: TimeUnits,
-    p: TimeUnits,
-    cycles: &[usize],
-    reads: &[usize],
-) -> bool
-    ensures { lengths_fit w1.0 w2.0 r1.0 r2.0 p.0 cycles.now reads.now
-        ≡ result }
-{
-    bounds_fit(w1, w2)
-        & bounds_fit(r1, r2)
-        & all_between(cycles, w1, w2)
-        & all_between(reads, r1, r2)
-        & phase_fits(p, cycles)
+    // One read, which ends at `t`: it looks at the cycles left over, one after another, of which the first starts at
+    // `start`. What ends the loop is a time, and no place that a range could name.
+    fn look_along(self, first: WriterCycles, start: TimeUnits, t: TimeUnits) -> Looking
+        requires { (clock_of 1 0 self.cycles.now first.0 ≡ start.0) × (start.0 < t.0)
+            × (t.0 ≤ clock_of 1 0 self.cycles.now (length self.wave.now)) }
+        ensures { Sees (clock_of 1 0 self.entry.cycles.now) t.0 first.0 self.entry.wave.now result }
+    {
+        let until = t.0;
+        let i = first.0;
+        let mut level = self.wave[i];
+        let mut begun = start.0;
+        let mut over = begun + self.cycles[i];
+        let mut next = i + 1;
+        while over < until {
+            level = agreed(level, self.wave[next]);
+            begun = over;
+            over = begun + self.cycles[next];
+            next += 1;
+        }
+        if over == until {
+            return Looking {
+                level,
+                next: WriterCycles(next),
+                start: TimeUnits(over),
+            };
+        }
+        Looking {
+            level,
+            next: WriterCycles(next - 1),
+            start: TimeUnits(begun),
+        }
+    }
+
+    // Writes the reads one after another. The end of the current read and the start of the first cycle left are carried
+    // along. A loop of its own: with steady clocks no list says how long reads last, and ends are carried, not starts.
+    fn warp_along(self, reads: Reads<'a>, n: ReadCycles, out: &mut [u8])
+        requires { (reads.p.0 < clock_of 1 0 self.cycles.now 1)
+            × EndBy (clock_of 1 reads.p.0 reads.lengths.now) (length reads.lengths.now)
+            (clock_of 1 0 self.cycles.now (length self.wave.now)) n.0
+            × (n.0 ≤ length out.old) }
+        ensures { onto (take n.0
+            (warp_by (clock_of 1 0 self.entry.cycles.now) (clock_of 1 reads.entry.p.0 reads.entry.lengths.now)
+            self.entry.wave.now))
+            out.old ≡ out.new }
+    {
+        let mut t = reads.p.0;
+        let mut first = WriterCycles(0);
+        let mut start = TimeUnits(0);
+        for (j, length) in reads.lengths[..n.0].iter().enumerate() {
+            t += *length;
+            let seen = self.look_along(first, start, TimeUnits(t));
+            out[j] = seen.level;
+            first = seen.next;
+            start = seen.start;
+        }
+    }
 }
 
 // Pass 2 by lengths. Gives the reads of a wave whose cycles last as `cycles` says, w1 to w2 time units each, by a
@@ -232,45 +184,42 @@ fn lengths_fit(
 #[tactic(auto, unfolding(crate::specs::Answers::warped_by_lengths))]
 pub fn warp_by_lengths(
     wave: &[u8],
-    w1: TimeUnits,
-    w2: TimeUnits,
-    r1: TimeUnits,
-    r2: TimeUnits,
+    w: Bounds,
+    r: Bounds,
     p: TimeUnits,
     cycles: &[usize],
     reads: &[usize],
     out: &mut [u8],
-) -> Read
-    ensures { warped_by_lengths w1.0 w2.0 r1.0 r2.0 p.0 cycles.now reads.now
+) -> Result<ReadCycles, Refusal>
+    ensures { warped_by_lengths w.least.0 w.most.0 r.least.0 r.most.0 p.0 cycles.now reads.now
         wave.now out.old ≡ (read_says result, out.new) }
 {
-    if !lengths_fit(w1, w2, r1, r2, p, cycles, reads) {
-        return Read::Refused(Refusal::Setting(0));
+    if !lengths_fit(w, r, p, cycles, reads) {
+        return Err(Refusal::Setting(0));
     }
     if ENTRIES_MOST < wave.len() {
-        return Read::Refused(Refusal::Limit);
+        return Err(Refusal::Limit);
     }
     if ENTRIES_MOST < cycles.len() {
-        return Read::Refused(Refusal::Limit);
+        return Err(Refusal::Limit);
     }
     if ENTRIES_MOST < reads.len() {
-        return Read::Refused(Refusal::Limit);
+        return Err(Refusal::Limit);
     }
-    let bad = measure::first_above(wave, UNKNOWN);
-    if bad < wave.len() {
-        return Read::Refused(Refusal::Entry(bad));
-    }
+    measure::check_entries(wave, UNKNOWN)?;
     let all = cycles_with_both(wave, cycles);
-    let n = count_by_lengths(all, cycles, reads, p);
-    let room = n.0;
-    if out.len() < room {
-        return Read::Refused(Refusal::Room);
+    let wandering = Wandering {
+        wave: &wave[..all.0],
+        cycles,
+    };
+    let taken = Reads { lengths: reads, p };
+    let n = wandering.count(taken);
+    if out.len() < n.0 {
+        return Err(Refusal::Room);
     }
-    if room == 0 {
-        return Read::Reads(n);
+    if n.0 == 0 {
+        return Ok(n);
     }
-    let end = all.0;
-    let levels = &wave[..end];
-    warp_along(levels, cycles, reads, p, n, out);
-    Read::Reads(n)
+    wandering.warp_along(taken, n, out);
+    Ok(n)
 }

@@ -1,23 +1,22 @@
 // The counted receiver.
-use cases::reading::Numbers;
 use cases::{reading, show};
-use counted::Received;
+use counted::{Found, Stop};
 use measure::ReadCycles;
 use std::io;
 
-fn counted(rt: &impl Print, answer: Received) -> io::Result<usize> {
+fn counted(rt: &impl Print, answer: Result<Found, Stop>) -> io::Result<usize> {
     match answer {
-        Received::Bits(found, at) => {
-            show::count(rt, found)?;
-            show::named(rt, b" at ", at)?;
-            Ok(found)
+        Ok(found) => {
+            show::count(rt, found.bits)?;
+            show::named(rt, b" at ", found.at)?;
+            Ok(found.bits)
         }
-        Received::RanOut(found, at) => {
-            show::named(rt, b" refused 5 at ", at)?;
-            show::named(rt, b" after ", found)?;
-            Ok(found)
+        Err(Stop::RanOut(found)) => {
+            show::named(rt, b" refused 5 at ", found.at)?;
+            show::named(rt, b" after ", found.bits)?;
+            Ok(found.bits)
         }
-        Received::Refused(refusal) => {
+        Err(Stop::Refused(refusal)) => {
             show::refused(rt, refusal)?;
             Ok(0)
         }
@@ -25,9 +24,10 @@ fn counted(rt: &impl Print, answer: Received) -> io::Result<usize> {
 }
 
 // k n level, and the reads
-pub fn count_bits(rt: &impl Print, n: Numbers, reads: &[u8], out: &mut [u8]) -> io::Result<usize> {
+pub fn count_bits(rt: &impl Print, case: &[u8], reads: &[u8], out: &mut [u8]) -> io::Result<usize> {
+    let [k, n, level] = reading::numbers_of::<3>(case);
     counted(
         rt,
-        counted::count_bits(ReadCycles(n.n0), n.n1, reading::byte(n.n2), reads, out),
+        counted::count_bits(ReadCycles(k), n, reading::byte(level), reads, out),
     )
 }

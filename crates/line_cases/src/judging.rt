@@ -1,122 +1,103 @@
 // The judges: yes or no, and the margins.
-use cases::reading::Numbers;
 use cases::{reading, show};
-use measure::{ReadCycles, TimeUnits, WriterCycles};
-use settings::{Judged, Margins, QuietJudged, QuietMargins};
+use measure::{ReadCycles, Refusal, TimeUnits, WriterCycles};
+use settings::{Clocks, Margins, Pair, QuietMargins, Verdict};
 use std::io;
 
-fn three(rt: &impl Print, m: Margins) -> io::Result<()> {
-    show::signed(rt, m.m1)?;
-    show::signed(rt, m.m2)?;
-    show::signed(rt, m.m3)
+// Margins that are printed one after another.
+trait Shown: Copy {
+    fn shown(self, rt: &impl Print) -> io::Result<()>;
 }
 
-fn five(rt: &impl Print, m: QuietMargins) -> io::Result<()> {
-    show::signed(rt, m.m1)?;
-    show::signed(rt, m.m2)?;
-    show::signed(rt, m.m3)?;
-    show::signed(rt, m.m4)?;
-    show::signed(rt, m.m5)
+impl Shown for Margins {
+    fn shown(self, rt: &impl Print) -> io::Result<()> {
+        show::signed(rt, self.m1)?;
+        show::signed(rt, self.m2)?;
+        show::signed(rt, self.m3)
+    }
 }
 
-fn judged(rt: &impl Print, answer: Judged) -> io::Result<()> {
+impl Shown for QuietMargins {
+    fn shown(self, rt: &impl Print) -> io::Result<()> {
+        self.cell.shown(rt)?;
+        show::signed(rt, self.m4)?;
+        show::signed(rt, self.m5)
+    }
+}
+
+// Prints yes or no, and the margins; or why it refused. An operation that judges writes no entries.
+fn judged<M: Shown>(rt: &impl Print, answer: Result<Verdict<M>, Refusal>) -> io::Result<usize> {
     match answer {
-        Judged::Yes(margins) => {
+        Ok(Verdict::Yes(margins)) => {
             show::yes(rt)?;
-            three(rt, margins)
+            margins.shown(rt)?;
         }
-        Judged::No(margins) => {
+        Ok(Verdict::No(margins)) => {
             show::no(rt)?;
-            three(rt, margins)
+            margins.shown(rt)?;
         }
-        Judged::Refused(refusal) => show::refused(rt, refusal),
+        Err(refusal) => show::refused(rt, refusal)?,
+    }
+    Ok(0)
+}
+
+fn pair(a: usize, b: usize, g: usize) -> Pair {
+    Pair {
+        a: WriterCycles(a),
+        b: WriterCycles(b),
+        g: WriterCycles(g),
+    }
+}
+
+fn steady(w: usize, r: usize) -> Clocks {
+    Clocks::steady(TimeUnits(w), TimeUnits(r))
+}
+
+fn ends(w1: usize, w2: usize, r1: usize, r2: usize) -> Clocks {
+    Clocks {
+        w1: TimeUnits(w1),
+        w2: TimeUnits(w2),
+        r1: TimeUnits(r1),
+        r2: TimeUnits(r2),
     }
 }
 
 // a b g k w r
-pub fn judge(rt: &impl Print, n: Numbers) -> io::Result<usize> {
+pub fn judge(rt: &impl Print, case: &[u8]) -> io::Result<usize> {
+    let [a, b, g, k, w, r] = reading::numbers_of::<6>(case);
     judged(
         rt,
-        settings::judge(
-            WriterCycles(n.n0),
-            WriterCycles(n.n1),
-            WriterCycles(n.n2),
-            ReadCycles(n.n3),
-            TimeUnits(n.n4),
-            TimeUnits(n.n5),
-        ),
-    )?;
-    Ok(0)
+        settings::judge(pair(a, b, g), ReadCycles(k), steady(w, r)),
+    )
 }
 
 // a b g k w1 w2 r1 r2
-pub fn judge_ends(rt: &impl Print, n: Numbers) -> io::Result<usize> {
+pub fn judge_ends(rt: &impl Print, case: &[u8]) -> io::Result<usize> {
+    let [a, b, g, k, w1, w2, r1, r2] = reading::numbers_of::<8>(case);
     judged(
         rt,
-        settings::judge_ends(
-            WriterCycles(n.n0),
-            WriterCycles(n.n1),
-            WriterCycles(n.n2),
-            ReadCycles(n.n3),
-            TimeUnits(n.n4),
-            TimeUnits(n.n5),
-            TimeUnits(n.n6),
-            TimeUnits(n.n7),
-        ),
-    )?;
-    Ok(0)
-}
-
-fn quiet_judged(rt: &impl Print, answer: QuietJudged) -> io::Result<()> {
-    match answer {
-        QuietJudged::Yes(margins) => {
-            show::yes(rt)?;
-            five(rt, margins)
-        }
-        QuietJudged::No(margins) => {
-            show::no(rt)?;
-            five(rt, margins)
-        }
-        QuietJudged::Refused(refusal) => show::refused(rt, refusal),
-    }
+        settings::judge(pair(a, b, g), ReadCycles(k), ends(w1, w2, r1, r2)),
+    )
 }
 
 // a b g k w r Q lead
-pub fn judge_quiet(rt: &impl Print, n: Numbers) -> io::Result<usize> {
-    quiet_judged(
+pub fn judge_quiet(rt: &impl Print, case: &[u8]) -> io::Result<usize> {
+    let [a, b, g, k, w, r, q, lead] = reading::numbers_of::<8>(case);
+    let (q, lead) = (ReadCycles(q), WriterCycles(lead));
+    judged(
         rt,
-        settings::judge_quiet(
-            WriterCycles(n.n0),
-            WriterCycles(n.n1),
-            WriterCycles(n.n2),
-            ReadCycles(n.n3),
-            TimeUnits(n.n4),
-            TimeUnits(n.n5),
-            ReadCycles(n.n6),
-            WriterCycles(n.n7),
-        ),
-    )?;
-    Ok(0)
+        settings::judge_quiet(pair(a, b, g), ReadCycles(k), steady(w, r), q, lead),
+    )
 }
 
-// a b g k w1 w2 r1 r2 Q lead
+// a b g k w1 w2 r1 r2 Q lead, which may go on after a bar, where `numbers_of` ends
 pub fn judge_quiet_ends(rt: &impl Print, case: &[u8]) -> io::Result<usize> {
-    let mut n = [0usize; 10];
-    reading::number_list(reading::after(case, b':'), &mut n);
-    quiet_judged(
+    let mut numbers = [0; 10];
+    reading::number_list(reading::after(case, b':'), &mut numbers);
+    let [a, b, g, k, w1, w2, r1, r2, q, lead] = numbers;
+    let (q, lead) = (ReadCycles(q), WriterCycles(lead));
+    judged(
         rt,
-        settings::judge_quiet_ends(
-            WriterCycles(n[0]),
-            WriterCycles(n[1]),
-            WriterCycles(n[2]),
-            ReadCycles(n[3]),
-            TimeUnits(n[4]),
-            TimeUnits(n[5]),
-            TimeUnits(n[6]),
-            TimeUnits(n[7]),
-            ReadCycles(n[8]),
-            WriterCycles(n[9]),
-        ),
-    )?;
-    Ok(0)
+        settings::judge_quiet(pair(a, b, g), ReadCycles(k), ends(w1, w2, r1, r2), q, lead),
+    )
 }

@@ -1,102 +1,56 @@
 // The three passes of the line.
-use crate::numbers::{MOST, count};
-use cases::reading::Numbers;
+use crate::numbers::{MOST, numbers};
 use cases::{reading, show};
-use line::{Read, Smoothed};
+use line::{Bounds, Timing};
 use measure::{TimeUnits, WriterCycles};
 use std::io;
 
-fn smoothed(rt: &impl Print, answer: Smoothed) -> io::Result<usize> {
-    match answer {
-        Smoothed::Wave(cycles) => {
-            show::count(rt, cycles.0)?;
-            Ok(cycles.0)
-        }
-        Smoothed::Refused(refusal) => {
-            show::refused(rt, refusal)?;
-            Ok(0)
-        }
-    }
-}
-
-fn read(rt: &impl Print, answer: Read) -> io::Result<usize> {
-    match answer {
-        Read::Reads(count) => {
-            show::count(rt, count.0)?;
-            Ok(count.0)
-        }
-        Read::Refused(refusal) => {
-            show::refused(rt, refusal)?;
-            Ok(0)
-        }
-    }
-}
-
 // g, and the wave
-pub fn smooth(rt: &impl Print, n: Numbers, wave: &[u8], out: &mut [u8]) -> io::Result<usize> {
-    smoothed(rt, line::smooth(wave, WriterCycles(n.n0), out))
+pub fn smooth(rt: &impl Print, case: &[u8], wave: &[u8], out: &mut [u8]) -> io::Result<usize> {
+    let [g] = reading::numbers_of::<1>(case);
+    show::written(rt, line::smooth(wave, WriterCycles(g), out))
 }
 
 // w r p, and the wave
-pub fn warp(rt: &impl Print, n: Numbers, wave: &[u8], out: &mut [u8]) -> io::Result<usize> {
-    read(
-        rt,
-        line::warp(wave, TimeUnits(n.n0), TimeUnits(n.n1), TimeUnits(n.n2), out),
-    )
+pub fn warp(rt: &impl Print, case: &[u8], wave: &[u8], out: &mut [u8]) -> io::Result<usize> {
+    let [w, r, p] = reading::numbers_of::<3>(case);
+    let timing = Timing {
+        w: TimeUnits(w),
+        r: TimeUnits(r),
+        p: TimeUnits(p),
+    };
+    show::written(rt, line::warp(wave, timing, out))
 }
 
-fn warp_lists(
-    rt: &impl Print,
-    n: Numbers,
-    cycles: &[usize],
-    reads: &[usize],
-    wave: &[u8],
-    out: &mut [u8],
-) -> io::Result<usize> {
-    read(
-        rt,
-        line::warp_by_lengths(
-            wave,
-            TimeUnits(n.n0),
-            TimeUnits(n.n1),
-            TimeUnits(n.n2),
-            TimeUnits(n.n3),
-            TimeUnits(n.n4),
-            cycles,
-            reads,
-            out,
-        ),
-    )
+fn bounds(least: usize, most: usize) -> Bounds {
+    Bounds {
+        least: TimeUnits(least),
+        most: TimeUnits(most),
+    }
 }
 
 // w1 w2 r1 r2 p, and the wave, the lengths of its cycles and those of the reads
 pub fn warp_by_lengths(
     rt: &impl Print,
     case: &[u8],
-    n: Numbers,
     wave: &[u8],
     out: &mut [u8],
 ) -> io::Result<usize> {
-    let from = 0;
+    let [w1, w2, r1, r2, p] = reading::numbers_of::<5>(case);
+    let w = bounds(w1, w2);
+    let r = bounds(r1, r2);
     let first = reading::after(reading::after(case, b'|'), b'|');
     let second = reading::after(first, b'|');
-    let mut cycles = [0usize; MOST];
-    let mut reads = [0usize; MOST];
-    let written = count(first);
-    let taken = count(second);
-    reading::number_list(reading::until(first, b'|'), &mut cycles);
-    reading::number_list(second, &mut reads);
-    warp_lists(
+    let (mut cycles, mut reads) = ([0; MOST], [0; MOST]);
+    let cycles = numbers(reading::until(first, b'|'), &mut cycles);
+    let reads = numbers(second, &mut reads);
+    show::written(
         rt,
-        n,
-        &cycles[from..written],
-        &reads[from..taken],
-        wave,
-        out,
+        line::warp_by_lengths(wave, w, r, TimeUnits(p), cycles, reads, out),
     )
 }
 
 // the stream and the choices
 pub fn settle(rt: &impl Print, stream: &[u8], choices: &[u8], out: &mut [u8]) -> io::Result<usize> {
-    read(rt, line::settle(stream, choices, out))
+    show::written(rt, line::settle(stream, choices, out))
 }

@@ -1,70 +1,28 @@
 // Sending a message, and a plan.
-use crate::numbers::{MOST, count};
-use cases::reading::Numbers;
+use crate::numbers::{MOST, numbers};
 use cases::{reading, show};
 use measure::WriterCycles;
-use sender::Sent;
+use sender::Cell;
 use std::io;
 
-fn sent(rt: &impl Print, answer: Sent) -> io::Result<usize> {
-    match answer {
-        Sent::Wave(cycles) => {
-            show::count(rt, cycles.0)?;
-            Ok(cycles.0)
-        }
-        Sent::Refused(refusal) => {
-            show::refused(rt, refusal)?;
-            Ok(0)
-        }
+fn cell(a: usize, b: usize) -> Cell {
+    Cell {
+        a: WriterCycles(a),
+        b: WriterCycles(b),
     }
 }
 
 // a b lead, and the bits
-pub fn send(rt: &impl Print, n: Numbers, bits: &[u8], out: &mut [u8]) -> io::Result<usize> {
-    sent(
-        rt,
-        sender::send(
-            WriterCycles(n.n0),
-            WriterCycles(n.n1),
-            WriterCycles(n.n2),
-            bits,
-            out,
-        ),
-    )
-}
-
-fn plan(
-    rt: &impl Print,
-    n: Numbers,
-    leads: &[usize],
-    bits: &[u8],
-    out: &mut [u8],
-) -> io::Result<usize> {
-    sent(
-        rt,
-        sender::send_plan(
-            WriterCycles(n.n0),
-            WriterCycles(n.n1),
-            n.n2,
-            leads,
-            bits,
-            out,
-        ),
-    )
+pub fn send(rt: &impl Print, case: &[u8], bits: &[u8], out: &mut [u8]) -> io::Result<usize> {
+    let [a, b, lead] = reading::numbers_of::<3>(case);
+    show::written(rt, sender::send(cell(a, b), WriterCycles(lead), bits, out))
 }
 
 // a b n, and the bits and the leads
-pub fn send_plan(
-    rt: &impl Print,
-    case: &[u8],
-    n: Numbers,
-    bits: &[u8],
-    out: &mut [u8],
-) -> io::Result<usize> {
-    let from = 0;
+pub fn send_plan(rt: &impl Print, case: &[u8], bits: &[u8], out: &mut [u8]) -> io::Result<usize> {
+    let [a, b, n] = reading::numbers_of::<3>(case);
     let list = reading::after(reading::after(case, b'|'), b'|');
-    let mut leads = [0usize; MOST];
-    let rows = count(list);
-    reading::number_list(reading::until(list, b'>'), &mut leads);
-    plan(rt, n, &leads[from..rows], bits, out)
+    let mut leads = [0; MOST];
+    let leads = numbers(reading::until(list, b'>'), &mut leads);
+    show::written(rt, sender::send_plan(cell(a, b), n, leads, bits, out))
 }

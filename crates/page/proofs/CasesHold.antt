@@ -1,5 +1,5 @@
 -- The definitions compute to what the rules print.
-use mathlib.Core.Path.{refl}
+use Rattle.std.proofs.Common.{refl}
 use Rattle.measure.specs.Table.{Agree}
 use Rattle.capture.specs.Numbers.{following, group, number_at}
 use Rattle.capture.specs.Capture.{fitting_at, four_numbers, some_runs_from, runs_from, capture, reads_of_runs}

@@ -1,16 +1,12 @@
 -- No line is longer than twenty digits, a row's word, 1,024 bits and a line feed: numbers have at most twenty digits,
 -- and a row comes in 128 bytes.
-use Prim.Native.Nat.{ℕ, ◌-◌, ◌≤◌}
-use mathlib.Core.Path.{◌≡◌}
-use mathlib.Core.List.{List, []}
-use native.Mathlib.Omega.{arith}
-use lib.ListN.{length, take}
+use Rattle.std.proofs.Common.{Result, Option, Ok, Err, Some, None, ℕ, ◌-◌, ◌≤◌, List, [], arith, length, take}
 use Rattle.measure.specs.Refusals.{number_of, place_of}
 use Rattle.measure.specs.declared.Refusal.{Refusal}
 use Rattle.board.specs.Packed.{unpacked}
 use Rattle.board.specs.Answers.{event_says}
 use Rattle.board.specs.declared.Event.{Event as CodeEvent}
-use Rattle.board.specs.declared.Event.TheVariants.{Nothing, Row, Broken, Refused}
+use Rattle.board.specs.declared.Event.TheVariants.{Row, Broken}
 use Rattle.board.proofs.PackedBits.{length_unpacked}
 use Rattle.text.specs.Decimal.{decimal}
 use Rattle.text.proofs.Digits.{decimal_most}
@@ -29,16 +25,16 @@ refused_most refusal =
       decimal_most (place_of refusal),
     )
 
-pub longest : (w : Walk) (n : ℕ) (bytes : List ℕ) (event : CodeEvent) → length bytes ≤ 128
+pub longest : (w : Walk) (n : ℕ) (bytes : List ℕ) (event : Result (Option CodeEvent) Refusal) → length bytes ≤ 128
     → length (line_at w (event_says n bytes event)) ≤ 1050
-longest w n bytes Nothing h =
+longest w n bytes (Ok None) h =
     omega (
       arith,
       length_five end_text (decimal w.place) rows_text (decimal w.rows) feed [],
       decimal_most w.place,
       decimal_most w.rows,
     )
-longest w n bytes Row h =
+longest w n bytes (Ok (Some Row)) h =
     let bits = take n (unpacked 8 bytes) in
     omega (
       arith,
@@ -48,15 +44,11 @@ longest w n bytes Row h =
       taken_within n (unpacked 8 bytes),
       length_unpacked 8 bytes,
     )
-longest w n bytes (Broken found) h =
+longest w n bytes (Ok (Some (Broken found))) h =
     omega (
       arith,
       length_four (decimal (w.place - 1)) broken_text (decimal found) feed [],
       decimal_most (w.place - 1),
       decimal_most found,
     )
-longest w n bytes (Refused refusal) h = refused_most refusal
-
--- the line of a refusal by the numbers that its number and place were found to be
-pub refused_same : {n m p q : ℕ} → n ≡ m → p ≡ q → refused_line m q ≡ refused_line n p
-refused_same e f = rw (e, f)
+longest w n bytes (Err refusal) h = refused_most refusal

@@ -1,13 +1,6 @@
 -- Turn by turn the lines are those of all reports and the last: a turn takes the reads up to the first report, puts its
 -- line, and leaves the others to the turns after it.
-use Prim.Native.Nat.{ℕ, zero, suc, ◌+◌, ◌-◌, ◌≤◌, ◌<◌}
-use mathlib.Core.Path.{◌≡◌, refl, sym, ◌∙◌, ap}
-use mathlib.Core.Bool.{true}
-use mathlib.Core.List.{List, [], ◌∷◌, ◌++◌, map, append_assoc, append-nil}
-use native.Mathlib.Nat.{zero-add}
-use native.Mathlib.Omega.{arith}
-use lib.ListN.{length, take, drop, length-drop}
-use lib.Seq.{get_or-drop}
+use Rattle.std.proofs.Common.{ℕ, zero, suc, ◌+◌, ◌-◌, ◌≤◌, ◌<◌, ◌≡◌, refl, sym, ◌∙◌, ap, true, List, [], ◌∷◌, ◌++◌, map, append_assoc, append-nil, zero-add, arith, length, take, drop, length-drop, get_or-drop}
 use Rattle.measure.specs.Choose.{choose}
 use Rattle.measure.specs.Ranges.{entries_most}
 use Rattle.measure.specs.Refusals.{given}

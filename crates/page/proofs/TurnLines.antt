@@ -1,12 +1,6 @@
 -- A turn that goes on leaves fewer reads, since an event takes at least the read that brings it; so the number of turns
 -- does not matter once it passes that of the reads.
-use Prim.Native.Nat.{ℕ, zero, suc, ◌+◌, ◌<◌}
-use mathlib.Core.Path.{◌≡◌, refl, ap}
-use mathlib.Core.Bool.{Bool, true, false}
-use mathlib.Core.List.{List, [], ◌++◌}
-use native.Mathlib.Numerals.{add-one}
-use native.Mathlib.Omega.{arith}
-use lib.ListN.{length, drop, length-drop}
+use Rattle.std.proofs.Common.{ℕ, zero, suc, ◌+◌, ◌<◌, ◌≡◌, refl, ap, Bool, true, false, List, [], ◌++◌, add-one, arith, length, drop, length-drop}
 use Rattle.measure.specs.Choose.{choose}
 use Rattle.measure.specs.Refusals.{Answer, given, refused, refused_after}
 use Rattle.board.specs.Rows.{Event, nothing, row, broken}

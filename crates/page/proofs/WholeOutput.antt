@@ -1,12 +1,6 @@
 -- What the program writes on its way is the whole output: its reads are the accepted capture's, and the lines from
 -- fresh on are those of all their reports.
-use Prim.Native.Nat.{ℕ, ◌+◌}
-use mathlib.Core.Path.{◌≡◌, refl, ap, ◌∙◌}
-use mathlib.Core.List.{List, ◌++◌}
-use native.Mathlib.Nat.{add-zero, zero-add}
-use native.Mathlib.Omega.{arith}
-use lib.Dec.{ltb}
-use lib.ListN.{length, drop}
+use Rattle.std.proofs.Common.{ℕ, ◌+◌, ◌≡◌, refl, ap, ◌∙◌, List, ◌++◌, add-zero, zero-add, arith, ltb, length, drop}
 use lib.Seq.{take-append_seam}
 use Rattle.measure.specs.Choose.{choose}
 use Rattle.measure.specs.Ranges.{entries_most, input_most}

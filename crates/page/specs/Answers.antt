@@ -1,10 +1,8 @@
--- What putting a line answers: each case of the code's answer.
-use Rattle.std.specs.Prelude.{ℕ}
-use Rattle.measure.specs.Refusals.{Answer, given, denied}
-use Rattle.page.specs.declared.Put.{Put}
-use Rattle.page.specs.declared.Put.TheVariants.{Line, Refused}
+-- What putting a line answers: how many bytes the line at the front of the lent buffer has.
+use Rattle.std.specs.Prelude.{ℕ, Result}
+use Rattle.measure.specs.Refusals.{Answer, says}
+use Rattle.measure.specs.declared.Refusal.{Refusal}
 
 -- A8
-abbrev pub put_says : Put → Answer ℕ
-put_says (Line bytes) = given bytes
-put_says (Refused refusal) = denied refusal
+abbrev pub put_says : Result ℕ Refusal → Answer ℕ
+put_says answer = says (λ bytes. bytes) answer

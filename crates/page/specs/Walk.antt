@@ -64,7 +64,7 @@ lines_of w left = lines_from (length left + 1) w left
 
 -- E1: the way begins with a fresh receiver before the first read
 abbrev pub begin : Summary → Walk
-begin s = record { receiver = (begun s.k.0 s.n s.q.0).1; place = 0; rows = 0 }
+begin s = record { receiver = (begun s.settings.k.0 s.settings.n s.settings.q.0).1; place = 0; rows = 0 }
 
 -- E5: a capture that was read into a lent list gives the heading and its lines, a bad one only its refusal
 abbrev pub wrote_by : Answer Summary → List ℕ → List ℕ

@@ -1,4 +1,5 @@
 -- Each clause, read, is its equation.
+use Rattle.std.proofs.Common.{refl}
 use Rattle.promises.specs.ByContract.{ByContract}
 
 pub by_contract : ByContract
@@ -8,12 +9,11 @@ by_contract = record {
   between = λ κs a x left h. h;
   row_settings_fit_says = λ κs a x left h. h;
   first_above = λ κs a x left h. h;
+  check_entries = λ κs a x left h. h;
+  steady_clocks = λ κs a x left h. h;
   judge = λ κs a x left h. h;
   judge_quiet_says = λ κs a x left h. h;
   pick = λ κs a x left h. h;
-  judge_ends = λ κs a x left h. h;
-  judge_quiet_ends = λ κs a x left h. h;
-  pick_ends = λ κs a x left h. h;
   survey = λ κs a x left h. h;
   send = λ κs a x left h. h;
   send_plan_says = λ κs a x left h. h;
@@ -28,11 +28,12 @@ by_contract = record {
   count_bits = λ κs a x left h. h;
   read_times_says = λ κs a x left h. h;
   write_time_says = λ κs a x left h. h;
+  mode_number = λ κs a x left h. h;
   fresh = λ κs a x left h. h;
   well_formed_says = λ κs a x left h. h;
   step = λ κs a x left h. h;
   listen = λ κs a x left h. h;
-  bare = λ κs a x left h. h;
+  bare = λ receiver. refl;
   well_formed_lent_says = λ κs a x left h. h;
   step_lent = λ κs a x left h. h;
   listen_lent = λ κs a x left h. h;
@@ -44,9 +45,10 @@ by_contract = record {
   reader_place = λ κs a x left h. h;
   reader_next = λ κs a x left h. h;
   reader_advance = λ κs a x left h. h;
-  log_event_says = λ κs a x left h. h;
-  log_clear_says = λ κs a x left h. h;
+  log_event_says = λ κs a x left h. (h.0, h.1);
+  log_clear_says = λ κs a x left h. (h.0, h.1);
   log_list_says = λ κs a x left h. h;
+  end_within = λ κs a x left h. h;
   put_text = λ κs a x left h. h;
   number_size = λ κs a x left h. h;
   put_number = λ κs a x left h. h;

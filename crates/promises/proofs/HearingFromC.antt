@@ -52,10 +52,10 @@ module _ (g : Settings) where
     abbrev x : Receiver
     x = receiver_of g s
 
-    run_byte : x.runlevel ≤ 255
+    run_byte : x.bare.numbers.runlevel ≤ 255
     run_byte = omega (arith, v.level.most)
 
-    byte : x.level ≤ 255
+    byte : x.bare.numbers.level ≤ 255
     byte = level_low s.mode g s.run s.left (length s.bits) s.level v.fitting v.level.most
 
     step_crosses : (read : ℕ) (outcome : Outcome) → stepped x read ≡ outcome

@@ -4,54 +4,37 @@ use mathlib.Core.Path.{◌≡◌, refl, sym, ap, ◌∙◌}
 use mathlib.Core.List.{List}
 use lib.Dec.{eqb}
 use lib.IntN.{ℤ}
+use Rattle.std.specs.Prelude.{Result, Ok, Err, Option, None, Some}
 use Rattle.measure.specs.Choose.{choose}
-use Rattle.measure.specs.Refusals.{Answer, given, refused, refused_after, number_of, place_of}
+use Rattle.measure.specs.Refusals.{Answer, given, refused, refused_after, number_of, place_of, says as saying}
 use Rattle.measure.specs.declared.Refusal.{Refusal}
 use Rattle.measure.specs.declared.Refusal.TheVariants.{Setting, Entry, Limit, Room, Cut, Form, Range, NoCount}
 use Rattle.measure.specs.declared.Refusal.TheVariants.{NoEdge, NotLater, Miscounted}
-use Rattle.settings.specs.declared.Judged.{Judged}
-use Rattle.settings.specs.declared.Judged.TheVariants as J
-use Rattle.settings.specs.declared.QuietJudged.{QuietJudged}
-use Rattle.settings.specs.declared.QuietJudged.TheVariants as Q
-use Rattle.settings.specs.Answers.{Judgement, QuietJudgement, judged_says, quiet_judged_says}
-use Rattle.settings.specs.declared.picking.Picked.{Picked}
-use Rattle.settings.specs.declared.picking.Picked.TheVariants as U
+use Rattle.measure.specs.declared.WriterCycles.{WriterCycles}
+use Rattle.measure.specs.declared.ReadCycles.{ReadCycles}
+use Rattle.settings.specs.declared.Margins.{Margins}
+use Rattle.settings.specs.declared.QuietMargins.{QuietMargins}
+use Rattle.settings.specs.declared.Verdict.{Verdict}
+use Rattle.settings.specs.declared.Verdict.TheVariants as J
+use Rattle.settings.specs.Answers.{Judgement, QuietJudgement, judged_as, quiet_judged_as}
 use Rattle.settings.specs.Pick.{picked_says}
 use Rattle.settings.proofs.PickHolds.{only_one}
-use Rattle.settings.specs.declared.surveying.Surveyed.{Surveyed}
-use Rattle.settings.specs.declared.surveying.Surveyed.TheVariants as Survey
-use Rattle.settings.specs.Survey.{Report, none, told, surveyed_says}
-use Rattle.sender.specs.declared.Sent.{Sent}
-use Rattle.sender.specs.declared.Sent.TheVariants as S
-use Rattle.sender.specs.Answers.{sent_says}
-use Rattle.stored.specs.declared.Joined.{Joined}
-use Rattle.stored.specs.declared.Joined.TheVariants as I
-use Rattle.stored.specs.Answers.{Told, joined_says}
-use Rattle.halfcells.specs.declared.Encoded.{Encoded}
-use Rattle.halfcells.specs.declared.Encoded.TheVariants as B
-use Rattle.halfcells.specs.declared.Decoded.{Decoded}
-use Rattle.halfcells.specs.declared.Decoded.TheVariants as D
-use Rattle.halfcells.specs.Answers.{encoded_says, decoded_says}
-use Rattle.line.specs.declared.Smoothed.{Smoothed}
-use Rattle.line.specs.declared.Smoothed.TheVariants as M
-use Rattle.line.specs.declared.Read.{Read}
-use Rattle.line.specs.declared.Read.TheVariants as R
-use Rattle.line.specs.Answers.{smoothed_says, read_says}
-use Rattle.counted.specs.declared.Received.{Received}
-use Rattle.counted.specs.declared.Received.TheVariants as C
+use Rattle.settings.specs.declared.surveying.Figures.{Figures}
+use Rattle.settings.specs.Survey.{Report, none, told, reported}
+use Rattle.stored.specs.declared.Plan.{Plan}
+use Rattle.stored.specs.Answers.{Told, told as told_plan}
+use Rattle.counted.specs.declared.Found.{Found as Count}
+use Rattle.counted.specs.declared.Stop as Counted
+use Rattle.counted.specs.declared.Stop.TheVariants as C
 use Rattle.counted.specs.Answers.{counted_says}
-use Rattle.timecode.specs.declared.Read.{Read as Times}
-use Rattle.timecode.specs.declared.Read.TheVariants as T
-use Rattle.timecode.specs.declared.Written.{Written as Word}
-use Rattle.timecode.specs.declared.Written.TheVariants as Y
-use Rattle.timecode.specs.Answers.{read_says as times_says, written_says as word_says}
+use Rattle.timecode.specs.declared.Stop as Times
+use Rattle.timecode.specs.declared.Stop.TheVariants as T
+use Rattle.timecode.specs.Answers.{read_says as times_says}
 use Rattle.board.specs.Rows.{Event, nothing, row, broken}
 use Rattle.board.specs.declared.Event.{Event as CodeEvent}
 use Rattle.board.specs.declared.Event.TheVariants as E
-use Rattle.board.specs.declared.Start.{Start}
 use Rattle.board.specs.declared.Started.{Started}
 use Rattle.board.specs.declared.Receiver.{Receiver}
-use Rattle.board.specs.declared.Start.TheVariants as F
 use Rattle.board.specs.declared.Stepped.{Stepped}
 use Rattle.board.specs.declared.Listened.{Listened}
 use Rattle.board.specs.declared.Bare.{Bare}
@@ -61,31 +44,14 @@ use Rattle.capture.specs.Capture.{Heading}
 use Rattle.capture.specs.Numbers.{Numeral}
 use Rattle.capture.specs.declared.Summary.{Summary}
 use Rattle.capture.specs.declared.Number.{Number}
-use Rattle.capture.specs.declared.Number.TheVariants as N
-use Rattle.capture.specs.declared.Head.{Head}
-use Rattle.capture.specs.declared.Head.TheVariants as H
-use Rattle.capture.specs.declared.Checked.{Checked}
-use Rattle.capture.specs.declared.Checked.TheVariants as K
-use Rattle.capture.specs.declared.Written.{Written}
-use Rattle.capture.specs.declared.Written.TheVariants as W
-use Rattle.capture.specs.Answers.{number_says, head_says, checked_says, written_says}
-use Rattle.bay_log.specs.declared.Logged.{Logged}
-use Rattle.bay_log.specs.declared.Logged.TheVariants as L
-use Rattle.bay_log.specs.declared.Cleared.{Cleared}
-use Rattle.bay_log.specs.declared.Cleared.TheVariants as Z
-use Rattle.bay_log.specs.declared.Listed.{Listed}
-use Rattle.bay_log.specs.declared.Listed.TheVariants as O
+use Rattle.capture.specs.declared.Header.{Header}
+use Rattle.capture.specs.Answers.{headed}
 use Rattle.bay_log.specs.Records.{Log}
-use Rattle.bay_log.specs.Answers.{logged_says, cleared_says, listed_says}
-use Rattle.page.specs.declared.Put.{Put}
-use Rattle.page.specs.declared.Put.TheVariants as P
-use Rattle.page.specs.Answers.{put_says}
-use Rattle.region.specs.declared.Put.{Put as PutLines}
-use Rattle.region.specs.declared.Put.TheVariants as Report
-use Rattle.region.specs.Answers.{put_says as lines_say}
+use Rattle.bay_log.specs.Lent.{lent, SameReferences}
+use Rattle.bay_log.specs.declared.Log.{Log as Lent}
 use Rattle.siengulot.specs.Surveys.{Found}
-use Rattle.siengulot.specs.Receivers.{Reply, Lent}
-use Rattle.siengulot.specs.Picking.{picked_over}
+use Rattle.siengulot.specs.Receivers.{Reply, Lent as LentRoom}
+use Rattle.siengulot.specs.Crossing.{numbered}
 use Rattle.promises.specs.OneMeaning.{OneMeaning}
 
 -- an answer can be recovered from what it says
@@ -105,6 +71,27 @@ leaves : {X Y Z W : Type 0} (said : Said X Y) (place : Z → W) {defined : Y × 
 leaves {Y = Y} {Z = Z} said place h h' = (
   same said (ap (λ (p : Y × Z). p.0) h) (ap (λ (p : Y × Z). p.0) h'),
   ap (λ (p : Y × Z). place p.1) (sym h ∙ h'),
+)
+
+-- a log that is lent and was left so: its references are those from before, with the lists that are left behind them
+lent_again : Lent → Log → Lent
+lent_again old log =
+    record old {
+      numbers = record old.numbers { now = log.numbers };
+      bits = record old.bits { now = log.bits };
+      counts = record old.counts { now = log.counts };
+      broken = record old.broken { now = log.broken };
+      free = record old.free { now = log.free };
+      broken_count = record old.broken_count { now = log.broken_count };
+    }
+
+log_left : {X Y W : Type 0} (said : Said X Y) {defined : Y × Log} {x y : X} (old : Lent) {left right : Lent}
+    → SameReferences old left → SameReferences old right → defined ≡ (said.says x, lent left)
+    → defined ≡ (said.says y, lent right) → (place : Lent → W) → (x ≡ y) × (place left ≡ place right)
+unfolding lent_again
+log_left {Y = Y} said old same_left same_right h h' place = (
+  same said (ap (λ (p : Y × Log). p.0) h) (ap (λ (p : Y × Log). p.0) h'),
+  ap place (sym same_left ∙ ap (λ (p : Y × Log). lent_again old p.1) (sym h ∙ h') ∙ same_right),
 )
 
 -- what crosses to C is the result and all that is left
@@ -148,148 +135,143 @@ answer result denied after (refused number place) = denied (refusal number place
 answer result denied after (refused_after number place count) = after place count
 
 -- where none says how much was found, the case of refusal 1 stands in
-plain : {A X : Type 0} → (A → X) → (Refusal → X) → Answer A → X
+result : {X Y : Type 0} → (Y → X) → Answer Y → Result X Refusal
 unfolding answer
-plain result denied = answer result denied (λ place count. denied (Setting 0))
+result back = answer (λ y. Ok (back y)) Err (λ place count. Err (Setting 0))
 
-judged : Judgement → Judged
-judged j = choose j.accepts (J.Yes j.margins) (J.No j.margins)
+-- a result or a refusal can be recovered where the result can
+result_back : {X Y : Type 0} (tell : X → Y) (back : Y → X) → ((x : X) → back (tell x) ≡ x)
+    → (r : Result X Refusal) → result back (saying tell r) ≡ r
+unfolding result answer
+result_back tell back turns (Ok x) = ap Ok (turns x)
+result_back tell back turns (Err f) = ap Err (refusal_back f)
 
-quiet_judged : QuietJudgement → QuietJudged
-quiet_judged j = choose j.accepts (Q.Yes j.margins) (Q.No j.margins)
+result_said : {X Y : Type 0} (tell : X → Y) (back : Y → X) → ((x : X) → back (tell x) ≡ x)
+    → Said (Result X Refusal) (Answer Y)
+result_said tell back turns =
+    record { says = saying tell; back = result back; turns = result_back tell back turns }
 
-report : Report → Surveyed
-report none = Survey.NoBoards
-report (told f) = Survey.Boards f
+verdict : Judgement → Verdict Margins
+verdict j = choose j.accepts (J.Yes j.margins) (J.No j.margins)
 
-event : Event → CodeEvent
-event nothing = E.Nothing
-event (row bits) = E.Row
-event (broken found) = E.Broken found
+quiet_verdict : QuietJudgement → Verdict QuietMargins
+quiet_verdict j = choose j.accepts (J.Yes j.margins) (J.No j.margins)
 
-event_back : (n : ℕ) (bytes : List ℕ) (e : CodeEvent) → plain event E.Refused (event_says n bytes e) ≡ e
-unfolding plain answer event
-event_back n bytes E.Nothing = refl
-event_back n bytes E.Row = refl
-event_back n bytes (E.Broken found) = refl
-event_back n bytes (E.Refused f) = ap E.Refused (refusal_back f)
+report : Report → Option Figures
+report none = None
+report (told f) = Some f
+
+event : Event → Option CodeEvent
+event nothing = None
+event (row bits) = Some E.Row
+event (broken found) = Some (E.Broken found)
+
+event_back : (n : ℕ) (bytes : List ℕ) (e : Result (Option CodeEvent) Refusal)
+    → result event (event_says n bytes e) ≡ e
+unfolding result answer event
+event_back n bytes (Ok None) = refl
+event_back n bytes (Ok (Some E.Row)) = refl
+event_back n bytes (Ok (Some (E.Broken found))) = refl
+event_back n bytes (Err f) = ap Err (refusal_back f)
 
 -- a receiver's numbers, and what was told of lent bits, from the outcome
 bare_of : Receiver → Bare
-bare_of x =
-    record {
-      k = x.k;
-      n = x.n;
-      q = x.q;
-      mode = x.mode;
-      run = x.run;
-      runlevel = x.runlevel;
-      left = x.left;
-      level = x.level;
-      found = x.found;
-    }
+bare_of x = x.bare
 
 told_of : Outcome × ℕ → ToldLent
-unfolding plain answer event
+unfolding result answer event
 told_of (o, used) =
-    record { bare = bare_of o.receiver; event = plain event E.Refused o.answer; used = record { 0 = used } }
+    record { bare = bare_of o.receiver; event = result event o.answer; used = record { 0 = used } }
 
 step_of : Outcome → Stepped
-unfolding plain answer event
-step_of o = record { receiver = o.receiver; event = plain event E.Refused o.answer; row = o.row }
+unfolding result answer event
+step_of o = record { receiver = o.receiver; event = result event o.answer; row = o.row }
 
 listen_of : Outcome × ℕ → Listened
-unfolding plain answer event
+unfolding result answer event
 listen_of (o, used) =
     record {
       receiver = o.receiver;
-      event = plain event E.Refused o.answer;
+      event = result event o.answer;
       row = o.row;
       used =
           record { 0 = used };
     }
 
 pub one_meaning : OneMeaning
-unfolding plain answer judged quiet_judged report bare_of told_of step_of listen_of
+unfolding result result_said answer verdict quiet_verdict report bare_of told_of step_of listen_of
 one_meaning = record {
   number = record { always = λ κs a. tt; once = λ κs a x y left right h h'. (h ∙ sym h', refl) };
   place = record { always = λ κs a. tt; once = λ κs a x y left right h h'. (h ∙ sym h', refl) };
   between = record { always = λ κs a. tt; once = λ κs a x y left right h h'. (h ∙ sym h', refl) };
   row_settings_fit_says = record { always = λ κs a. tt; once = λ κs a x y left right h h'. (h ∙ sym h', refl) };
   first_above = record { always = λ κs a. tt; once = λ κs a x y left right h h'. (h ∙ sym h', refl) };
-  judge = record { always = λ κs a. tt; once = λ κs a x y left right h h'. (same judge_said h h', refl) };
-  judge_quiet_says = record { always = λ κs a. tt; once = λ κs a x y left right h h'. (same quiet_said h h', refl) };
+  check_entries = record { always = λ κs a. tt; once = λ κs a x y left right h h'. (sym h ∙ h', refl) };
+  steady_clocks = record { always = λ κs a. tt; once = λ κs a x y left right h h'. (h ∙ sym h', refl) };
+  judge = record { always = λ κs a. tt; once = λ κs a x y left right h h'. (same verdicts {x = x} {y = y} h h', refl) };
+  judge_quiet_says = record { always = λ κs a. tt; once = λ κs a x y left right h h'. (same quiet_verdicts {x = x} {y = y} h h', refl) };
   pick = record {
     always = λ κs a. tt;
     once = λ κs a x y left right h h'.
-        (same pick_said refl (only_one _ _ _ _ (picked_says x) (picked_says y) h h'), refl);
+        (same reads refl (only_one _ _ _ _ (picked_says x) (picked_says y) h h'), refl);
   };
-  judge_ends = record { always = λ κs a. tt; once = λ κs a x y left right h h'. (same judge_said h h', refl) };
-  judge_quiet_ends = record { always = λ κs a. tt; once = λ κs a x y left right h h'. (same quiet_said h h', refl) };
-  pick_ends = record {
-    always = λ κs a. tt;
-    once = λ κs a x y left right h h'.
-        (same pick_said refl (only_one _ _ _ _ (picked_says x) (picked_says y) h h'), refl);
-  };
-  survey = record { always = λ κs a. tt; once = λ κs a x y left right h h'. (same survey_said h h', refl) };
+  survey = record { always = λ κs a. tt; once = λ κs a x y left right h h'. (same reports {x = x} {y = y} h h', refl) };
   send = record {
     always = λ κs a. tt;
-    once = λ κs a x y left right h h'. leaves sent (λ l. (tt, (tt, (tt, (tt, (l, tt)))))) h h';
+    once = λ κs a x y left right h h'. leaves waves (λ l. (tt, (tt, (tt, (l, tt))))) {x = x} {y = y} h h';
   };
   send_plan_says = record {
     always = λ κs a. tt;
-    once = λ κs a x y left right h h'. leaves sent (λ l. (tt, (tt, (tt, (tt, (tt, (l, tt))))))) h h';
+    once = λ κs a x y left right h h'. leaves waves (λ l. (tt, (tt, (tt, (tt, (l, tt)))))) {x = x} {y = y} h h';
   };
   pads_in_range = record { always = λ κs a. tt; once = λ κs a x y left right h h'. (h ∙ sym h', refl) };
   read_plan_says = record {
     always = λ κs a. tt;
-    once = λ κs a x y left right h h'. leaves joined_said (λ l. (tt, (tt, (l, tt)))) h h';
+    once = λ κs a x y left right h h'. leaves plans (λ l. (tt, (tt, (l, tt)))) {x = x} {y = y} h h';
   };
   encode = record {
     always = λ κs a. tt;
-    once = λ κs a x y left right h h'. leaves encoded_said (λ l. (tt, (l, tt))) h h';
+    once = λ κs a x y left right h h'. leaves counts (λ l. (tt, (l, tt))) {x = x} {y = y} h h';
   };
   decode = record {
     always = λ κs a. tt;
-    once = λ κs a x y left right h h'. leaves decoded_said (λ l. (tt, (l, tt))) h h';
+    once = λ κs a x y left right h h'. leaves counts (λ l. (tt, (l, tt))) {x = x} {y = y} h h';
   };
   smooth = record {
     always = λ κs a. tt;
-    once = λ κs a x y left right h h'. leaves smooth_said (λ l. (tt, (tt, (l, tt)))) h h';
+    once = λ κs a x y left right h h'. leaves waves (λ l. (tt, (tt, (l, tt)))) {x = x} {y = y} h h';
   };
   warp = record {
     always = λ κs a. tt;
-    once = λ κs a x y left right h h'. leaves read (λ l. (tt, (tt, (tt, (tt, (l, tt)))))) h h';
+    once = λ κs a x y left right h h'. leaves reads (λ l. (tt, (tt, (l, tt)))) {x = x} {y = y} h h';
   };
   warp_by_lengths_says = record {
     always = λ κs a. tt;
     once = λ κs a x y left right h h'.
-        leaves read (λ l. (tt, (tt, (tt, (tt, (tt, (tt, (tt, (tt, (l, tt)))))))))) h h';
+        leaves reads (λ l. (tt, (tt, (tt, (tt, (tt, (tt, (l, tt)))))))) {x = x} {y = y} h h';
   };
   settle = record {
     always = λ κs a. tt;
-    once = λ κs a x y left right h h'. leaves read (λ l. (tt, (tt, (l, tt)))) h h';
+    once = λ κs a x y left right h h'. leaves reads (λ l. (tt, (tt, (l, tt)))) {x = x} {y = y} h h';
   };
   count_bits = record {
     always = λ κs a. tt;
-    once = λ κs a x y left right h h'. leaves counted_said (λ l. (tt, (tt, (tt, (tt, (l, tt)))))) h h';
+    once = λ κs a x y left right h h'. leaves counted_said (λ l. (tt, (tt, (tt, (tt, (l, tt)))))) {x = x} {y = y} h h';
   };
   read_times_says = record {
     always = λ κs a. tt;
-    once = λ κs a x y left right h h'. leaves times_said (λ l. (tt, (l, tt))) h h';
+    once = λ κs a x y left right h h'. leaves times_said (λ l. (tt, (l, tt))) {x = x} {y = y} h h';
   };
   write_time_says = record {
     always = λ κs a. tt;
-    once = λ κs a x y left right h h'. leaves word_said (λ l. (tt, (l, tt))) h h';
+    once = λ κs a x y left right h h'. leaves counts (λ l. (tt, (l, tt))) {x = x} {y = y} h h';
   };
+  mode_number = record { always = λ κs a. tt; once = λ κs a x y left right h h'. (sym h ∙ h', refl) };
   fresh = record { always = λ κs a. tt; once = λ κs a x y left right h h'. (started h h', refl) };
   well_formed_says = record { always = λ κs a. tt; once = λ κs a x y left right h h'. (h ∙ sym h', refl) };
-  step = record { always = λ κs a. tt; once = λ κs a x y left right h h'. (same stepped_said h h', refl) };
-  listen = record { always = λ κs a. tt; once = λ κs a x y left right h h'. (same listened_said h h', refl) };
-  bare = record {
-    always = λ κs a. tt;
-    once = λ κs a x y left right h h'. (ap bare_of (h ∙ sym h'), refl);
-  };
+  step = record { always = λ κs a. tt; once = λ κs a x y left right h h'. (same stepped_said {x = x} {y = y} h h', refl) };
+  listen = record { always = λ κs a. tt; once = λ κs a x y left right h h'. (same listened_said {x = x} {y = y} h h', refl) };
+  bare = λ receiver x y h h'. ap bare_of (h ∙ sym h');
   well_formed_lent_says = record { always = λ κs a. tt; once = λ κs a x y left right h h'. (h ∙ sym h', refl) };
   step_lent = record {
     always = λ κs a. tt;
@@ -299,42 +281,35 @@ one_meaning = record {
     always = λ κs a. tt;
     once = λ κs a x y left right h h'. told h h' (λ bits row. (tt, (tt, (bits, (row, tt)))));
   };
-  read_header = record { always = λ κs a. tt; once = λ κs a x y left right h h'. (same head_said h h', refl) };
-  check = record { always = λ κs a. tt; once = λ κs a x y left right h h'. (same checked_said h h', refl) };
+  read_header = record { always = λ κs a. tt; once = λ κs a x y left right h h'. (same headers {x = x} {y = y} h h', refl) };
+  check = record { always = λ κs a. tt; once = λ κs a x y left right h h'. (same summaries {x = x} {y = y} h h', refl) };
   read_capture_says = record {
     always = λ κs a. tt;
-    once = λ κs a x y left right h h'. leaves checked_said (λ l. (tt, (l, tt))) h h';
+    once = λ κs a x y left right h h'. leaves summaries (λ l. (tt, (l, tt))) {x = x} {y = y} h h';
   };
   write_capture_says = record {
     always = λ κs a. tt;
-    once = λ κs a x y left right h h'. leaves written_said (λ l. (tt, (tt, (tt, (tt, (l, tt)))))) h h';
+    once = λ κs a x y left right h h'. leaves counts (λ l. (tt, (tt, (l, tt)))) {x = x} {y = y} h h';
   };
   reader_new = record { always = λ κs a. tt; once = λ κs a x y left right h h'. (h ∙ sym h', refl) };
   reader_place = record { always = λ κs a. tt; once = λ κs a x y left right h h'. (h ∙ sym h', refl) };
-  reader_next = record { always = λ κs a. tt; once = λ κs a x y left right h h'. (same number_said h h', refl) };
+  reader_next = record { always = λ κs a. tt; once = λ κs a x y left right h h'. (same numbers {x = x} {y = y} h h', refl) };
   reader_advance = record { always = λ κs a. tt; once = λ κs a x y left right h h'. (h ∙ sym h', refl) };
   log_event_says = record {
     always = λ κs a. tt;
     once = λ κs a x y left right h h'.
-        leaves logged_said
-        (λ (l : Log). (
-          tt,
-          (tt, (tt, (tt, (l.numbers, (l.bits, (l.counts, (l.broken, (l.free, (l.broken_count, tt))))))))),
-        )) h h';
+        log_left counts {x = x} {y = y} a.1.0.now h.0 h'.0 h.1 h'.1 (λ l. (tt, (l, tt)));
   };
   log_clear_says = record {
     always = λ κs a. tt;
     once = λ κs a x y left right h h'.
-        leaves cleared_said
-        (λ (l : Log). (
-          tt,
-          (l.numbers, (l.bits, (l.counts, (l.broken, (l.free, (l.broken_count, tt)))))),
-        )) h h';
+        log_left cleared {x = x} {y = y} a.1.0.now h.0 h'.0 h.1 h'.1 (λ l. (tt, (l, tt)));
   };
   log_list_says = record {
     always = λ κs a. tt;
-    once = λ κs a x y left right h h'. leaves listed_said (λ l. (tt, (tt, (l, tt)))) h h';
+    once = λ κs a x y left right h h'. leaves counts (λ l. (tt, (tt, (l, tt)))) {x = x} {y = y} h h';
   };
+  end_within = record { always = λ κs a. tt; once = λ κs a x y left right h h'. (h ∙ sym h', refl) };
   put_text = record {
     always = λ κs a. tt;
     once = λ κs a x y left right h h'. crosses (λ (p : ℕ × List ℕ). p.0) (λ p. (p.1, (tt, (tt, tt)))) h h';
@@ -349,26 +324,26 @@ one_meaning = record {
     always = λ κs a. tt;
     once = λ κs a x y left right h h'. crosses (λ (p : ℕ × List ℕ). p.0) (λ p. (p.1, (tt, (tt, tt)))) h h';
   };
-  put_heading = record { always = λ κs a. tt; once = λ κs a x y left right h h'. leaves line (λ l. (l, tt)) h h' };
+  put_heading = record { always = λ κs a. tt; once = λ κs a x y left right h h'. leaves counts (λ l. (l, tt)) h h' };
   put_row = record {
     always = λ κs a. tt;
-    once = λ κs a x y left right h h'. leaves line (λ l. (tt, (tt, (tt, (l, tt))))) h h';
+    once = λ κs a x y left right h h'. leaves counts (λ l. (tt, (tt, (tt, (l, tt))))) {x = x} {y = y} h h';
   };
   put_broken = record {
     always = λ κs a. tt;
-    once = λ κs a x y left right h h'. leaves line (λ l. (tt, (tt, (l, tt)))) h h';
+    once = λ κs a x y left right h h'. leaves counts (λ l. (tt, (tt, (l, tt)))) {x = x} {y = y} h h';
   };
   put_end = record {
     always = λ κs a. tt;
-    once = λ κs a x y left right h h'. leaves line (λ l. (tt, (tt, (l, tt)))) h h';
+    once = λ κs a x y left right h h'. leaves counts (λ l. (tt, (tt, (l, tt)))) {x = x} {y = y} h h';
   };
   put_refused = record {
     always = λ κs a. tt;
-    once = λ κs a x y left right h h'. leaves line (λ l. (tt, (l, tt))) h h';
+    once = λ κs a x y left right h h'. leaves counts (λ l. (tt, (l, tt))) {x = x} {y = y} h h';
   };
   survey_lines_says = record {
     always = λ κs a. tt;
-    once = λ κs a x y left right h h'. leaves lines_said (λ l. (tt, (tt, (tt, (tt, (tt, (tt, (l, tt)))))))) h h';
+    once = λ κs a x y left right h h'. leaves counts (λ l. (tt, (tt, (tt, (tt, (tt, (tt, (l, tt)))))))) {x = x} {y = y} h h';
   };
   siengulot_judge = record {
     always = λ κs a. tt;
@@ -387,7 +362,7 @@ one_meaning = record {
     once = λ κs a x y left right h h'.
         crosses (λ (p : ℕ × ℕ). p.0)
         (λ p. (tt, (tt, (tt, (tt, (tt, (p.1, tt))))))) h.crosses
-        (ap picked_over (only_one _ _ _ _ h.answer h'.answer h.fits h'.fits) ∙ h'.crosses);
+        (ap numbered (only_one _ _ _ _ h.answer h'.answer h.fits h'.fits) ∙ h'.crosses);
   };
   siengulot_judge_ends = record {
     always = λ κs a. tt;
@@ -406,7 +381,7 @@ one_meaning = record {
     once = λ κs a x y left right h h'.
         crosses (λ (p : ℕ × ℕ). p.0)
         (λ p. (tt, (tt, (tt, (tt, (tt, (tt, (tt, (p.1, tt))))))))) h.crosses
-        (ap picked_over (only_one _ _ _ _ h.answer h'.answer h.fits h'.fits) ∙ h'.crosses);
+        (ap numbered (only_one _ _ _ _ h.answer h'.answer h.fits h'.fits) ∙ h'.crosses);
   };
   siengulot_send = record {
     always = λ κs a. tt;
@@ -478,13 +453,13 @@ one_meaning = record {
   siengulot_step = record {
     always = λ κs a. tt;
     once = λ κs a x y left right h h'.
-        crosses (λ (p : Reply × Lent). p.0.number)
+        crosses (λ (p : Reply × LentRoom). p.0.number)
         (λ p. (p.1.numbers, (p.1.bytes, (tt, (p.1.row, (p.0.event, (p.0.found, (p.0.place, tt)))))))) h h';
   };
   siengulot_listen = record {
     always = λ κs a. tt;
     once = λ κs a x y left right h h'.
-        crosses (λ (p : (Reply × Lent) × ℕ). p.0.0.number)
+        crosses (λ (p : (Reply × LentRoom) × ℕ). p.0.0.number)
         (λ p. (
           p.0.1.numbers,
           (
@@ -580,111 +555,108 @@ one_meaning = record {
   };
   held_new = λ bytes x y h h'. h ∙ sym h';
   held_place = λ reader x y h h'. h ∙ sym h';
-  held_next = λ bytes at x y h h'. same number_said h h';
+  held_next = λ bytes at x y h h'. same numbers {x = x} {y = y} h h';
   held_advance = λ reader x y h h'. h ∙ sym h';
 }
   where
-    judge_back : (x : Judged) → plain judged J.Refused (judged_says x) ≡ x
-    judge_back (J.Yes m) = refl
-    judge_back (J.No m) = refl
-    judge_back (J.Refused f) = ap J.Refused (refusal_back f)
+    -- what counts something, in whatever unit
+    counts : Said (Result ℕ Refusal) (Answer ℕ)
+    counts = result_said (λ n. n) (λ n. n) (λ n. refl)
 
-    quiet_back : (x : QuietJudged) → plain quiet_judged Q.Refused (quiet_judged_says x) ≡ x
-    quiet_back (Q.Yes m) = refl
-    quiet_back (Q.No m) = refl
-    quiet_back (Q.Refused f) = ap Q.Refused (refusal_back f)
+    waves : Said (Result WriterCycles Refusal) (Answer ℕ)
+    waves = result_said (λ cycles. cycles.0) (λ n. record { 0 = n }) (λ cycles. refl)
 
-    pick_back : (x : Picked) → plain (λ n. U.K (record { 0 = n })) U.Refused (picked_says x) ≡ x
-    pick_back (U.K k) = refl
-    pick_back (U.Refused f) = ap U.Refused (refusal_back f)
+    reads : Said (Result ReadCycles Refusal) (Answer ℕ)
+    reads = result_said (λ cycles. cycles.0) (λ n. record { 0 = n }) (λ cycles. refl)
 
-    survey_back : (x : Surveyed) → plain report Survey.Refused (surveyed_says x) ≡ x
-    survey_back Survey.NoBoards = refl
-    survey_back (Survey.Boards f) = refl
-    survey_back (Survey.Refused f) = ap Survey.Refused (refusal_back f)
+    verdicts : Said (Result (Verdict Margins) Refusal) (Answer Judgement)
+    verdicts = result_said judged_as verdict (elim [ J.Yes m ↦ refl | J.No m ↦ refl ])
 
-    lines_back : (x : PutLines) → plain Report.Lines Report.Refused (lines_say x) ≡ x
-    lines_back (Report.Lines n) = refl
-    lines_back (Report.Refused f) = ap Report.Refused (refusal_back f)
+    quiet_verdicts : Said (Result (Verdict QuietMargins) Refusal) (Answer QuietJudgement)
+    quiet_verdicts = result_said quiet_judged_as quiet_verdict (elim [ J.Yes m ↦ refl | J.No m ↦ refl ])
 
-    send_back : (x : Sent) → plain (λ n. S.Wave (record { 0 = n })) S.Refused (sent_says x) ≡ x
-    send_back (S.Wave cycles) = refl
-    send_back (S.Refused f) = ap S.Refused (refusal_back f)
+    reports : Said (Result (Option Figures) Refusal) (Answer Report)
+    reports = result_said reported report (elim [ None ↦ refl | Some f ↦ refl ])
 
-    joined_back : (x : Joined) → plain (λ t. I.Plan t.rows (record { 0 = t.dropped })) I.Refused (joined_says x) ≡ x
-    joined_back (I.Plan rows cycles) = refl
-    joined_back (I.Refused f) = ap I.Refused (refusal_back f)
+    plans : Said (Result Plan Refusal) (Answer Told)
+    plans = result_said told_plan (λ t. record { rows = t.rows; dropped = record { 0 = t.dropped } }) (λ plan. refl)
 
-    logged_back : (x : Logged) → plain L.At L.Refused (logged_says x) ≡ x
-    logged_back (L.At n) = refl
-    logged_back (L.Refused f) = ap L.Refused (refusal_back f)
+    cleared : Said (Result (Unit {0}) Refusal) (Answer (Unit {0}))
+    cleared = result_said (λ done. done) (λ done. done) (λ done. refl)
 
-    cleared_back : (x : Cleared) → plain (λ done. Z.Done) Z.Refused (cleared_says x) ≡ x
-    cleared_back Z.Done = refl
-    cleared_back (Z.Refused f) = ap Z.Refused (refusal_back f)
+    numbers : Said (Result Number Refusal) (Answer Numeral)
+    numbers =
+        result_said (λ number. record { value = number.value; after = number.after })
+        (λ n. record { value = n.value; after = n.after }) (λ number. refl)
 
-    listed_back : (x : Listed) → plain O.Places O.Refused (listed_says x) ≡ x
-    listed_back (O.Places n) = refl
-    listed_back (O.Refused f) = ap O.Refused (refusal_back f)
+    head : Heading → Header
+    head h =
+        record {
+          settings = record { k = record { 0 = h.k }; n = h.n; q = record { 0 = h.Q } };
+          level = h.level;
+          level_at = h.level_at;
+          after = h.after;
+        }
 
-    logged_said : Said Logged (Answer ℕ)
-    logged_said = record { says = logged_says; back = plain L.At L.Refused; turns = logged_back }
+    headers : Said (Result Header Refusal) (Answer Heading)
+    headers = result_said headed head (λ header. refl)
 
-    cleared_said : Said Cleared (Answer (Unit {0}))
-    cleared_said = record { says = cleared_says; back = plain (λ done. Z.Done) Z.Refused; turns = cleared_back }
+    summaries : Said (Result Summary Refusal) (Answer Summary)
+    summaries = result_said (λ summary. summary) (λ summary. summary) (λ summary. refl)
 
-    listed_said : Said Listed (Answer ℕ)
-    listed_said = record { says = listed_says; back = plain O.Places O.Refused; turns = listed_back }
+    start_back : (x : Result (Unit {0}) Refusal) → result (λ e. tt) (start_says x) ≡ x
+    start_back (Ok done) = refl
+    start_back (Err f) = ap Err (refusal_back f)
 
-    encode_back : (x : Encoded) → plain B.Words B.Refused (encoded_says x) ≡ x
-    encode_back (B.Words n) = refl
-    encode_back (B.Refused f) = ap B.Refused (refusal_back f)
+    starts : Said (Result (Unit {0}) Refusal) (Answer Event)
+    starts = record { says = start_says; back = result (λ e. tt); turns = start_back }
 
-    decode_back : (x : Decoded) → plain D.Bytes D.Refused (decoded_says x) ≡ x
-    decode_back (D.Bytes n) = refl
-    decode_back (D.Refused f) = ap D.Refused (refusal_back f)
+    -- refusals 5 and 10 say how much had been found by then
+    count_back : (x : Result Count Counted.Stop)
+        → answer (λ p. Ok (record { bits = p.0; at = p.1 })) (λ f. Err (C.Refused f))
+        (λ at n. Err (C.RanOut (record { bits = n; at = at })))
+        (counted_says x)
+        ≡ x
+    count_back (Ok found) = refl
+    count_back (Err (C.RanOut found)) = refl
+    count_back (Err (C.Refused f)) = ap (λ r. Err (C.Refused r)) (refusal_back f)
 
-    smooth_back : (x : Smoothed) → plain (λ n. M.Wave (record { 0 = n })) M.Refused (smoothed_says x) ≡ x
-    smooth_back (M.Wave cycles) = refl
-    smooth_back (M.Refused f) = ap M.Refused (refusal_back f)
+    times_back : (x : Result ℕ Times.Stop)
+        → answer Ok (λ f. Err (T.Refused f)) (λ at n. Err (T.BadWord at n)) (times_says x) ≡ x
+    times_back (Ok n) = refl
+    times_back (Err (T.BadWord at n)) = refl
+    times_back (Err (T.Refused f)) = ap (λ r. Err (T.Refused r)) (refusal_back f)
 
-    read_back : (x : Read) → plain (λ n. R.Reads (record { 0 = n })) R.Refused (read_says x) ≡ x
-    read_back (R.Reads reads) = refl
-    read_back (R.Refused f) = ap R.Refused (refusal_back f)
+    counted_said : Said (Result Count Counted.Stop) (Answer (ℕ × ℕ))
+    counted_said = record {
+      says = counted_says;
+      back =
+          answer (λ p. Ok (record { bits = p.0; at = p.1 })) (λ f. Err (C.Refused f))
+          (λ at n. Err (C.RanOut (record { bits = n; at = at })));
+      turns = count_back;
+    }
 
-    count_back : (x : Received)
-        → answer (λ p. C.Bits p.0 p.1) C.Refused (λ at n. C.RanOut n at) (counted_says x) ≡ x
-    count_back (C.Bits n at) = refl
-    count_back (C.RanOut n at) = refl
-    count_back (C.Refused f) = ap C.Refused (refusal_back f)
-
-    times_back : (x : Times) → answer T.Times T.Refused T.BadWord (times_says x) ≡ x
-    times_back (T.Times n) = refl
-    times_back (T.BadWord at n) = refl
-    times_back (T.Refused f) = ap T.Refused (refusal_back f)
-
-    word_back : (x : Word) → plain Y.Bits Y.Refused (word_says x) ≡ x
-    word_back (Y.Bits n) = refl
-    word_back (Y.Refused f) = ap Y.Refused (refusal_back f)
-
-    start_back : (x : Start) → plain (λ e. F.Fresh) F.Refused (start_says x) ≡ x
-    start_back F.Fresh = refl
-    start_back (F.Refused f) = ap F.Refused (refusal_back f)
+    times_said : Said (Result ℕ Times.Stop) (Answer ℕ)
+    times_said = record {
+      says = times_says;
+      back = answer Ok (λ f. Err (T.Refused f)) (λ at n. Err (T.BadWord at n));
+      turns = times_back;
+    }
 
     step_back : (x : Stepped) → step_of (stepped_says x) ≡ x
     step_back x =
-        ap (λ (e : CodeEvent). record { receiver = x.receiver; event = e; row = x.row })
-        (event_back x.receiver.n x.row x.event)
+        ap (λ (e : Result (Option CodeEvent) Refusal). record { receiver = x.receiver; event = e; row = x.row })
+        (event_back x.receiver.bare.settings.n x.row x.event)
 
     listen_back : (x : Listened) → listen_of (listened_says x) ≡ x
     listen_back x =
-        ap (λ (e : CodeEvent). record { receiver = x.receiver; event = e; row = x.row; used = x.used })
-        (event_back x.receiver.n x.row x.event)
+        ap (λ (e : Result (Option CodeEvent) Refusal). record { receiver = x.receiver; event = e; row = x.row; used = x.used })
+        (event_back x.receiver.bare.settings.n x.row x.event)
 
     told_back : (x : ToldLent) (bits bytes : List ℕ) → told_of (told_says x bits bytes) ≡ x
     told_back x bits bytes =
-        ap (λ (e : CodeEvent). record { bare = x.bare; event = e; used = x.used })
-        (event_back x.bare.n bytes x.event)
+        ap (λ (e : Result (Option CodeEvent) Refusal). record { bare = x.bare; event = e; used = x.used })
+        (event_back x.bare.settings.n bytes x.event)
 
     told : {W : Type 0} {defined : Outcome × ℕ} {x y : ToldLent} {bits bits' bytes bytes' : List ℕ}
         → defined ≡ told_says x bits bytes → defined ≡ told_says y bits' bytes' → (place : List ℕ → List ℕ → W)
@@ -694,118 +666,16 @@ one_meaning = record {
       ap (λ (o : Outcome × ℕ). place o.0.receiver.bits o.0.row) (sym h ∙ h'),
     )
 
-    number_back : (x : Number) → plain (λ n. N.Is n.value n.after) N.Refused (number_says x) ≡ x
-    number_back (N.Is v after) = refl
-    number_back (N.Refused f) = ap N.Refused (refusal_back f)
-
-    head : Heading → Head
-    head h =
-        H.Found (record {
-          k = record { 0 = h.k };
-          n = h.n;
-          q = record { 0 = h.Q };
-          level = h.level;
-          level_at =
-              h.level_at;
-          after = h.after;
-        })
-
-    head_back : (x : Head) → plain head H.Refused (head_says x) ≡ x
-    head_back (H.Found h) = refl
-    head_back (H.Refused f) = ap H.Refused (refusal_back f)
-
-    capture_back : (x : Checked) → plain K.Capture K.Refused (checked_says x) ≡ x
-    capture_back (K.Capture s) = refl
-    capture_back (K.Refused f) = ap K.Refused (refusal_back f)
-
-    written_back : (x : Written) → plain W.Bytes W.Refused (written_says x) ≡ x
-    written_back (W.Bytes n) = refl
-    written_back (W.Refused f) = ap W.Refused (refusal_back f)
-
-    put_back : (x : Put) → plain P.Line P.Refused (put_says x) ≡ x
-    put_back (P.Line n) = refl
-    put_back (P.Refused f) = ap P.Refused (refusal_back f)
-
-    judge_said : Said Judged (Answer Judgement)
-    judge_said = record { says = judged_says; back = plain judged J.Refused; turns = judge_back }
-
-    quiet_said : Said QuietJudged (Answer QuietJudgement)
-    quiet_said = record { says = quiet_judged_says; back = plain quiet_judged Q.Refused; turns = quiet_back }
-
-    pick_said : Said Picked (Answer ℕ)
-    pick_said = record { says = picked_says; back = plain (λ n. U.K (record { 0 = n })) U.Refused; turns = pick_back }
-
-    survey_said : Said Surveyed (Answer Report)
-    survey_said = record { says = surveyed_says; back = plain report Survey.Refused; turns = survey_back }
-
-    lines_said : Said PutLines (Answer ℕ)
-    lines_said = record { says = lines_say; back = plain Report.Lines Report.Refused; turns = lines_back }
-
-    sent : Said Sent (Answer ℕ)
-    sent = record { says = sent_says; back = plain (λ n. S.Wave (record { 0 = n })) S.Refused; turns = send_back }
-
-    joined_said : Said Joined (Answer Told)
-    joined_said = record {
-      says = joined_says;
-      back = plain (λ t. I.Plan t.rows (record { 0 = t.dropped })) I.Refused;
-      turns = joined_back;
-    }
-
-    encoded_said : Said Encoded (Answer ℕ)
-    encoded_said = record { says = encoded_says; back = plain B.Words B.Refused; turns = encode_back }
-
-    decoded_said : Said Decoded (Answer ℕ)
-    decoded_said = record { says = decoded_says; back = plain D.Bytes D.Refused; turns = decode_back }
-
-    smooth_said : Said Smoothed (Answer ℕ)
-    smooth_said =
-        record { says = smoothed_says; back = plain (λ n. M.Wave (record { 0 = n })) M.Refused; turns = smooth_back }
-
-    read : Said Read (Answer ℕ)
-    read = record { says = read_says; back = plain (λ n. R.Reads (record { 0 = n })) R.Refused; turns = read_back }
-
-    counted_said : Said Received (Answer (ℕ × ℕ))
-    counted_said = record {
-      says = counted_says;
-      back = answer (λ p. C.Bits p.0 p.1) C.Refused (λ at n. C.RanOut n at);
-      turns = count_back;
-    }
-
-    times_said : Said Times (Answer ℕ)
-    times_said = record { says = times_says; back = answer T.Times T.Refused T.BadWord; turns = times_back }
-
-    word_said : Said Word (Answer ℕ)
-    word_said = record { says = word_says; back = plain Y.Bits Y.Refused; turns = word_back }
-
-    start_said : Said Start (Answer Event)
-    start_said = record { says = start_says; back = plain (λ e. F.Fresh) F.Refused; turns = start_back }
-
     stepped_said : Said Stepped Outcome
     stepped_said = record { says = stepped_says; back = step_of; turns = step_back }
 
     listened_said : Said Listened (Outcome × ℕ)
     listened_said = record { says = listened_says; back = listen_of; turns = listen_back }
 
-    number_said : Said Number (Answer Numeral)
-    number_said =
-        record { says = number_says; back = plain (λ n. N.Is n.value n.after) N.Refused; turns = number_back }
-
-    head_said : Said Head (Answer Heading)
-    head_said = record { says = head_says; back = plain head H.Refused; turns = head_back }
-
-    checked_said : Said Checked (Answer Summary)
-    checked_said = record { says = checked_says; back = plain K.Capture K.Refused; turns = capture_back }
-
-    written_said : Said Written (Answer ℕ)
-    written_said = record { says = written_says; back = plain W.Bytes W.Refused; turns = written_back }
-
-    line : Said Put (Answer ℕ)
-    line = record { says = put_says; back = plain P.Line P.Refused; turns = put_back }
-
     started : {defined : Answer Event × Receiver} {x y : Started} → defined ≡ (start_says x.start, x.receiver)
         → defined ≡ (start_says y.start, y.receiver) → x ≡ y
     started {x = x} {y = y} h h' =
         let e : start_says x.start ≡ start_says y.start = ap (λ (p : Answer Event × Receiver). p.0) (sym h ∙ h') in
-        let start : x.start ≡ y.start = same start_said refl e in
+        let start : x.start ≡ y.start = same starts refl e in
         let receiver : x.receiver ≡ y.receiver = ap (λ (p : Answer Event × Receiver). p.1) (sym h ∙ h') in
         λ i. record { receiver = receiver i; start = start i }

@@ -47,12 +47,11 @@ use Rattle.timecode.specs.Answers.{read_times, write_time}
 use Rattle.page.specs.Lines.{heading_line, event_line, end_line, refused_line, printed, output}
 use Rattle.region.specs.Lines.{report_lines}
 use Rattle.region.specs.Answers.{lines_of, survey_lines}
-use Rattle.siengulot.specs.Crossing.{crossed, crossed_bits, crossing, flag, judged_three, judged_five, summed}
+use Rattle.siengulot.specs.Crossing.{crossed, crossed_bits, crossing, flag, judged_three, judged_five, summed, numbered}
 use Rattle.siengulot.specs.Receivers.{named, numbers_fit, receiver_lent, brought, brought_by, begun_lent, stepped_lent}
 use Rattle.siengulot.specs.Receivers.{listened_lent, well_formed_lent}
-use Rattle.siengulot.specs.Picking.{picked_over}
 use Rattle.siengulot.specs.StoredPlans.{joined_over}
-use Rattle.siengulot.specs.Logs.{logged_over, cleared_over, leaving}
+use Rattle.siengulot.specs.Logs.{cleared_over, leaving}
 use Rattle.siengulot.specs.Surveys.{Found, surveyed_over}
 use Rattle.promises.specs.Promised.{Test, good, first, Answered, Tells, setting, limit, entries, room}
 use Rattle.promises.specs.GoodInput as Good
@@ -151,13 +150,13 @@ answered = record {
   write_time_says = λ h m s f output. within (time_fits h m s f) 1 0 (laid (word_of h m s f) output);
   fresh = λ k n Q. within (row_settings_fit k n Q) 1 0 (done refl);
   well_formed_says = λ x.
-      also (unused_zero x.found x.bits)
-      (also (level_fits x.mode x.level x.runlevel)
-      (also (found_fits x.mode x.found x.n)
-      (also (left_fits x.mode x.left.0 x.k.0)
-      (also (run_level_fits x.run.0 x.runlevel)
-      (also (run_fits x.mode x.run.0 x.q.0)
-      (clause (row_settings_fit x.k.0 x.n x.q.0)))))));
+      also (unused_zero x.bare.numbers.found x.bits)
+      (also (level_fits x.bare.numbers.mode x.bare.numbers.level x.bare.numbers.runlevel)
+      (also (found_fits x.bare.numbers.mode x.bare.numbers.found x.bare.settings.n)
+      (also (left_fits x.bare.numbers.mode x.bare.numbers.left.0 x.bare.settings.k.0)
+      (also (run_level_fits x.bare.numbers.run.0 x.bare.numbers.runlevel)
+      (also (run_fits x.bare.numbers.mode x.bare.numbers.run.0 x.bare.settings.q.0)
+      (clause (row_settings_fit x.bare.settings.k.0 x.bare.settings.n x.bare.settings.q.0)))))));
   step = λ x read. within (well_formed x) 1 0 (within (leb read 1) 2 0 (done refl));
   listen = listening;
   listen_lent = λ bare bits room reads. across (λ outcome. in_lent room outcome) (listening (whole bare bits) reads);
@@ -201,7 +200,7 @@ answered_from_c = record {
   judge_quiet_says = λ a b g k e Q p1 margins.
       across (λ answer. judged_five answer margins) (answered.judge_quiet_says a b g k e Q p1);
   pick = λ a b g k e number picked so h.
-      same (sym so.crosses) (across picked_over (answered.pick a b g k e so.answer so.fits h));
+      same (sym so.crosses) (across numbered (answered.pick a b g k e so.answer so.fits h));
   send = λ a b p1 bits output. across (crossing crossed) (answered.send a b p1 bits output);
   plan = λ a b n leads bits output.
       across (crossing crossed) (answered.send_plan_says a b n leads bits output);
@@ -228,9 +227,9 @@ answered_from_c = record {
   encode = λ bytes output. across (crossing crossed) (answered.encode bytes output);
   decode = λ words output. across (crossing crossed) (answered.decode words output);
   log_event_says = λ number bits count broken log.
-      across (leaving logged_over) (answered.log_event_says number bits count broken log);
+      across (leaving numbered) (answered.log_event_says number bits count broken log);
   log_clear_says = λ place log. across (leaving cleared_over) (answered.log_clear_says place log);
-  log_list_says = λ numbers free output. across (crossing logged_over) (answered.log_list_says numbers free output);
+  log_list_says = λ numbers free output. across (crossing numbered) (answered.log_list_says numbers free output);
   survey = λ s lent.
       reported (boards s) lent (figures_of s) (eqb (boards s) 0)
       (across (surveyed_over (boards s) lent) (answered.survey s));

@@ -8,8 +8,8 @@ use denote.Triple.Clauses.{Ended, Lasts, at_exit}
 use Rattle.measure.specs.Choose.{between as is_between}
 use Rattle.measure.specs.Ranges.{row_settings_fit}
 use Rattle.measure.specs.Lists.{first_above}
-use Rattle.measure.specs.Refusals.{lent, number_of, place_of}
-use Rattle.settings.specs.Margins.{ends, steady}
+use Rattle.measure.specs.Refusals.{lent, number_of, place_of, entries_answer}
+use Rattle.settings.specs.Margins.{ends, ends_of, steady}
 use Rattle.settings.specs.Answers.{judgement, judged_says, quiet_judgement, quiet_judged_says}
 use Rattle.settings.specs.Pick.{Picks, picked_says}
 use Rattle.settings.specs.Survey.{region, surveyed, surveyed_says}
@@ -19,25 +19,27 @@ use Rattle.halfcells.specs.Answers.{encoded, encoded_says, decoded, decoded_says
 use Rattle.line.specs.Answers.{smoothed, smoothed_says, warped, warped_by_lengths, settled, read_says}
 use Rattle.counted.specs.Answers.{counted_bits, counted_says}
 use Rattle.board.specs.Rows.{row, broken}
-use Rattle.board.specs.Packed.{unpacked, whole}
+use Rattle.board.specs.Packed.{unpacked, whole, mode_number}
 use Rattle.board.specs.WellFormed.{well_formed}
+use Rattle.board.specs.declared.Receiver.{Receiver}
 use Rattle.board.specs.Answers.{begun, start_says, stepped, stepped_says, listened, listened_says, in_lent, told_says}
 use Rattle.capture.specs.Capture.{header}
 use Rattle.bay_log.specs.Answers.{logged, logged_says, cleared, cleared_says, listed, listed_says}
+use Rattle.bay_log.specs.Lent.{lent as log_lent, SameReferences}
 use Rattle.capture.specs.Numbers.{number_at}
 use Rattle.capture.specs.Held.{begun_reader, advanced}
 use Rattle.capture.specs.Answers.{number_says, head_says, checked, read_back, checked_says, written, written_says}
 use Rattle.timecode.specs.Answers.{read_times, write_time, read_says as times_says, written_says as word_says}
 use Rattle.text.specs.Decimal.{decimal, signed_decimal}
-use Rattle.text.specs.Putting.{put_at}
+use Rattle.text.specs.Putting.{end_within, put_at}
 use Rattle.page.specs.Lines.{heading_line, event_line, end_line, refused_line}
 use Rattle.page.specs.Answers.{put_says}
 use Rattle.region.specs.Answers.{survey_lines, put_says as lines_say}
-use Rattle.siengulot.specs.Crossing.{crossed, crossed_bits, crossing, judged_three, judged_five, summed}
+use Rattle.siengulot.specs.Crossing.{crossed, crossed_bits, crossing, judged_three, judged_five, summed, numbered}
 use Rattle.siengulot.specs.Receivers.{begun_lent, stepped_lent, listened_lent, well_formed_lent}
 use Rattle.siengulot.specs.Picking.{PickCrosses}
 use Rattle.siengulot.specs.StoredPlans.{joined_over}
-use Rattle.siengulot.specs.Logs.{logged_over, cleared_over, leaving}
+use Rattle.siengulot.specs.Logs.{cleared_over, leaving}
 use Rattle.siengulot.specs.Surveys.{surveyed_over}
 use Rattle.measure.specs.contracts as MeasureCalls
 use Rattle.measure.proofs as Measure
@@ -83,51 +85,47 @@ Says function clause said =
 -- D30
 pub record ByContract : Type 0 where
   -- measure
-  pub number : Says MeasureCalls.number.ended Measure.number.Reads.Post
+  pub number : Says MeasureCalls.Refusal.number.ended Measure.Refusal.number.Reads.Post
       λ κs (refusal, _) x _.
       x ≡ number_of refusal
-  pub place : Says MeasureCalls.place.ended Measure.place.Reads.Post
+  pub place : Says MeasureCalls.Refusal.place.ended Measure.Refusal.place.Reads.Post
       λ κs (refusal, _) x _.
       x ≡ place_of refusal
   pub between : Says MeasureCalls.between.ended Measure.between.Reads.Post
       λ κs (least, (most, (n, _))) x _.
       x ≡ is_between least most n
-  pub row_settings_fit_says : Says MeasureCalls.row_settings_fit.ended Measure.row_settings_fit.Reads.Post
-      λ κs (k, (n, (Q, _))) x _.
-      x ≡ row_settings_fit k.0 n Q.0
+  pub row_settings_fit_says : Says MeasureCalls.RowSettings.fit.ended Measure.RowSettings.fit.Reads.Post
+      λ κs (settings, _) x _.
+      x ≡ row_settings_fit settings.k.0 settings.n settings.q.0
   pub first_above : Says MeasureCalls.first_above.ended Measure.first_above.Reads.Post
       λ κs (entries, (most, _)) x _.
       x ≡ first_above most entries.now
+  pub check_entries : Says MeasureCalls.check_entries.ended Measure.check_entries.Reads.Post
+      λ κs (entries, (most, _)) x _.
+      entries_answer most entries.now ≡ x
   -- settings
+  pub steady_clocks : Says SettingsCalls.Clocks.steady.ended Settings.Clocks.steady.Reads.Post
+      λ κs (w, (r, _)) x _.
+      x ≡ record { w1 = w; w2 = w; r1 = r; r2 = r }
   pub judge : Says SettingsCalls.judge.ended Settings.judge.Reads.Post
-      λ κs (a, (b, (g, (k, (w, (r, _)))))) x _.
-      judgement a.0 b.0 g.0 k.0 (steady w.0 r.0) ≡ judged_says x
+      λ κs (pair, (k, (clocks, _))) x _.
+      judgement pair.a.0 pair.b.0 pair.g.0 k.0 (ends_of clocks) ≡ judged_says x
   pub judge_quiet_says : Says SettingsCalls.judge_quiet.ended Settings.judge_quiet.Reads.Post
-      λ κs (a, (b, (g, (k, (w, (r, (Q, (p1, _)))))))) x _.
-      quiet_judgement a.0 b.0 g.0 k.0 (steady w.0 r.0) Q.0 p1.0 ≡ quiet_judged_says x
+      λ κs (pair, (k, (clocks, (Q, (p1, _))))) x _.
+      quiet_judgement pair.a.0 pair.b.0 pair.g.0 k.0 (ends_of clocks) Q.0 p1.0 ≡ quiet_judged_says x
   pub pick : Says SettingsCalls.pick.ended Settings.pick.Reads.Post
-      λ κs (a, (b, (g, (w, (r, _))))) x _.
-      Picks a.0 b.0 g.0 (steady w.0 r.0) (picked_says x)
-  pub judge_ends : Says SettingsCalls.judge_ends.ended Settings.judge_ends.Reads.Post
-      λ κs (a, (b, (g, (k, (w1, (w2, (r1, (r2, _)))))))) x _.
-      judgement a.0 b.0 g.0 k.0 (ends w1.0 w2.0 r1.0 r2.0) ≡ judged_says x
-  pub judge_quiet_ends : Says SettingsCalls.judge_quiet_ends.ended Settings.judge_quiet_ends.Reads.Post
-      λ κs (a, (b, (g, (k, (w1, (w2, (r1, (r2, (Q, (p1, _)))))))))) x _.
-      quiet_judgement a.0 b.0 g.0 k.0 (ends w1.0 w2.0 r1.0 r2.0) Q.0 p1.0
-      ≡ quiet_judged_says x
-  pub pick_ends : Says SettingsCalls.pick_ends.ended Settings.pick_ends.Reads.Post
-      λ κs (a, (b, (g, (w1, (w2, (r1, (r2, _))))))) x _.
-      Picks a.0 b.0 g.0 (ends w1.0 w2.0 r1.0 r2.0) (picked_says x)
+      λ κs (pair, (clocks, _)) x _.
+      Picks pair.a.0 pair.b.0 pair.g.0 (ends_of clocks) (picked_says x)
   pub survey : Says SettingsCalls.survey.ended Settings.survey.Reads.Post
       λ κs (a, (b, (g, (k, (w, (r, _)))))) x _.
       surveyed (region a.now b.now g.now k.now w.now r.now) ≡ surveyed_says x
   -- sender
   pub send : Says SenderCalls.send.ended Sender.send.Reads.Post
-      λ κs (a, (b, (p1, (bits, (out, _))))) x (_, (_, (_, (_, (out', _))))).
-      sent_message a.0 b.0 p1.0 bits.now out.now ≡ (sent_says x, out')
+      λ κs (cell, (p1, (bits, (out, _)))) x (_, (_, (_, (out', _)))).
+      sent_message cell.a.0 cell.b.0 p1.0 bits.now out.now ≡ (sent_says x, out')
   pub send_plan_says : Says SenderCalls.send_plan.ended Sender.send_plan.Reads.Post
-      λ κs (a, (b, (n, (leads, (bits, (out, _)))))) x (_, (_, (_, (_, (_, (out', _)))))).
-      sent_plan a.0 b.0 n leads.now bits.now out.now ≡ (sent_says x, out')
+      λ κs (cell, (n, (leads, (bits, (out, _))))) x (_, (_, (_, (_, (out', _))))).
+      sent_plan cell.a.0 cell.b.0 n leads.now bits.now out.now ≡ (sent_says x, out')
   pub pads_in_range : Says SenderCalls.pads_in_range.ended Sender.pads_in_range.Reads.Post
       λ κs (pads, _) x _.
       x ≡ padded pads.now
@@ -147,12 +145,11 @@ pub record ByContract : Type 0 where
       λ κs (wave, (g, (out, _))) x (_, (_, (out', _))).
       smoothed g.0 wave.now out.now ≡ (smoothed_says x, out')
   pub warp : Says LineCalls.warp.ended Line.warp.Reads.Post
-      λ κs (wave, (w, (r, (p, (out, _))))) x (_, (_, (_, (_, (out', _))))).
-      warped w.0 r.0 p.0 wave.now out.now ≡ (read_says x, out')
+      λ κs (wave, (timing, (out, _))) x (_, (_, (out', _))).
+      warped timing.w.0 timing.r.0 timing.p.0 wave.now out.now ≡ (read_says x, out')
   pub warp_by_lengths_says : Says LineCalls.warp_by_lengths.ended Line.warp_by_lengths.Reads.Post
-      λ κs (wave, (w1, (w2, (r1, (r2, (p, (cycles, (reads, (out, _))))))))) x
-      (_, (_, (_, (_, (_, (_, (_, (_, (out', _))))))))).
-      warped_by_lengths w1.0 w2.0 r1.0 r2.0 p.0 cycles.now reads.now wave.now out.now
+      λ κs (wave, (w, (r, (p, (cycles, (reads, (out, _))))))) x (_, (_, (_, (_, (_, (_, (out', _))))))).
+      warped_by_lengths w.least.0 w.most.0 r.least.0 r.most.0 p.0 cycles.now reads.now wave.now out.now
       ≡ (read_says x, out')
   pub settle : Says LineCalls.settle.ended Line.settle.Reads.Post
       λ κs (reads, (choices, (out, _))) x (_, (_, (out', _))).
@@ -169,9 +166,12 @@ pub record ByContract : Type 0 where
       λ κs (time, (out, _)) x (_, (out', _)).
       write_time time.hours time.minutes time.seconds time.frames out.now ≡ (word_says x, out')
   -- board
+  pub mode_number : Says BoardCalls.Mode.number.ended Board.Mode.number.Reads.Post
+      λ κs (mode, _) x _.
+      mode_number mode ≡ x
   pub fresh : Says BoardCalls.Receiver.fresh.ended Board.Receiver.fresh.Reads.Post
-      λ κs (k, (n, (Q, _))) x _.
-      begun k.0 n Q.0 ≡ (start_says x.start, x.receiver)
+      λ κs (settings, _) x _.
+      begun settings.k.0 settings.n settings.q.0 ≡ (start_says x.start, x.receiver)
   pub well_formed_says : Says BoardCalls.Receiver.well_formed.ended Board.Receiver.well_formed.Reads.Post
       λ κs (receiver, _) x _.
       x ≡ well_formed receiver
@@ -181,9 +181,8 @@ pub record ByContract : Type 0 where
   pub listen : Says BoardCalls.Receiver.listen.ended Board.Receiver.listen.Reads.Post
       λ κs (receiver, (reads, _)) x _.
       listened receiver reads.now ≡ listened_says x
-  pub bare : Says BoardCalls.Receiver.bare.ended Board.Receiver.bare.Reads.Post
-      λ κs (receiver, _) x _.
-      whole x receiver.bits ≡ receiver
+  -- a receiver is its numbers and its bits
+  pub bare : (receiver : Receiver) → whole receiver.bare receiver.bits ≡ receiver
   pub well_formed_lent_says : Says BoardCalls.Bare.well_formed.ended Board.Bare.well_formed.Reads.Post
       λ κs (bare, (bits, _)) x _.
       x ≡ well_formed (whole bare bits.now)
@@ -204,72 +203,37 @@ pub record ByContract : Type 0 where
       λ κs (bytes, (out, _)) x (_, (out', _)).
       read_back bytes.now out.now ≡ (checked_says x, out')
   pub write_capture_says : Says CaptureCalls.write_capture.ended Capture.write_capture.Reads.Post
-      λ κs (k, (n, (Q, (reads, (out, _))))) x (_, (_, (_, (_, (out', _))))).
-      written k.0 n Q.0 reads.now out.now ≡ (written_says x, out')
+      λ κs (settings, (reads, (out, _))) x (_, (_, (out', _))).
+      written settings.k.0 settings.n settings.q.0 reads.now out.now ≡ (written_says x, out')
   -- capture's held reader
-  pub reader_new : Says CaptureCalls.held.new.ended Capture.held.new.Reads.Post
+  pub reader_new : Says CaptureCalls.held.CaptureReader.new.ended Capture.held.CaptureReader.new.Reads.Post
       λ κs (src, _) x _.
       x ≡ begun_reader src
-  pub reader_place : Says CaptureCalls.held.place.ended Capture.held.place.Reads.Post
+  pub reader_place : Says CaptureCalls.held.CaptureReader.place.ended Capture.held.CaptureReader.place.Reads.Post
       λ κs (reader, _) x _.
       x ≡ reader.at
-  pub reader_next : Says CaptureCalls.held.next.ended Capture.held.next.Reads.Post
+  pub reader_next : Says CaptureCalls.held.CaptureReader.next.ended Capture.held.CaptureReader.next.Reads.Post
       λ κs (reader, _) x _.
       number_at reader.src.now reader.at ≡ number_says x
-  pub reader_advance : Says CaptureCalls.held.advance.ended Capture.held.advance.Reads.Post
+  pub reader_advance : Says CaptureCalls.held.CaptureReader.advance.ended Capture.held.CaptureReader.advance.Reads.Post
       λ κs (reader, _) x _.
       x ≡ advanced reader
   -- log
   pub log_event_says : Says LogCalls.log_event.ended Log.log_event.Reads.Post
-      λ κs (number, (bytes, (count, (mark, (numbers, (bits, (counts, (marks, (free, (broken_count, _)))))))))) x
-      (_, (_, (_, (_, (numbers', (bits', (counts', (broken', (free', (broken_count', _)))))))))).
-      logged number bytes.now count mark
-      (record {
-        numbers = numbers.now;
-        bits = bits.now;
-        counts = counts.now;
-        broken = marks.now;
-        free = free.now;
-        broken_count = broken_count.now;
-      })
-      ≡ (
-        logged_says x,
-        record {
-          numbers = numbers';
-          bits = bits';
-          counts = counts';
-          broken = broken';
-          free = free';
-          broken_count = broken_count';
-        },
-      )
+      λ κs (event, (log, _)) x (_, (log', _)).
+      SameReferences log.now log'
+      × (logged event.number event.bits.now event.count event.broken (log_lent log.now)
+      ≡ (logged_says x, log_lent log'))
   pub log_clear_says : Says LogCalls.clear.ended Log.clear.Reads.Post
-      λ κs (place, (numbers, (bits, (counts, (marks, (free, (broken_count, _))))))) x
-      (_, (numbers', (bits', (counts', (broken', (free', (broken_count', _))))))).
-      cleared place
-      (record {
-        numbers = numbers.now;
-        bits = bits.now;
-        counts = counts.now;
-        broken = marks.now;
-        free = free.now;
-        broken_count = broken_count.now;
-      })
-      ≡ (
-        cleared_says x,
-        record {
-          numbers = numbers';
-          bits = bits';
-          counts = counts';
-          broken = broken';
-          free = free';
-          broken_count = broken_count';
-        },
-      )
+      λ κs (place, (log, _)) x (_, (log', _)).
+      SameReferences log.now log' × (cleared place (log_lent log.now) ≡ (cleared_says x, log_lent log'))
   pub log_list_says : Says LogCalls.list.ended Log.list.Reads.Post
       λ κs (numbers, (free, (places, _))) x (_, (_, (places', _))).
       listed numbers.now free.now places.now ≡ (listed_says x, places')
   -- text
+  pub end_within : Says TextCalls.end_within.ended Text.end_within.Reads.Post
+      λ κs (at, (size, (room, _))) x _.
+      x ≡ end_within at size room
   pub put_text : Says TextCalls.put_text.ended Text.put_text.Reads.Post
       λ κs (out, (at, (text, _))) x (out', _).
       put_at text.now at out.now ≡ (x, out')
@@ -416,7 +380,7 @@ pub record ByContract : Type 0 where
   pub siengulot_log_event : Says CCalls.siengulot_log_event.ended C.siengulot_log_event.Reads.Post
       λ κs (number, (bytes, (count, (mark, (numbers, (bits, (counts, (marks, (free, (broken_count, (taken, _))))))))))) x
       (_, (_, (_, (_, (numbers', (bits', (counts', (broken', (free', (broken_count', (taken', _))))))))))).
-      leaving logged_over
+      leaving numbered
       (logged number bytes.now count mark
       (record {
         numbers = numbers.now;
@@ -463,7 +427,7 @@ pub record ByContract : Type 0 where
       )
   pub siengulot_log_list : Says CCalls.siengulot_log_list.ended C.siengulot_log_list.Reads.Post
       λ κs (numbers, (free, (places, (count, _)))) x (_, (_, (places', (count', _)))).
-      crossing logged_over (listed numbers.now free.now places.now) ≡ ((x, count'), places')
+      crossing numbered (listed numbers.now free.now places.now) ≡ ((x, count'), places')
   pub siengulot_survey : Says CCalls.siengulot_survey.ended C.siengulot_survey.Reads.Post
       λ κs (a, (b, (g, (k, (w, (r, (margins, (places, (accepted, (place, (count, _))))))))))) x
       (_, (_, (_, (_, (_, (_, (margins', (places', (accepted', (place', (count', _))))))))))).

@@ -34,12 +34,12 @@ use Rattle.timecode.specs.Times.{word_of}
 use Rattle.timecode.specs.Answers.{listed_into, read_times, write_time}
 use Rattle.region.specs.Lines.{report_lines}
 use Rattle.region.specs.Answers.{survey_lines}
-use Rattle.siengulot.specs.Crossing.{crossed, crossed_bits, crossing, flag, judged_three, judged_five, summed}
+use Rattle.siengulot.specs.Crossing.{crossed, crossed_bits, crossing, flag, judged_three, judged_five, summed, numbered}
 use Rattle.siengulot.specs.Receivers.{Lent, Reply, named, numbers_fit, receiver_lent, brought, brought_by, begun_lent}
 use Rattle.siengulot.specs.Receivers.{stepped_lent, listened_lent, well_formed_lent}
 use Rattle.siengulot.specs.Picking.{PickCrosses}
 use Rattle.siengulot.specs.StoredPlans.{joined_over}
-use Rattle.siengulot.specs.Logs.{logged_over, cleared_over, leaving}
+use Rattle.siengulot.specs.Logs.{cleared_over, leaving}
 use Rattle.siengulot.specs.Surveys.{Found, surveyed_over}
 use Rattle.promises.specs.GoodInput as Good
 use Rattle.promises.specs.Promised.{Answered, FillsFromC, setting}
@@ -142,7 +142,7 @@ pub record Demand1FromC : Type 0 where
   -- H16: the log: the number, and the place taken or the count, which is 0 with a refusal; a refusal leaves the lists
   pub log_event_says : (read : ℕ) (bits : List ℕ) (count broken : ℕ) (log : Log)
       → let taken = takes log.numbers log.free in
-      Answered (Good.log_event read bits count log) (leaving logged_over (logged read bits count broken log))
+      Answered (Good.log_event read bits count log) (leaving numbered (logged read bits count broken log))
       ((0, taken), put log taken (event_record read bits count broken))
       (λ number place. ((number, 0), log))
   pub log_clear_says : (at : ℕ) (log : Log)
@@ -150,7 +150,7 @@ pub record Demand1FromC : Type 0 where
       (0, choose (is_free log at) log (put log at free_record))
       (λ number place. (number, log))
   pub log_list_says : (numbers free output : List ℕ)
-      → Answered (Good.log_list numbers free output) (crossing logged_over (listed numbers free output))
+      → Answered (Good.log_list numbers free output) (crossing numbered (listed numbers free output))
       ((0, length (listing numbers free)), onto (listing numbers free) output)
       (λ number place. ((number, 0), output))
   -- H20: the survey: how many boards there are and how many are accepted, both 0 with a refusal, and the smallest

@@ -175,13 +175,13 @@ fresh k n Q = setting (row_settings_fit k n Q) ∷ []
 -- B20 to B25, B28, R49: what a well formed state has to pass, clause by clause
 abbrev pub well_formed_by : (x : Receiver) → List Test
 well_formed_by x =
-    setting (row_settings_fit x.k.0 x.n x.q.0)
-    ∷ setting (run_fits x.mode x.run.0 x.q.0)
-    ∷ setting (run_level_fits x.run.0 x.runlevel)
-    ∷ setting (left_fits x.mode x.left.0 x.k.0)
-    ∷ setting (found_fits x.mode x.found x.n)
-    ∷ setting (level_fits x.mode x.level x.runlevel)
-    ∷ setting (unused_zero x.found x.bits)
+    setting (row_settings_fit x.bare.settings.k.0 x.bare.settings.n x.bare.settings.q.0)
+    ∷ setting (run_fits x.bare.numbers.mode x.bare.numbers.run.0 x.bare.settings.q.0)
+    ∷ setting (run_level_fits x.bare.numbers.run.0 x.bare.numbers.runlevel)
+    ∷ setting (left_fits x.bare.numbers.mode x.bare.numbers.left.0 x.bare.settings.k.0)
+    ∷ setting (found_fits x.bare.numbers.mode x.bare.numbers.found x.bare.settings.n)
+    ∷ setting (level_fits x.bare.numbers.mode x.bare.numbers.level x.bare.numbers.runlevel)
+    ∷ setting (unused_zero x.bare.numbers.found x.bits)
     ∷ []
 
 -- R50

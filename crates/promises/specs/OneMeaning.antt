@@ -1,15 +1,19 @@
 -- Rules D30 and D31: no contract leaves room for two results. Each line is about the contract itself, as the function's
 -- crate passes it on: `Post` is its whole `ensures`, `Asked` its `requires`, and `ended` its parameters. The gate fails
 -- for a public function that no line here names (.ci/one-meaning).
-use Rattle.std.specs.Prelude.{◌≡◌, List, ℕ}
+use Rattle.std.specs.Prelude.{◌≡◌, List, ℕ, Result}
 use contract.Lifetimes.{Lfts}
 use Rattle.std.specs.Borrow.{Bor}
 use denote.Triple.Entry.{Args, Res}
 use denote.Triple.Clauses.{Ended, Lasts, AtExit, at_exit}
+use Rattle.board.specs.Packed.{whole}
+use Rattle.board.specs.declared.Bare.{Bare}
+use Rattle.board.specs.declared.Receiver.{Receiver}
 use Rattle.capture.specs.Numbers.{number_at}
 use Rattle.capture.specs.Held.{begun_reader, advanced}
 use Rattle.capture.specs.Answers.{number_says}
 use Rattle.capture.specs.declared.Number.{Number}
+use Rattle.measure.specs.declared.Refusal.{Refusal}
 use Rattle.capture.specs.declared.held.CaptureReader.{CaptureReader}
 use Rattle.measure.specs.contracts as MeasureCalls
 use Rattle.measure.proofs as Measure
@@ -64,20 +68,19 @@ pub record One (function : Ended) (asked : Asking function) (clause : Clause fun
 -- D31
 pub record OneMeaning : Type 0 where
   -- measure
-  pub number : One MeasureCalls.number.ended Measure.number.Reads.Asked Measure.number.Reads.Post
-  pub place : One MeasureCalls.place.ended Measure.place.Reads.Asked Measure.place.Reads.Post
+  pub number : One MeasureCalls.Refusal.number.ended Measure.Refusal.number.Reads.Asked Measure.Refusal.number.Reads.Post
+  pub place : One MeasureCalls.Refusal.place.ended Measure.Refusal.place.Reads.Asked Measure.Refusal.place.Reads.Post
   pub between : One MeasureCalls.between.ended Measure.between.Reads.Asked Measure.between.Reads.Post
   pub row_settings_fit_says :
-      One MeasureCalls.row_settings_fit.ended Measure.row_settings_fit.Reads.Asked Measure.row_settings_fit.Reads.Post
+      One MeasureCalls.RowSettings.fit.ended Measure.RowSettings.fit.Reads.Asked Measure.RowSettings.fit.Reads.Post
   pub first_above : One MeasureCalls.first_above.ended Measure.first_above.Reads.Asked Measure.first_above.Reads.Post
+  pub check_entries : One MeasureCalls.check_entries.ended Measure.check_entries.Reads.Asked Measure.check_entries.Reads.Post
   -- settings
+  pub steady_clocks :
+      One SettingsCalls.Clocks.steady.ended Settings.Clocks.steady.Reads.Asked Settings.Clocks.steady.Reads.Post
   pub judge : One SettingsCalls.judge.ended Settings.judge.Reads.Asked Settings.judge.Reads.Post
   pub judge_quiet_says : One SettingsCalls.judge_quiet.ended Settings.judge_quiet.Reads.Asked Settings.judge_quiet.Reads.Post
   pub pick : One SettingsCalls.pick.ended Settings.pick.Reads.Asked Settings.pick.Reads.Post
-  pub judge_ends : One SettingsCalls.judge_ends.ended Settings.judge_ends.Reads.Asked Settings.judge_ends.Reads.Post
-  pub judge_quiet_ends :
-      One SettingsCalls.judge_quiet_ends.ended Settings.judge_quiet_ends.Reads.Asked Settings.judge_quiet_ends.Reads.Post
-  pub pick_ends : One SettingsCalls.pick_ends.ended Settings.pick_ends.Reads.Asked Settings.pick_ends.Reads.Post
   pub survey : One SettingsCalls.survey.ended Settings.survey.Reads.Asked Settings.survey.Reads.Post
   -- sender
   pub send : One SenderCalls.send.ended Sender.send.Reads.Asked Sender.send.Reads.Post
@@ -100,12 +103,14 @@ pub record OneMeaning : Type 0 where
   pub read_times_says : One TimecodeCalls.read_times.ended Timecode.read_times.Reads.Asked Timecode.read_times.Reads.Post
   pub write_time_says : One TimecodeCalls.write_time.ended Timecode.write_time.Reads.Asked Timecode.write_time.Reads.Post
   -- board
+  pub mode_number : One BoardCalls.Mode.number.ended Board.Mode.number.Reads.Asked Board.Mode.number.Reads.Post
   pub fresh : One BoardCalls.Receiver.fresh.ended Board.Receiver.fresh.Reads.Asked Board.Receiver.fresh.Reads.Post
   pub well_formed_says :
       One BoardCalls.Receiver.well_formed.ended Board.Receiver.well_formed.Reads.Asked Board.Receiver.well_formed.Reads.Post
   pub step : One BoardCalls.Receiver.step.ended Board.Receiver.step.Reads.Asked Board.Receiver.step.Reads.Post
   pub listen : One BoardCalls.Receiver.listen.ended Board.Receiver.listen.Reads.Asked Board.Receiver.listen.Reads.Post
-  pub bare : One BoardCalls.Receiver.bare.ended Board.Receiver.bare.Reads.Asked Board.Receiver.bare.Reads.Post
+  pub bare : (receiver : Receiver) (x y : Bare) → whole x receiver.bits ≡ receiver → whole y receiver.bits ≡ receiver
+      → x ≡ y
   pub well_formed_lent_says :
       One BoardCalls.Bare.well_formed.ended Board.Bare.well_formed.Reads.Asked Board.Bare.well_formed.Reads.Post
   pub step_lent : One BoardCalls.Bare.step.ended Board.Bare.step.Reads.Asked Board.Bare.step.Reads.Post
@@ -117,18 +122,23 @@ pub record OneMeaning : Type 0 where
   pub write_capture_says : One CaptureCalls.write_capture.ended Capture.write_capture.Reads.Asked Capture.write_capture.Reads.Post
   -- capture's held reader
   pub reader_new :
-      One CaptureCalls.held.new.ended Capture.held.new.Reads.Asked Capture.held.new.Reads.Post
+      One CaptureCalls.held.CaptureReader.new.ended Capture.held.CaptureReader.new.Reads.Asked
+      Capture.held.CaptureReader.new.Reads.Post
   pub reader_place :
-      One CaptureCalls.held.place.ended Capture.held.place.Reads.Asked Capture.held.place.Reads.Post
+      One CaptureCalls.held.CaptureReader.place.ended Capture.held.CaptureReader.place.Reads.Asked
+      Capture.held.CaptureReader.place.Reads.Post
   pub reader_next :
-      One CaptureCalls.held.next.ended Capture.held.next.Reads.Asked Capture.held.next.Reads.Post
+      One CaptureCalls.held.CaptureReader.next.ended Capture.held.CaptureReader.next.Reads.Asked
+      Capture.held.CaptureReader.next.Reads.Post
   pub reader_advance :
-      One CaptureCalls.held.advance.ended Capture.held.advance.Reads.Asked Capture.held.advance.Reads.Post
+      One CaptureCalls.held.CaptureReader.advance.ended Capture.held.CaptureReader.advance.Reads.Asked
+      Capture.held.CaptureReader.advance.Reads.Post
   -- log
   pub log_event_says : One LogCalls.log_event.ended Log.log_event.Reads.Asked Log.log_event.Reads.Post
   pub log_clear_says : One LogCalls.clear.ended Log.clear.Reads.Asked Log.clear.Reads.Post
   pub log_list_says : One LogCalls.list.ended Log.list.Reads.Asked Log.list.Reads.Post
-  -- text
+  -- text; `text::put_line` takes any piece, and says of it what these say of theirs
+  pub end_within : One TextCalls.end_within.ended Text.end_within.Reads.Asked Text.end_within.Reads.Post
   pub put_text : One TextCalls.put_text.ended Text.put_text.Reads.Asked Text.put_text.Reads.Post
   pub number_size : One TextCalls.number_size.ended Text.number_size.Reads.Asked Text.number_size.Reads.Post
   pub put_number : One TextCalls.put_number.ended Text.put_number.Reads.Asked Text.put_number.Reads.Post
@@ -194,6 +204,6 @@ pub record OneMeaning : Type 0 where
   -- the held reader's equations, over the definitions alone
   pub held_new : (bytes : Bor (List ℕ)) (x y : CaptureReader) → x ≡ begun_reader bytes → y ≡ begun_reader bytes → x ≡ y
   pub held_place : (reader : CaptureReader) (x y : ℕ) → x ≡ reader.at → y ≡ reader.at → x ≡ y
-  pub held_next : (bytes : List ℕ) (at : ℕ) (x y : Number) → number_at bytes at ≡ number_says x
+  pub held_next : (bytes : List ℕ) (at : ℕ) (x y : Result Number Refusal) → number_at bytes at ≡ number_says x
       → number_at bytes at ≡ number_says y → x ≡ y
   pub held_advance : (reader x y : CaptureReader) → x ≡ advanced reader → y ≡ advanced reader → x ≡ y

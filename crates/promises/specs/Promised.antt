@@ -81,7 +81,7 @@ judged a b g k e =
 abbrev pub quiet_judged : (a b g k : ℕ) (e : Ends) (Q p1 : ℕ) → QuietJudgement
 quiet_judged a b g k e Q p1 =
     record {
-      margins = record { m1 = m1 a g e; m2 = m2 a g k e; m3 = m3 a b g k e; m4 = m4 a b g e Q; m5 = m5 g e Q p1 };
+      margins = record { cell = (judged a b g k e).margins; m4 = m4 a b g e Q; m5 = m5 g e Q p1 };
       accepts = quiet_accepted a b g k e Q p1;
     }
 
@@ -89,14 +89,16 @@ quiet_judged a b g k e Q p1 =
 abbrev pub unstarted : Receiver
 unstarted =
     record {
-      k = record { 0 = 0 };
-      n = 0;
-      q = record { 0 = 0 };
-      mode = Hunting;
-      run = record { 0 = 0 };
-      runlevel = 0;
-      left = record { 0 = 0 };
-      level = 0;
-      found = 0;
+      bare = record {
+        settings = record { k = record { 0 = 0 }; n = 0; q = record { 0 = 0 } };
+        numbers = record {
+          run = record { 0 = 0 };
+          left = record { 0 = 0 };
+          found = 0;
+          mode = Hunting;
+          runlevel = 0;
+          level = 0;
+        };
+      };
       bits = replicate 128 0;
     }

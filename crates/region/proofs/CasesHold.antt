@@ -1,5 +1,5 @@
 -- The definitions compute to what the rules print.
-use mathlib.Core.Path.{refl}
+use Rattle.std.proofs.Common.{refl}
 use Rattle.measure.specs.Table.{Agree}
 use Rattle.settings.specs.Margins.{m1, m2, m3, accepted}
 use Rattle.settings.specs.Survey.{first_place, every_place, how_many, is_least, judged_boards, surveyed}

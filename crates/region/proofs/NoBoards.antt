@@ -1,9 +1,5 @@
 -- The lines of a region with no boards are of one text, and an output too short for it is refused.
-use mathlib.Core.Path.{◌≡◌, refl, ap, ◌∙◌}
-use mathlib.Core.List.{List}
-use Prim.Native.Nat.{ℕ, ◌≤◌, ◌<◌}
-use native.Mathlib.Omega.{arith}
-use lib.ListN.{length}
+use Rattle.std.proofs.Common.{◌≡◌, refl, ap, ◌∙◌, List, ℕ, ◌≤◌, ◌<◌, arith, length}
 use Rattle.measure.specs.Refusals.{given, refused, lent}
 use Rattle.text.specs.Decimal.{decimal_in}
 use Rattle.text.specs.Putting.{put_at}

@@ -1,12 +1,7 @@
 -- Pieces of text put one after another, each where the one before it ends, are their joined list put there: five from
 -- any place on, and six that are lent whole.
-use mathlib.Core.Path.{◌≡◌, ap, ◌∙◌}
-use mathlib.Core.List.{List, [], ◌++◌, append_assoc, append-nil}
-use Prim.Native.Nat.{ℕ, suc, ◌+◌, ◌≤◌, ◌<◌}
-use native.Mathlib.Omega.{arith}
-use borrow.Author.Tests.{le-leb}
-use lib.IntN.{ℤ, pos, negsuc}
-use lib.ListN.{length, length-append}
+use Rattle.std.proofs.Common.{◌≡◌, ap, ◌∙◌, List, [], ◌++◌, append_assoc, append-nil, ℕ, suc, ◌+◌, ◌≤◌, ◌<◌, arith}
+use Rattle.std.proofs.Common.{le-leb, ℤ, pos, negsuc, length, length-append}
 use Rattle.measure.specs.Refusals.{given, refused, lent}
 use Rattle.measure.proofs.Stores.{Stored, stored_none, stored_part, stored_next, stored_all}
 use Rattle.settings.specs.declared.surveying.Smallest.{Smallest}
@@ -20,6 +15,9 @@ use Rattle.region.specs.Lines.{at_text, feed, margin_line}
 pub signed_most : (v : ℤ) → length (signed_decimal v) ≤ 21
 signed_most (pos n) = omega (arith, decimal_most n)
 signed_most (negsuc n) = omega (arith, decimal_most (suc n))
+
+pub signed_size_most : (v : ℤ) {size : ℕ} → size ≡ length (signed_decimal v) → size ≤ 21
+signed_size_most v e = omega (arith, signed_most v)
 
 -- of a line that has room from a place on, a piece is put, and what follows it is still to come
 goes_on : {output line stored : List ℕ} {from at : ℕ} (piece rest : List ℕ) {left : List ℕ} {end : ℕ}

@@ -1,11 +1,10 @@
 -- Rule R91: what the survey's lines are answered with and leave in the lent output, for all input, and what each case
 -- of the code says.
-use Rattle.std.specs.Prelude.{ℕ, List}
-use Rattle.measure.specs.Refusals.{Answer, given, refused, refused_after, denied, lent}
+use Rattle.std.specs.Prelude.{ℕ, List, Result}
+use Rattle.measure.specs.Refusals.{Answer, given, refused, refused_after, says, lent}
+use Rattle.measure.specs.declared.Refusal.{Refusal}
 use Rattle.settings.specs.Survey.{Region, Report, surveyed}
 use Rattle.region.specs.Lines.{report_lines}
-use Rattle.region.specs.declared.Put.{Put}
-use Rattle.region.specs.declared.Put.TheVariants.{Lines, Refused}
 
 -- R91: the lines of what the survey gives, lent; its own refusals leave the output
 abbrev pub lines_of : Answer Report → (output : List ℕ) → Answer ℕ × List ℕ
@@ -18,6 +17,5 @@ unfoldable pub survey_lines : Region → (output : List ℕ) → Answer ℕ × L
 survey_lines s output = lines_of (surveyed s) output
 
 -- A8: what each case of the code's answer says
-abbrev pub put_says : Put → Answer ℕ
-put_says (Lines bytes) = given bytes
-put_says (Refused refusal) = denied refusal
+abbrev pub put_says : Result ℕ Refusal → Answer ℕ
+put_says answer = says (λ bytes. bytes) answer

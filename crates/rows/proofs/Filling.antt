@@ -5,6 +5,7 @@ use mathlib.Core.Path.{◌≡◌, refl, sym, ap, subst, ◌∙◌}
 use mathlib.Core.Bool.{Bool, true, false}
 use mathlib.Core.List.{List, [], ◌++◌, append_assoc, append-nil}
 use native.Mathlib.Omega.{arith}
+use Rattle.std.proofs.Common.{Option, Some, None}
 use lib.ListN.{length, take, drop, length-append, length-drop, drop_of_length-le}
 use lib.Seq.{take_all, take-append-add, take-append_seam, drop-drop, length-take-le}
 use Rattle.measure.specs.Choose.{choose}
@@ -15,7 +16,7 @@ use Rattle.board.specs.Answers.{Outcome, listened}
 use Rattle.page.specs.Walk.{Walk, rows_after, after_turn, goes_on, lines_of}
 use Rattle.board.proofs.HeardLaws.{Heard, heard_all}
 use Rattle.page.proofs.TurnLines.{goes_brings, turn_lines}
-use Rattle.rows.specs.Turns.{Ready, turn_line, turned, Filled}
+use Rattle.rows.specs.Turns.{Ready, turn_line, turned, lines_on, Filled}
 
 -- the part of a list from a place to its end, as it is lent
 abbrev pub tail : ℕ → List ℕ → List ℕ
@@ -80,14 +81,24 @@ line_after page line bytes h =
 abbrev pub back : List ℕ → ℕ → List ℕ → List ℕ
 back page bytes out = take bytes page ++ (out ++ drop (length page - bytes) (drop bytes page))
 
+-- where the program stands next, if it goes on
+lines_chosen : (reads : List ℕ) (after : Walk) (more : Bool)
+    → choose more (lines_of after (drop after.place reads)) [] ≡ lines_on reads (choose more (Some after) None)
+lines_chosen reads after true = refl
+lines_chosen reads after false = refl
+
+next_is : (more : Bool) (one after : Walk) → choose more (Some one) None ≡ Some after → (more ≡ true) × (one ≡ after)
+next_is true one after e = (refl, cc)
+next_is false one after e = let z : ◌≡◌ {A = ℕ} 0 1 = cc in absurd (omega arith)
+
 -- what a turn makes of a page that is being filled
-pub record TurnedPage (w : Walk) (reads page₀ page : List ℕ) (at : Walk) (bytes : ℕ) (after : Walk) (more : Bool)
-    (n : ℕ) (out : List ℕ) : Type 0 where
+pub record TurnedPage (w : Walk) (reads page₀ page : List ℕ) (at : Walk) (bytes : ℕ) (next : Option Walk) (n : ℕ)
+    (out : List ℕ) : Type 0 where
   pub size : length (back page bytes out) ≡ length page₀
   pub most : bytes + n ≤ length page₀
-  pub last : more ≡ false → Filled w reads (back page bytes out) after false (bytes + n)
-  pub further : more ≡ true → at.place < after.place
-  pub filling : more ≡ true → Filling w reads page₀ (back page bytes out) after (bytes + n)
+  pub filled : Filled w reads (back page bytes out) next (bytes + n)
+  pub further : (after : Walk) → next ≡ Some after → at.place < after.place
+  pub filling : (after : Walk) → next ≡ Some after → Filling w reads page₀ (back page bytes out) after (bytes + n)
 
 module _ (w : Walk) (reads page₀ page : List ℕ) (at : Walk) (bytes : ℕ) (f : Filling w reads page₀ page at bytes) where
   left : List ℕ
@@ -102,8 +113,8 @@ module _ (w : Walk) (reads page₀ page : List ℕ) (at : Walk) (bytes : ℕ) (f
 
   -- the turn as it is defined
   filled_defined : length (turn_line at left) ≤ length page - bytes
-      → Filled w reads (take bytes page ++ onto (turn_line at left) (drop bytes page)) (after_turn at heard)
-      (goes_on heard.0.answer) (bytes + length (turn_line at left))
+      → Filled w reads (take bytes page ++ onto (turn_line at left) (drop bytes page))
+      (choose (goes_on heard.0.answer) (Some (after_turn at heard)) None) (bytes + length (turn_line at left))
   unfolding left heard
   filled_defined fits =
       let n : length (take bytes page) ≡ bytes = length-take-le bytes page f.room in
@@ -117,7 +128,9 @@ module _ (w : Walk) (reads page₀ page : List ℕ) (at : Walk) (bytes : ℕ) (f
             ∙ rw (passed, line_after page (turn_line at left) bytes f.room)
             (sym (append_assoc (take bytes page) (turn_line at left)
             (choose (goes_on heard.0.answer)
-            (lines_of (after_turn at heard) (drop (at.place + heard.1) reads)) [])));
+            (lines_of (after_turn at heard) (drop (at.place + heard.1) reads)) []))
+            ∙ ap (λ (l : List ℕ). take bytes page ++ turn_line at left ++ l)
+            (lines_chosen reads (after_turn at heard) (goes_on heard.0.answer)));
         room = omega (
           arith,
           length-append (take bytes page) (onto (turn_line at left) (drop bytes page)),
@@ -125,22 +138,31 @@ module _ (w : Walk) (reads page₀ page : List ℕ) (at : Walk) (bytes : ℕ) (f
           length-drop (length (turn_line at left)) (drop bytes page),
           length-drop bytes page,
         );
-        ready =
-            record {
+        ready = λ after e.
+            let next = next_is (goes_on heard.0.answer) (after_turn at heard) after e in
+            subst (λ (stand : Walk). Ready stand (length reads)) next.1
+            (record {
               within = omega (arith, known.most, r.within);
               few = r.few;
               fewer = omega (arith, rows_most (length left) at.rows heard known, r.fewer);
-            };
-        further = λ e. omega (arith, known.least (goes_brings heard.0.answer e), f.onwards);
+            });
+        further = λ after e.
+            let next = next_is (goes_on heard.0.answer) (after_turn at heard) after e in
+            omega (
+              arith,
+              known.least (goes_brings heard.0.answer next.0),
+              f.onwards,
+              ap (λ (stand : Walk). stand.place) next.1,
+            );
       }
 
   -- The turn as the code has it: the part of a list up to its end is lent by its length.
-  pub turned_page : (after : Walk) (more : Bool) (n : ℕ) (out : List ℕ)
-      → turned at (tail at.place reads) (tail bytes page) ≡ (after, more, n, out)
-      → length out ≡ length (tail bytes page) → TurnedPage w reads page₀ page at bytes after more n out
+  pub turned_page : (next : Option Walk) (n : ℕ) (out : List ℕ)
+      → turned at (tail at.place reads) (tail bytes page) ≡ (next, n, out)
+      → length out ≡ length (tail bytes page) → TurnedPage w reads page₀ page at bytes next n out
   unfolding turned left heard
-  turned_page after more n out e kept =
-      let told : turned at (drop at.place reads) (drop bytes page) ≡ (after, more, n, out) =
+  turned_page next n out e kept =
+      let told : turned at (drop at.place reads) (drop bytes page) ≡ (next, n, out) =
       rw (tail_all at.place reads, tail_all bytes page) at e in
       let size : length out ≡ length page - bytes = kept ∙ rw (tail_all bytes page) (length-drop bytes page) in
       let back_is : back page bytes out ≡ take bytes page ++ out = rw (tail_none bytes page, append-nil out) in
@@ -149,33 +171,38 @@ module _ (w : Walk) (reads page₀ page : List ℕ) (at : Walk) (bytes : ℕ) (f
       (length-append (take bytes page) out
       ∙ omega (arith, size, length-take-le bytes page f.room, f.room, f.size)) in
       let out-is : onto (turn_line at left) (drop bytes page) ≡ out =
-      ap (λ (t : Walk × Bool × ℕ × List ℕ). t.3) told in
+      ap (λ (t : Option Walk × ℕ × List ℕ). t.2) told in
       let whole : length out
       ≡ length (turn_line at left) + length (drop (length (turn_line at left)) (drop bytes page)) =
       ap length (sym out-is)
       ∙ length-append (turn_line at left) (drop (length (turn_line at left)) (drop bytes page)) in
-      let filled : Filled w reads (back page bytes out) after more (bytes + n) =
+      let filled : Filled w reads (back page bytes out) next (bytes + n) =
       rw back_is
-      (subst (λ (t : Walk × Bool × ℕ × List ℕ). Filled w reads (take bytes page ++ t.3) t.0 t.1
-      (bytes + t.2)) told
+      (subst (λ (t : Option Walk × ℕ × List ℕ). Filled w reads (take bytes page ++ t.2) t.0 (bytes + t.1)) told
       (filled_defined (omega (arith, size, whole)))) in
-      let more-is : goes_on heard.0.answer ≡ more = ap (λ (t : Walk × Bool × ℕ × List ℕ). t.1) told in
-      let place_is : at.place + heard.1 ≡ after.place = ap (λ (t : Walk × Bool × ℕ × List ℕ). t.0.place) told in
-      let further : more ≡ true → at.place < after.place =
-      λ on. omega (arith, known.least (goes_brings heard.0.answer (more-is ∙ on)), place_is) in
+      let stands : choose (goes_on heard.0.answer) (Some (after_turn at heard)) None ≡ next =
+      ap (λ (t : Option Walk × ℕ × List ℕ). t.0) told in
+      let further : (after : Walk) → next ≡ Some after → at.place < after.place =
+      λ after on.
+      let stand = next_is (goes_on heard.0.answer) (after_turn at heard) after (stands ∙ on) in
+      omega (
+        arith,
+        known.least (goes_brings heard.0.answer stand.0),
+        ap (λ (stand : Walk). stand.place) stand.1,
+      ) in
       record {
         size = back-size;
         most = omega (arith, filled.room, back-size);
-        last = λ off. rw off at filled;
+        filled = filled;
         further = further;
-        filling = λ on.
-            let on-filled : Filled w reads (back page bytes out) after true (bytes + n) = rw on at filled in
+        filling = λ after on.
+            let on-filled : Filled w reads (back page bytes out) (Some after) (bytes + n) = rw on at filled in
             record {
               lines = on-filled.lines;
               room = on-filled.room;
               size = back-size;
-              ready = on-filled.ready;
-              onwards = omega (arith, f.onwards, further on);
-              further = λ _. omega (arith, f.onwards, further on);
+              ready = on-filled.ready after refl;
+              onwards = omega (arith, f.onwards, further after on);
+              further = λ _. omega (arith, f.onwards, further after on);
             };
       }

@@ -7,8 +7,10 @@ use mathlib.Core.List.{List}
 use native.Mathlib.Omega.{arith}
 use borrow.Author.Tests.{le-ltb}
 use lib.ListN.{length}
+use Rattle.std.proofs.Common.{Option, Result, Ok, Some, None}
+use Rattle.measure.specs.Choose.{choose}
 use Rattle.measure.specs.Lists.{onto}
-use Rattle.measure.specs.Refusals.{Answer, given, refused, number_of, place_of, lent}
+use Rattle.measure.specs.Refusals.{Answer, given, lent}
 use Rattle.measure.specs.declared.Refusal.{Refusal}
 use Rattle.board.specs.Rows.{Event}
 use Rattle.board.specs.Answers.{event_says, listened, listened_says}
@@ -16,27 +18,21 @@ use Rattle.board.specs.declared.Event.{Event as CodeEvent}
 use Rattle.board.specs.declared.Listened.{Listened}
 use Rattle.page.specs.Answers.{put_says}
 use Rattle.page.specs.Walk.{Walk, rows_after, line_at, goes_on}
-use Rattle.page.specs.declared.Put.{Put}
-use Rattle.page.specs.declared.Put.TheVariants.{Line, Refused}
 use Rattle.board.proofs.HeardLaws.{Heard, heard_all}
 use Rattle.page.proofs.TurnLines.{goes_brings}
 use Rattle.page.proofs.Longest.{longest}
 use Rattle.rows.specs.Turns.{line_most, turned}
 
--- a line that was put says its length, and a refusal is no length
+-- what was heard, by its parts
+module _ {heard : Result (Option CodeEvent) Refusal} {part : Option CodeEvent} (e : heard ≡ Ok part) where
+  pub no_event : part ≡ None → heard ≡ Ok None
+  no_event f = e ∙ ap Ok f
 
-pub line_bytes : (put : Put) (bytes n : ℕ) → put ≡ Line bytes → put_says put ≡ given n → bytes ≡ n
-line_bytes put bytes n e g = let f : given bytes ≡ given n = ap put_says (sym e) ∙ g in cc
-
-pub refused_bytes : (put : Put) (refusal : Refusal) (n bytes : ℕ) → put ≡ Refused refusal → put_says put ≡ given n
-    → bytes ≡ n
-refused_bytes put refusal n bytes e g =
-    let f : refused (number_of refusal) (place_of refusal) ≡ given n = ap put_says (sym e) ∙ g in
-    let z : ◌≡◌ {A = ℕ} 0 1 = cc in
-    absurd (omega arith)
+  pub some_event : {one event : CodeEvent} → part ≡ Some one → one ≡ event → heard ≡ Ok (Some event)
+  some_event f g = e ∙ ap Ok (f ∙ ap Some g)
 
 -- a line that has room is put whole
-pub put_whole : (line out out' : List ℕ) (put : Put) (bytes : ℕ) → length line ≤ length out
+pub put_whole : (line out out' : List ℕ) (put : Result ℕ Refusal) (bytes : ℕ) → length line ≤ length out
     → lent line out ≡ (put_says put, out')
     → ((n : ℕ) → put_says put ≡ given n → bytes ≡ n)
     → (bytes ≡ length line) × (out' ≡ onto line out)
@@ -46,7 +42,7 @@ put_whole line out out' put bytes h e size =
     (size (length line) (ap (λ (p : Answer ℕ × List ℕ). p.0) both), ap (λ (p : Answer ℕ × List ℕ). p.1) both)
 
 -- and so it can be taken off the buffer
-pub put_within : (line out out' : List ℕ) (put : Put) (bytes : ℕ) → length line ≤ length out
+pub put_within : (line out out' : List ℕ) (put : Result ℕ Refusal) (bytes : ℕ) → length line ≤ length out
     → lent line out ≡ (put_says put, out')
     → ((n : ℕ) → put_says put ≡ given n → bytes ≡ n)
     → length out' ≡ length out
@@ -64,27 +60,27 @@ module _ (w : Walk) (left : List ℕ) (heard : Listened) (e : listened w.receive
       record { receiver = heard.receiver; place = w.place + heard.used.0; rows = rows_after answer w.rows }
 
   -- an event takes at least the read that brings it
-  pub event_takes : (event : CodeEvent) → heard.event ≡ event
-      → goes_on (event_says heard.receiver.n heard.row event) ≡ true → 1 ≤ heard.used.0
+  pub event_takes : (event : Result (Option CodeEvent) Refusal) → heard.event ≡ event
+      → goes_on (event_says heard.receiver.bare.settings.n heard.row event) ≡ true → 1 ≤ heard.used.0
   event_takes event is on =
-      known.least (goes_brings (event_says heard.receiver.n heard.row heard.event) (rw is on))
+      known.least (goes_brings (event_says heard.receiver.bare.settings.n heard.row heard.event) (rw is on))
 
-  pub turn_is : (event : CodeEvent) → heard.event ≡ event → (out out' : List ℕ) (put : Put) (bytes : ℕ)
+  pub turn_is : (event : Result (Option CodeEvent) Refusal) → heard.event ≡ event → (out out' : List ℕ) (put : Result ℕ Refusal) (bytes : ℕ)
       → line_most ≤ length out
-      → lent (line_at (stands (event_says heard.receiver.n heard.row event))
-      (event_says heard.receiver.n heard.row event)) out ≡ (put_says put, out')
+      → lent (line_at (stands (event_says heard.receiver.bare.settings.n heard.row event))
+      (event_says heard.receiver.bare.settings.n heard.row event)) out ≡ (put_says put, out')
       → ((n : ℕ) → put_says put ≡ given n → bytes ≡ n)
       → turned w left out
       ≡ (
-        stands (event_says heard.receiver.n heard.row event),
-        goes_on (event_says heard.receiver.n heard.row event),
+        choose (goes_on (event_says heard.receiver.bare.settings.n heard.row event))
+            (Some (stands (event_says heard.receiver.bare.settings.n heard.row event))) None,
         bytes,
         out',
       )
   unfolding turned
   turn_is event is out out' put bytes h l size =
-      let answer : Answer Event = event_says heard.receiver.n heard.row event in
+      let answer : Answer Event = event_says heard.receiver.bare.settings.n heard.row event in
       let fits : length (line_at (stands answer) answer) ≤ length out =
-      omega (arith, longest (stands answer) heard.receiver.n heard.row event (omega (arith, known.size))) in
+      omega (arith, longest (stands answer) heard.receiver.bare.settings.n heard.row event (omega (arith, known.size))) in
       let whole = put_whole (line_at (stands answer) answer) out out' put bytes fits l size in
       rw (e, is, whole.0, whole.1)

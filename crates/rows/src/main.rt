@@ -6,12 +6,11 @@ ghost use Rattle.std.specs.Prelude.{◌≡◌, true, ℕ, ◌+◌, ◌≤◌, �
 ghost use Rattle.measure.specs.Ranges.{entries_most};
 ghost use Rattle.measure.specs.Refusals.{given};
 ghost use Rattle.page.specs.Answers.{put_says};
-ghost use Rattle.rows.specs.Turns.{line_most, walk_of, Ready, turned, Filled};
+ghost use Rattle.rows.specs.Turns.{line_most, walk_of, next_of, Ready, turned, Filled};
 
 use board::{Event, Receiver};
-use capture::{Checked, Summary};
+use capture::Summary;
 use measure::{ENTRIES_MOST, INPUT_MOST, ReadCycles, Refusal};
-use page::Put;
 use std::io;
 
 // No line is longer: twenty digits, a row's word, its 1,024 bits and a line feed.
@@ -21,30 +20,25 @@ const LINE_MOST: usize = 1050;
 const PAGE: usize = 16384;
 
 // Where the program stands in a capture: its receiver, the place of the next read, and the rows delivered so far.
-#[derive(Drop)]
+#[derive(Clone, Copy)]
 struct Walk {
     receiver: Receiver,
     place: ReadCycles,
     rows: usize,
 }
 
-// After lines were put: where the program stands, whether more lines follow, and how many bytes those that were put
-// have.
-#[derive(Drop)]
+// After lines were put: how many bytes they have, and where the program stands if more lines follow.
+#[derive(Clone, Copy)]
 struct Turned {
-    walk: Walk,
-    more: bool,
     bytes: usize,
+    next: Option<Walk>,
 }
 
-// How many bytes a line has that was put.
-fn bytes_of(put: Put) -> usize
+// How many bytes a line has that was put. None is refused, since each has room.
+fn bytes_of(put: Result<usize, Refusal>) -> usize
     ensures { (n : ℕ) → put_says put ≡ given n → result ≡ n }
 {
-    match put {
-        Put::Line(bytes) => bytes,
-        Put::Refused(_) => 0,
-    }
+    put.unwrap_or(0)
 }
 
 // One turn: listens to the reads that are left up to the next event and puts its line, or the last line where none
@@ -52,70 +46,47 @@ fn bytes_of(put: Put) -> usize
 fn turn(walk: Walk, left: &[u8], out: &mut [u8]) -> Turned
     requires ready { Ready (walk_of walk) (walk.place.0 + length left.now) }
     requires line_most_in_bounds { line_most ≤ length out.old }
-    ensures { turned (walk_of walk) left.now out.old
-        ≡ (walk_of result.walk, result.more, result.bytes, out.new) }
+    ensures { turned (walk_of walk) left.now out.old ≡ (next_of result.next, result.bytes, out.new) }
 {
     let before = walk.place.0;
     let rows = walk.rows;
-    let receiver = walk.receiver;
-    let heard = receiver.listen(left);
-    let used = heard.used.0;
-    let place = before + used;
-    let after = heard.receiver;
-    let event = heard.event;
-    match event {
-        Event::Nothing => {
+    let heard = walk.receiver.listen(left);
+    let place = before + heard.used.0;
+    let receiver = heard.receiver;
+    match heard.event {
+        Ok(None) => {
             let bytes = bytes_of(page::put_end(ReadCycles(place), rows, out));
-            Turned {
-                walk: Walk {
-                    receiver: after,
-                    place: ReadCycles(place),
-                    rows: rows,
-                },
-                more: false,
-                bytes: bytes,
-            }
+            Turned { bytes, next: None }
         }
-        Event::Row => {
-            let n = after.n;
-            let bits = heard.row;
+        Ok(Some(Event::Row)) => {
+            let n = receiver.bare.settings.n;
             let last = place - 1;
-            let bytes = bytes_of(page::put_row(ReadCycles(last), n, &bits, out));
+            let bytes = bytes_of(page::put_row(ReadCycles(last), n, &heard.row, out));
             let delivered = rows + 1;
             Turned {
-                walk: Walk {
-                    receiver: after,
+                bytes,
+                next: Some(Walk {
+                    receiver,
                     place: ReadCycles(place),
                     rows: delivered,
-                },
-                more: true,
-                bytes: bytes,
+                }),
             }
         }
-        Event::Broken(found) => {
+        Ok(Some(Event::Broken(found))) => {
             let last = place - 1;
             let bytes = bytes_of(page::put_broken(ReadCycles(last), found, out));
             Turned {
-                walk: Walk {
-                    receiver: after,
+                bytes,
+                next: Some(Walk {
+                    receiver,
                     place: ReadCycles(place),
-                    rows: rows,
-                },
-                more: true,
-                bytes: bytes,
+                    rows,
+                }),
             }
         }
-        Event::Refused(refusal) => {
+        Err(refusal) => {
             let bytes = bytes_of(page::put_refused(refusal, out));
-            Turned {
-                walk: Walk {
-                    receiver: after,
-                    place: ReadCycles(place),
-                    rows: rows,
-                },
-                more: false,
-                bytes: bytes,
-            }
+            Turned { bytes, next: None }
         }
     }
 }
@@ -124,28 +95,22 @@ fn turn(walk: Walk, left: &[u8], out: &mut [u8]) -> Turned
 fn fill(start: Walk, reads: &[u8], page: &mut [u8]) -> Turned
     requires ready { Ready (walk_of start) (length reads.now) }
     requires line_most_in_bounds { line_most ≤ length page.old }
-    ensures { Filled (walk_of start) reads.now page.new (walk_of result.walk) result.more
-        result.bytes }
+    ensures { Filled (walk_of start) reads.now page.new (next_of result.next) result.bytes }
 {
     let mut walk = start;
     let mut bytes = 0;
     while LINE_MOST <= page.len() - bytes {
         let at = walk.place.0;
         let turned = turn(walk, &reads[at..], &mut page[bytes..]);
-        walk = turned.walk;
         bytes += turned.bytes;
-        if !turned.more {
-            return Turned {
-                walk: walk,
-                more: false,
-                bytes: bytes,
-            };
+        match turned.next {
+            Some(next) => walk = next,
+            None => return Turned { bytes, next: None },
         }
     }
     Turned {
-        walk: walk,
-        more: true,
-        bytes: bytes,
+        bytes,
+        next: Some(walk),
     }
 }
 
@@ -153,13 +118,12 @@ fn fill(start: Walk, reads: &[u8], page: &mut [u8]) -> Turned
 fn print_rows(rt: &impl Print, summary: Summary, reads: &[u8]) -> io::Result<()>
     requires { length reads.now ≤ entries_most }
 {
-    let started = Receiver::fresh(summary.k, summary.n, summary.q);
-    let receiver = started.receiver;
+    let started = Receiver::fresh(summary.settings);
     let mut page = [0u8; PAGE];
     let heading = bytes_of(page::put_heading(&mut page));
     rt.write_all(&page[..heading])?;
     let mut walk = Walk {
-        receiver: receiver,
+        receiver: started.receiver,
         place: ReadCycles(0),
         rows: 0,
     };
@@ -167,10 +131,10 @@ fn print_rows(rt: &impl Print, summary: Summary, reads: &[u8]) -> io::Result<()>
         let filled = fill(walk, reads, &mut page);
         let bytes = filled.bytes;
         rt.write_all(&page[..bytes])?;
-        if !filled.more {
-            return Ok(());
+        match filled.next {
+            Some(next) => walk = next,
+            None => return Ok(()),
         }
-        walk = filled.walk;
     }
 }
 
@@ -188,13 +152,12 @@ fn print(rt: &impl Print, input: &[u8], reads: &mut [u8]) -> io::Result<()>
     if INPUT_MOST < input.len() {
         return print_refused(rt, Refusal::Limit);
     }
-    let checked = capture::read_capture(input, reads);
-    match checked {
-        Checked::Capture(summary) => {
+    match capture::read_capture(input, reads) {
+        Ok(summary) => {
             let count = summary.reads.0;
             print_rows(rt, summary, &reads[..count])
         }
-        Checked::Refused(refusal) => print_refused(rt, refusal),
+        Err(refusal) => print_refused(rt, refusal),
     }
 }
 

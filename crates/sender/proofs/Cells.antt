@@ -1,17 +1,9 @@
 -- Cells from a place on, and how long they are: each takes a + b cycles.
-use mathlib.Core.Path.{◌≡◌, ap, ◌∙◌}
-use mathlib.Core.Bool.{Bool, true, false}
-use mathlib.Core.List.{List, [], ◌∷◌, ◌++◌}
-use Prim.Native.Nat.{ℕ, ◌+◌, ◌*◌, ◌<◌, ◌≤◌}
-use native.Mathlib.Nat.{mul-le-mul}
-use native.Mathlib.Numerals.{add-one}
-use native.Mathlib.Omega.{arith}
-use lib.ListN.{length, drop, get_or, replicate, length-append, length-replicate, drop_of_length-le}
-use lib.Seq.{sets, drop-cons}
-use lib.Dec.{eqb}
+use Rattle.std.proofs.Common.{◌≡◌, Bool, true, false, List, [], ◌∷◌, ◌++◌, ℕ, ◌+◌, ◌*◌, ◌<◌, ◌≤◌, add-one, arith}
+use Rattle.std.proofs.Common.{length, drop, get_or, replicate, length-append, drop_of_length-le, drop-cons, eqb}
+use lib.ListN.{length-replicate}
 use Rattle.measure.specs.Choose.{choose}
 use Rattle.sender.specs.Sending.{opposite, code_level, cells, wave}
-use Rattle.sender.proofs.Placed.{placed_next}
 
 -- from a bit on: its cell, and then the cells of the bits after it, from the level that its cell leaves
 pub cells_step : (a b before : ℕ) (bits : List ℕ) (i : ℕ) → i < length bits
@@ -46,22 +38,3 @@ code_level_most before bit h = go (eqb bit 1)
     go : (same : Bool) → choose same before (opposite before) ≤ 1
     go true = h
     go false = omega arith
-
--- one cell laid down leaves the cells of the bits after it, from its end on
-pub cells_placed : (a b before level : ℕ) (bits : List ℕ) (i at : ℕ) (out next : List ℕ) → i < length bits
-    → level ≡ code_level before (get_or bits i 0)
-    → sets out at (replicate a (opposite before) ++ replicate b (code_level before (get_or bits i 0))) ≡ next
-    → sets out at (cells a b before (drop i bits)) ≡ sets next (at + a + b) (cells a b level (drop (i + 1) bits))
-cells_placed a b before level bits i at out next h is laid =
-    let code = code_level before (get_or bits i 0) in
-    let cell = replicate a (opposite before) ++ replicate b code in
-    ap (λ (l : List ℕ). sets out at l) (cells_step a b before bits i h)
-    ∙ placed_next out next at (at + a + b) cell (cells a b code (drop (i + 1) bits)) laid
-    (omega (arith, length_cell a b (opposite before) code))
-    ∙ rw is
-
--- 65,535 cycles of lead and 1,024 cells of 510: no message has a longer wave
-pub message_most : (a b p1 n : ℕ) → a ≤ 255 → b ≤ 255 → p1 ≤ 65535 → n ≤ 1024 → p1 + n * (a + b) ≤ 587775
-message_most a b p1 n ha hb h1 hn =
-    let cell : a + b ≤ 510 = omega arith in
-    omega (arith, mul-le-mul hn cell)

@@ -1,11 +1,9 @@
 -- A wave laid down part by part, and what is answered of it.
-use mathlib.Core.Path.{◌≡◌, sym, ◌∙◌}
-use mathlib.Core.List.{List, ◌++◌}
-use Prim.Native.Nat.{ℕ, ◌+◌, ◌<◌, ◌≤◌}
-use native.Mathlib.Omega.{arith}
-use lib.ListN.{length}
-use lib.Seq.{sets}
-use borrow.Author.Tests.{lt-ltb, le-ltb}
+use Rattle.std.proofs.Common.{◌≡◌, sym, ◌∙◌, List, ◌++◌, append_assoc, ℕ, ◌+◌, ◌<◌, ◌≤◌, arith, length, replicate}
+use Rattle.std.proofs.Common.{take, drop, length-take-le, length-drop, drop-drop, lt-ltb, le-ltb}
+use Rattle.std.proofs.lemmas.List.{length-replicate}
+use lib.Seq.{sets, sets-eq}
+use borrow.Rule.Slice.PartMut.{put_mid}
 use Rattle.measure.specs.Lists.{onto}
 use Rattle.measure.specs.Refusals.{given, refused, lent}
 use Rattle.measure.proofs.Laid.{sets_joined, laid_first}
@@ -26,3 +24,12 @@ lent_placed result out last size e h laid =
 pub lent_short : (result out : List ℕ) (size : ℕ) → length result ≡ size → length out < size
     → lent result out ≡ (refused 4 0, out)
 lent_short result out size e h = rw (lt-ltb (length out) (length result) (omega arith))
+
+-- a part of an output that was filled with one level
+pub filled : (out : List ℕ) {part : List ℕ} (at k count level : ℕ) → k ≡ count → at + count ≤ length out
+    → part ≡ replicate (length (take k (drop at out))) level
+    → put_mid at k out part ≡ sets out at (replicate count level)
+filled out at k count level e h is =
+    let size : length (take k (drop at out)) ≡ count = length-take-le k (drop at out) (rw length-drop (omega arith)) ∙ e in
+    rw (is, size, sets-eq (replicate count level) out at (rw length-replicate h), length-replicate, append_assoc, e)
+    (rw (drop-drop count at out))

@@ -1,11 +1,9 @@
 -- A plan from a row on: the row's wave, and then the wave of the rows after it; and how long it is.
-use mathlib.Core.Path.{◌≡◌, ◌∙◌}
-use mathlib.Core.List.{List, [], ◌∷◌, ◌++◌}
-use Prim.Native.Nat.{ℕ, ◌+◌, ◌*◌, ◌<◌, ◌≤◌}
-use native.Mathlib.Numerals.{add-one}
-use native.Mathlib.Omega.{arith}
-use lib.ListN.{length, take, drop, get_or, length-append, length-drop, drop_of_length-le}
-use lib.Seq.{drop-cons, drop-drop, length-take-le}
+use Rattle.std.proofs.Common.{◌≡◌, ◌∙◌, refl, List, [], ◌∷◌, ◌++◌, ℕ, ◌+◌, ◌*◌, ◌<◌, ◌≤◌, add-one, arith, length}
+use Rattle.std.proofs.Common.{take, drop, get_or, length-append, length-drop, length-take-le, drop-cons}
+use Rattle.std.proofs.Common.{drop_of_length-le}
+use Rattle.std.proofs.lemmas.List.{take_at, drop_at}
+use Rattle.measure.proofs.Stores.{Stored}
 use Rattle.sender.specs.Sending.{wave, plan_wave, rows_of}
 use Rattle.sender.proofs.Cells.{length_wave}
 
@@ -21,17 +19,34 @@ total_step pads i h = rw (drop-cons pads i 0 h, add-one)
 pub total_end : (pads : List ℕ) (i : ℕ) → length pads ≤ i → total (drop i pads) ≡ 0
 total_end pads i h = rw (drop_of_length-le pads h)
 
-pub plan_step : (a b n : ℕ) (leads bits : List ℕ) (i start : ℕ) → i < length leads
-    → plan_wave a b (rows_of n (drop i leads) (drop start bits))
-    ≡ wave a b (get_or leads i 0) (take n (drop start bits))
-    ++ plan_wave a b (rows_of n (drop (i + 1) leads) (drop (start + n) bits))
+-- the rows of a plan in order: the wave of the first, and then those of the rows after it
+pub plan_turn : (a b n lead : ℕ) (row leads bits : List ℕ) → length row ≡ n
+    → plan_wave a b (rows_of n (lead ∷ leads) (row ++ bits)) ≡ wave a b lead row ++ plan_wave a b (rows_of n leads bits)
 unfolding plan_wave rows_of
-plan_step a b n leads bits i start h = rw (drop-cons leads i 0 h, drop-drop n start bits, add-one)
+plan_turn a b n lead row leads bits e = rw (take_at row bits n e, drop_at row bits n e)
 
-pub plan_end : (a b n : ℕ) (leads bits : List ℕ) (i : ℕ) → length leads ≤ i
-    → plan_wave a b (rows_of n (drop i leads) bits) ≡ []
+-- the first row of those still to be stored
+pub plan_next : {out₀ all out : List ℕ} {at : ℕ} (a b n lead : ℕ) (row leads bits leads' bits' : List ℕ)
+    → leads ≡ lead ∷ leads' → bits ≡ row ++ bits' → length row ≡ n
+    → Stored out₀ 0 all out at (plan_wave a b (rows_of n leads bits))
+    → Stored out₀ 0 all out at (wave a b lead row ++ plan_wave a b (rows_of n leads' bits'))
+plan_next a b n lead row leads bits leads' bits' e f size q = rw (e, f, plan_turn a b n lead row leads' bits' size) at q
+
+pub bits_next : (n lead : ℕ) (row leads bits leads' bits' : List ℕ) → leads ≡ lead ∷ leads' → bits ≡ row ++ bits'
+    → length row ≡ n → length bits ≡ length leads * n → length bits' ≡ length leads' * n
+bits_next n lead row leads bits leads' bits' e f size all =
+    omega (arith, size, simp length-append at (rw (e, f) at all))
+
+-- where there is no lead left there is no row
+pub plan_end : (a b n : ℕ) (leads bits : List ℕ) → length leads ≡ 0 → plan_wave a b (rows_of n leads bits) ≡ []
 unfolding plan_wave rows_of
-plan_end a b n leads bits i h = rw (drop_of_length-le leads h)
+plan_end a b n [] bits h = refl
+plan_end a b n (lead ∷ leads) bits h = absurd (omega arith)
+
+-- the bits of no whole row are left: then no lead is, where there are n bits for each
+pub leads_end : (n : ℕ) (leads bits : List ℕ) → length bits ≡ length leads * n → length bits < n → length leads ≡ 0
+leads_end n [] bits e h = refl
+leads_end n (lead ∷ leads) bits e h = absurd (omega arith)
 
 -- a row's wave: its lead, and a + b cycles for each of its n bits
 pub length_row : (a b p1 n : ℕ) (bits : List ℕ) → n ≤ length bits

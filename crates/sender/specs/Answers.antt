@@ -1,12 +1,12 @@
 -- Rules S and R: what sending a message and sending a plan answer and leave in the lent output, for all input, and what
 -- each case of the code says.
-use Rattle.std.specs.Prelude.{ℕ, ◌*◌, Bool, ◌&&◌, not, List, length, leb, eqb}
+use Rattle.std.specs.Prelude.{ℕ, ◌*◌, Bool, ◌&&◌, not, List, length, leb, eqb, Result}
 use Rattle.measure.specs.Ranges.{subcell, pad_most, bits_most, row_bits, rows_most, entries_most}
 use Rattle.measure.specs.Lists.{some_above}
-use Rattle.measure.specs.Refusals.{Answer, given, denied, ranged, limited, entered, lent}
+use Rattle.measure.specs.Refusals.{Answer, says, ranged, limited, entered, lent}
 use Rattle.sender.specs.Sending.{wave, plan_wave, rows_of}
-use Rattle.sender.specs.declared.Sent.{Sent}
-use Rattle.sender.specs.declared.Sent.TheVariants.{Wave, Refused}
+use Rattle.measure.specs.declared.Refusal.{Refusal}
+use Rattle.measure.specs.declared.WriterCycles.{WriterCycles}
 
 -- a, b and the lead pad of a message are in range
 abbrev pub message_in_range : (a b p1 : ℕ) → Bool
@@ -45,6 +45,5 @@ sent_plan a b n leads bits output =
     (lent (plan_wave a b (rows_of n leads bits)) output))))
 
 -- A8: what each case of the code's answer says
-abbrev pub sent_says : Sent → Answer ℕ
-sent_says (Wave cycles) = given cycles.0
-sent_says (Refused refusal) = denied refusal
+abbrev pub sent_says : Result WriterCycles Refusal → Answer ℕ
+sent_says answer = says (λ cycles. cycles.0) answer

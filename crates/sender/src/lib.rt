@@ -5,6 +5,7 @@ ghost use Rattle.std.specs.Prelude.{◌≡◌, true, ◌&&◌, List, ◌++◌, �
 ghost use Rattle.std.proofs.lemmas.List.Edits.{sets};
 ghost use Rattle.measure.specs.Ranges.{subcell, row_bits};
 ghost use Rattle.sender.specs.Sending.{opposite, code_level, cells, wave, plan_wave, rows_of};
+ghost use Rattle.measure.specs.Refusals.{entries_answer};
 ghost use Rattle.sender.specs.Answers.{message_in_range, fitting, padded, plan_in_range};
 ghost use Rattle.sender.specs.Answers.{sent_message, sent_plan, sent_says};
 
@@ -12,27 +13,6 @@ use measure::{
     BITS_LEAST, BITS_MOST, ENTRIES_MOST, HIGH, PAD_MOST, ROWS_MOST, Refusal, SUBCELL_LEAST,
     SUBCELL_MOST, WriterCycles,
 };
-
-// What sending answers.
-#[derive(Clone, Copy)]
-pub enum Sent {
-    // The wave stands at the front of the lent output and has so many cycles.
-    Wave(WriterCycles),
-    Refused(Refusal),
-}
-
-// Writes so many cycles of one level, from a place on.
-fn fill(out: &mut [u8], from: usize, count: usize, level: u8)
-    requires { from + count ≤ length out.old }
-    ensures { sets out.old from (replicate count level) ≡ out.new }
-{
-    let mut i = 0;
-    while i < count {
-        let place = from + i;
-        out[place] = level;
-        i += 1;
-    }
-}
 
 // Gives the level of a cell's code subcell.
 fn code_level(before: u8, bit: u8) -> u8
@@ -42,110 +22,124 @@ fn code_level(before: u8, bit: u8) -> u8
     if bit == 1 { before } else { 1 - before }
 }
 
-// Writes a cell at a place and gives the level that it leaves on the line.
-fn cell_into(a: usize, b: usize, before: u8, bit: u8, out: &mut [u8], at: usize) -> u8
-    requires { (before ≤ 1) × (at + a + b ≤ length out.old) }
-    ensures { (result ≡ code_level before bit)
-        × (sets out.old at (replicate a (opposite before) ++ replicate b (code_level before bit))
-        ≡ out.new) }
-{
-    let level = code_level(before, bit);
-    fill(out, at, a, 1 - before);
-    fill(out, at + a, b, level);
-    level
+// The cycles of a cell: a of its mark, and b of its code.
+#[derive(Clone, Copy)]
+pub struct Cell {
+    pub a: WriterCycles,
+    pub b: WriterCycles,
 }
 
-// Writes the cells of a message at a place, from high, and gives the place after them.
-fn cells_into(a: usize, b: usize, bits: &[u8], out: &mut [u8], at: usize) -> usize
-    requires { at + length bits.now * (a + b) ≤ length out.old }
-    ensures { (result ≡ at + length bits.now * (a + b))
-        × (sets out.old at (cells a b 1 bits.now) ≡ out.new) }
-{
-    let mut before = HIGH;
-    let mut place = at;
-    let mut i = 0;
-    while i < bits.len() {
-        before = cell_into(a, b, before, bits[i], out, place);
-        place = place + a + b;
-        i += 1;
+impl Cell {
+    // Tells whether both are in range.
+    fn fit(self) -> bool
+        ensures { result ≡ (subcell self.a.0 && subcell self.b.0) }
+    {
+        measure::between(SUBCELL_LEAST, SUBCELL_MOST, self.a.0)
+            & measure::between(SUBCELL_LEAST, SUBCELL_MOST, self.b.0)
     }
-    place
+
+    // Gives the cycles of a message's wave, or a row's: its lead, and a cell for each of n bits.
+    fn cycles(self, lead: usize, n: usize) -> usize
+        requires { (self.a.0 ≤ 255) × (self.b.0 ≤ 255) × (lead ≤ 65535) × (n ≤ 1024) }
+        ensures { (result ≡ lead + n * (self.a.0 + self.b.0)) × (result ≤ 587775) }
+    {
+        let cell = self.a.0 + self.b.0;
+        lead + n * cell
+    }
+
+    // Writes a cell at a place and gives the level that it leaves on the line.
+    // Here and below a place is added up: to cut off a part of the output takes the same sum, as the part's length.
+    // It is called and not inlined: where it is, a message takes 264 bytes of stack to send, and C is promised 256.
+    #[inline(never)]
+    fn write_one(self, before: u8, bit: u8, out: &mut [u8], at: usize) -> u8
+        requires { (before ≤ 1) × (at + self.a.0 + self.b.0 ≤ length out.old) }
+        ensures { (result ≡ code_level before bit)
+            × (sets out.old at (replicate self.a.0 (opposite before) ++ replicate self.b.0 (code_level before bit))
+            ≡ out.new) }
+    {
+        let level = code_level(before, bit);
+        let code = at + self.a.0;
+        let end = code + self.b.0;
+        out[at..code].fill(1 - before);
+        out[code..end].fill(level);
+        level
+    }
+
+    // Writes the cells of bits at a place, from high, and gives the place after them.
+    fn write(self, bits: &[u8], out: &mut [u8], at: usize) -> usize
+        requires { at + length bits.now * (self.a.0 + self.b.0) ≤ length out.old }
+        ensures { (result ≡ at + length bits.now * (self.a.0 + self.b.0))
+            × (sets out.old at (cells self.a.0 self.b.0 1 bits.now) ≡ out.new) }
+    {
+        let mut before = HIGH;
+        let mut place = at;
+        for bit in bits {
+            before = self.write_one(before, *bit, out, place);
+            place = place + self.a.0 + self.b.0;
+        }
+        place
+    }
+
+    // Writes the wave of a message, or a row, at a place and gives the place after it.
+    fn write_wave(self, lead: usize, bits: &[u8], out: &mut [u8], at: usize) -> usize
+        requires { at + lead + length bits.now * (self.a.0 + self.b.0) ≤ length out.old }
+        ensures { (result ≡ at + lead + length bits.now * (self.a.0 + self.b.0))
+            × (sets out.old at (wave self.a.0 self.b.0 lead bits.now) ≡ out.new) }
+    {
+        let first = at + lead;
+        out[at..first].fill(HIGH);
+        self.write(bits, out, first)
+    }
 }
 
-// Writes a message's wave at a place and gives the place after it.
-fn wave_into(a: usize, b: usize, p1: usize, bits: &[u8], out: &mut [u8], at: usize) -> usize
-    requires { at + p1 + length bits.now * (a + b) ≤ length out.old }
-    ensures { (result ≡ at + p1 + length bits.now * (a + b))
-        × (sets out.old at (wave a b p1 bits.now) ≡ out.new) }
+// Refuses with 2 a list with an entry that is no bit, at the place of the first.
+fn check_bits(bits: &[u8]) -> Result<(), Refusal>
+    ensures { entries_answer 1 bits.now ≡ result }
 {
-    fill(out, at, p1, HIGH);
-    cells_into(a, b, bits, out, at + p1)
-}
-
-// Tells whether a and b are in range.
-fn cell_in_range(a: usize, b: usize) -> bool
-    ensures { result ≡ (subcell a && subcell b) }
-{
-    measure::between(SUBCELL_LEAST, SUBCELL_MOST, a)
-        & measure::between(SUBCELL_LEAST, SUBCELL_MOST, b)
+    measure::check_entries(bits, HIGH)
 }
 
 // Tells whether a, b and the lead pad of a message are in range.
-fn in_range(a: usize, b: usize, p1: usize) -> bool
-    ensures { result ≡ message_in_range a b p1 }
+fn in_range(cell: Cell, p1: usize) -> bool
+    ensures { result ≡ message_in_range cell.a.0 cell.b.0 p1 }
 {
-    cell_in_range(a, b) & (p1 <= PAD_MOST)
+    cell.fit() & (p1 <= PAD_MOST)
 }
 
 // Sends a message. Gives the number of cycles of its wave.
 // Refuses with 1 (a, b or the pad), 3 (more than 1,024 bits; up to that number no wave is over its own limit), 2 (the
 // place of the first entry that is no bit), 4.
 // The output holds the wave at its front and is otherwise untouched; every refusal leaves all of it.
-pub fn send(a: WriterCycles, b: WriterCycles, p1: WriterCycles, bits: &[u8], out: &mut [u8]) -> Sent
-    ensures { sent_message a.0 b.0 p1.0 bits.now out.old
+pub fn send(
+    cell: Cell,
+    p1: WriterCycles,
+    bits: &[u8],
+    out: &mut [u8],
+) -> Result<WriterCycles, Refusal>
+    ensures { sent_message cell.a.0 cell.b.0 p1.0 bits.now out.old
         ≡ (sent_says result, out.new) }
 {
-    let mark = a.0;
-    let code = b.0;
     let lead = p1.0;
-    if !in_range(mark, code, lead) {
-        return Sent::Refused(Refusal::Setting(0));
+    if !in_range(cell, lead) {
+        return Err(Refusal::Setting(0));
     }
     if bits.len() > BITS_MOST {
-        return Sent::Refused(Refusal::Limit);
+        return Err(Refusal::Limit);
     }
-    let bad = measure::first_above(bits, HIGH);
-    if bad < bits.len() {
-        return Sent::Refused(Refusal::Entry(bad));
-    }
-    let cell = mark + code;
-    let cycles = lead + bits.len() * cell;
+    let cycles = cell.cycles(lead, bits.len());
+    check_bits(bits)?;
     if out.len() < cycles {
-        return Sent::Refused(Refusal::Room);
+        return Err(Refusal::Room);
     }
-    let end = wave_into(mark, code, lead, bits, out, 0);
-    Sent::Wave(WriterCycles(end))
-}
-
-// Tells whether a, b and n of a plan are in range.
-fn numbers_in_range(a: usize, b: usize, n: usize) -> bool
-    ensures { result ≡ (subcell a && subcell b && row_bits n) }
-{
-    cell_in_range(a, b) & measure::between(BITS_LEAST, BITS_MOST, n)
+    let end = cell.write_wave(lead, bits, out, 0);
+    Ok(WriterCycles(end))
 }
 
 // Tells whether each pad of a list is in range.
 pub fn pads_in_range(pads: &[usize]) -> bool
     ensures { result ≡ padded pads.now }
 {
-    let mut i = 0;
-    while i < pads.len() {
-        if pads[i] > PAD_MOST {
-            return false;
-        }
-        i += 1;
-    }
-    true
+    pads.iter().all(|pad| *pad <= PAD_MOST)
 }
 
 // Tells whether the lists of a plan fit one another. It divides, since rows times n may be more than a usize holds.
@@ -158,48 +152,52 @@ fn lists_fit(n: usize, leads: &[usize], bits: &[u8]) -> bool
 }
 
 // Tells whether a, b, n and all pads of a plan are in range and its lists fit one another.
-fn plan_in_range(a: usize, b: usize, n: usize, leads: &[usize], bits: &[u8]) -> bool
-    ensures { result ≡ plan_in_range a b n leads.now bits.now }
+fn plan_in_range(cell: Cell, n: usize, leads: &[usize], bits: &[u8]) -> bool
+    ensures { result ≡ plan_in_range cell.a.0 cell.b.0 n leads.now bits.now }
 {
-    if !numbers_in_range(a, b, n) {
-        return false;
-    }
-    lists_fit(n, leads, bits) & pads_in_range(leads)
+    cell.fit()
+        && measure::between(BITS_LEAST, BITS_MOST, n)
+        && lists_fit(n, leads, bits)
+        && pads_in_range(leads)
 }
 
-// Gives the number of cycles of a plan's wave, whatever its bits.
-fn plan_cycles(a: usize, b: usize, n: usize, leads: &[usize]) -> usize
-    requires { (a ≤ 255) × (b ≤ 255) × (n ≤ 1024) × (length leads.now ≤ 1024) × (padded leads.now ≡ true) }
-    ensures { (bits : List ℕ) → length bits ≡ length leads.now * n
-        → length (plan_wave a b (rows_of n leads.now bits)) ≡ result }
-{
-    let cell = a + b;
-    let row = n * cell;
-    let mut cycles = 0;
-    let mut i = 0;
-    while i < leads.len() {
-        cycles = cycles + leads[i] + row;
-        i += 1;
-    }
-    cycles
+// A plan in range, with its rows as two lists: a lead pad for each, and n bits for each.
+#[derive(Clone, Copy)]
+struct Plan<'a> {
+    cell: Cell,
+    n: usize,
+    leads: &'a [usize],
+    bits: &'a [u8],
+    ghost in_range: { plan_in_range cell.a.0 cell.b.0 n leads.now bits.now ≡ true },
 }
 
-// Writes the waves of a plan's rows one after another.
-fn plan_into(a: usize, b: usize, n: usize, leads: &[usize], bits: &[u8], out: &mut [u8])
-    requires { (length bits.now ≡ length leads.now * n)
-        × (length (plan_wave a b (rows_of n leads.now bits.now)) ≤ length out.old) }
-    ensures { sets out.old 0
-        (plan_wave a b (rows_of n leads.now bits.now)) ≡ out.new }
-{
-    let mut at = 0;
-    let mut start = 0;
-    let mut i = 0;
-    while i < leads.len() {
-        let end = start + n;
-        let row = &bits[start..end];
-        at = wave_into(a, b, leads[i], row, out, at);
-        start = end;
-        i += 1;
+impl Plan<'_> {
+    // Gives the number of cycles of the plan's wave.
+    fn cycles(self) -> usize
+        requires { length self.leads.now ≤ 1024 }
+        ensures { length
+            (plan_wave self.entry.cell.a.0 self.entry.cell.b.0
+            (rows_of self.entry.n self.entry.leads.now self.entry.bits.now)) ≡ result }
+    {
+        let mut cycles = 0;
+        for lead in self.leads {
+            cycles += self.cell.cycles(*lead, self.n);
+        }
+        cycles
+    }
+
+    // Writes the waves of the rows one after another.
+    fn write(self, out: &mut [u8])
+        requires { length (plan_wave self.cell.a.0 self.cell.b.0 (rows_of self.n self.leads.now self.bits.now))
+            ≤ length out.old }
+        ensures { sets out.old 0
+            (plan_wave self.entry.cell.a.0 self.entry.cell.b.0
+            (rows_of self.entry.n self.entry.leads.now self.entry.bits.now)) ≡ out.new }
+    {
+        let mut at = 0;
+        for (lead, row) in self.leads.iter().zip(self.bits.chunks_exact(self.n)) {
+            at = self.cell.write_wave(*lead, row, out, at);
+        }
     }
 }
 
@@ -209,35 +207,35 @@ fn plan_into(a: usize, b: usize, n: usize, leads: &[usize], bits: &[u8], out: &m
 // cycles), 2 (the place of the first entry that is no bit), 4.
 // The output holds the wave at its front and is otherwise untouched; every refusal leaves all of it.
 pub fn send_plan(
-    a: WriterCycles,
-    b: WriterCycles,
+    cell: Cell,
     n: usize,
     leads: &[usize],
     bits: &[u8],
     out: &mut [u8],
-) -> Sent
-    ensures { sent_plan a.0 b.0 n leads.now bits.now out.old
+) -> Result<WriterCycles, Refusal>
+    ensures { sent_plan cell.a.0 cell.b.0 n leads.now bits.now out.old
         ≡ (sent_says result, out.new) }
 {
-    let mark = a.0;
-    let code = b.0;
-    if !plan_in_range(mark, code, n, leads, bits) {
-        return Sent::Refused(Refusal::Setting(0));
+    if !plan_in_range(cell, n, leads, bits) {
+        return Err(Refusal::Setting(0));
     }
+    let plan = Plan {
+        cell,
+        n,
+        leads,
+        bits,
+    };
     if leads.len() > ROWS_MOST {
-        return Sent::Refused(Refusal::Limit);
+        return Err(Refusal::Limit);
     }
-    let total = plan_cycles(mark, code, n, leads);
+    let total = plan.cycles();
     if total > ENTRIES_MOST {
-        return Sent::Refused(Refusal::Limit);
+        return Err(Refusal::Limit);
     }
-    let place = measure::first_above(bits, HIGH);
-    if place < bits.len() {
-        return Sent::Refused(Refusal::Entry(place));
-    }
+    check_bits(bits)?;
     if out.len() < total {
-        return Sent::Refused(Refusal::Room);
+        return Err(Refusal::Room);
     }
-    plan_into(mark, code, n, leads, bits, out);
-    Sent::Wave(WriterCycles(total))
+    plan.write(out);
+    Ok(WriterCycles(total))
 }

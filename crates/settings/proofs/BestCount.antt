@@ -1,14 +1,8 @@
 -- The best sampling count is one of two: M1 stays, M2 gains r1 with each step of k and M3 loses r2, so the least of the
 -- three turns where M2 has risen to one of the others.
-use Prim.Native.Nat.{ℕ, ◌+◌, ◌*◌, ◌-◌, ◌≤◌, min}
-use mathlib.Core.Path.{◌≡◌, sym, ap, ◌∙◌}
-use mathlib.Core.Bool.{true}
-use native.Mathlib.Nat.{mul-le-mul_right}
-use native.Mathlib.Omega.{arith}
-use lib.Dec.{leb, ltb}
-use lib.IntN.{pos, ◌-ℤ◌}
-use lib.Signed.{le_z, lt_z}
-use borrow.Author.Tests.{le-leb, lt-ltb, leb-true, ltb-true, ltb-false}
+use Rattle.std.proofs.Common.{ℕ, ◌+◌, ◌*◌, ◌-◌, ◌≤◌, min, ◌≡◌, sym, ap, ◌∙◌, true, mul-le-mul_right, arith, leb, ltb}
+use Rattle.std.proofs.Common.{pos, ◌-ℤ◌, le-leb, lt-ltb, leb-true, ltb-true, ltb-false}
+use Rattle.std.specs.Int.Signed.{le_z, lt_z}
 use Rattle.measure.specs.Ranges.{sampling}
 use Rattle.settings.specs.Margins.{Ends, m1, m2, m3}
 use Rattle.settings.specs.Pick.{least, Best}
@@ -112,6 +106,7 @@ module _ (a b g : ℕ) (e : Ends) (h : Rising a b g e) where
       let k = turning a b g e in
       let order = height_lt k (k + 1) (omega arith) (omega arith) in
       record {
+        first = omega arith;
         within = omega arith;
         least_here =
             least_height k (omega arith)

@@ -1,10 +1,5 @@
 -- Settings in range keep to both ends of each range: each test of a chain holds where the whole does.
-use mathlib.Core.Path.{◌≡◌}
-use mathlib.Core.Bool.{true}
-use mathlib.Core.List.{[], ◌∷◌}
-use Prim.Native.Nat.{ℕ, ◌≤◌}
-use lib.Dec.{leb}
-use borrow.Author.Tests.{leb-true}
+use Rattle.std.proofs.Common.{◌≡◌, true, [], ◌∷◌, ℕ, ◌≤◌, leb, leb-true}
 use Rattle.measure.specs.Ranges.{subcell, sampling, settling, cycle_length, quiet, pad_most}
 use Rattle.measure.proofs.Both.{each, range_ends}
 use Rattle.settings.specs.Margins.{Ends}

@@ -1,12 +1,7 @@
 -- M5 grows with the lead pad.
-use mathlib.Core.Path.{◌≡◌, subst, sym, ◌∙◌}
-use mathlib.Core.Bool.{true}
-use Prim.Native.Nat.{ℕ, ◌+◌, ◌*◌, ◌≤◌}
-use native.Mathlib.Nat.{mul-le-mul_right}
-use native.Mathlib.Omega.{arith}
-use lib.Dec.{T}
-use lib.Signed.{le_z, ◌≤ℤ◌}
-use borrow.Author.Tests.{le-leb, leb-true}
+use Rattle.std.proofs.Common.{◌≡◌, subst, sym, ◌∙◌, true, ℕ, ◌+◌, ◌*◌, ◌≤◌, mul-le-mul_right, arith, T, ◌≤ℤ◌, le-leb}
+use Rattle.std.proofs.Common.{leb-true}
+use Rattle.std.specs.Int.Signed.{le_z}
 use Rattle.settings.specs.Margins.{Ends, m5, zero_or_more}
 use Rattle.settings.proofs.Inequalities.{margin_is, m5_met}
 use Rattle.settings.proofs.Shifted.{shifted_le}

@@ -1,13 +1,9 @@
 -- When margins are zero or more, said without a difference: what a margin takes away is at most what it has.
-use mathlib.Core.Path.{◌≡◌, sym, ap, ◌∙◌}
-use mathlib.Core.Bool.{true}
-use Prim.Native.Nat.{ℕ, zero, suc, ◌+◌, ◌*◌, ◌≤◌}
-use native.Mathlib.Nat.{zero-mul, add-zero}
+use Rattle.std.proofs.Common.{◌≡◌, sym, ap, ◌∙◌, true, ℕ, zero, suc, ◌+◌, ◌*◌, ◌≤◌, zero-mul, add-zero, arith, leb, ℤ}
+use Rattle.std.proofs.Common.{pos, neg_ℤ, ◌+ℤ◌, ◌-ℤ◌, ◌*ℤ◌, lt-ltb, le-ltb, le-leb, leb-true}
+use Rattle.std.proofs.lemmas.Bool.{lt-leb}
 use native.Mathlib.Decide.{dec_le}
-use native.Mathlib.Omega.{arith}
-use lib.Dec.{leb}
-use lib.IntN.{ℤ, pos, neg_ℤ, ◌+ℤ◌, ◌-ℤ◌, ◌*ℤ◌, +ℤ-pred_ℤ, +ℤ_assoc, +ℤ_comm, neg_ℤ-+ℤ, neg_ℤ-suc_ℤ, pred_ℤ-*ℤ}
-use borrow.Author.Tests.{lt-ltb, le-ltb, le-leb, lt-leb, leb-true}
+use lib.IntN.{+ℤ-pred_ℤ, +ℤ_assoc, +ℤ_comm, neg_ℤ-+ℤ, neg_ℤ-suc_ℤ, pred_ℤ-*ℤ}
 use Rattle.measure.proofs.Both.{both_3}
 use Rattle.settings.specs.Margins.{Ends, m1, m2, m3, m4, m5, zero_or_more, accepted, quiet_accepted}
 

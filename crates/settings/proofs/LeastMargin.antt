@@ -1,15 +1,11 @@
 -- The smallest of the margins so far and the first place that has it: a margin that is smaller takes its place, and one
 -- that is as small does not. So after all of them it is the smallest of all, at the first of its places.
-use mathlib.Core.Path.{◌≡◌, refl, sym, ap, subst, ◌∙◌}
-use mathlib.Core.Bool.{Bool, true, false}
-use mathlib.Core.Logic.{◌⊎◌, inl, inr}
-use Prim.Native.Nat.{ℕ, ◌+◌, ◌^◌, ◌<◌, ◌≤◌}
+use Rattle.std.proofs.Common.{◌≡◌, refl, sym, ap, subst, ◌∙◌, Bool, true, false, ◌⊎◌, inl, inr, ℕ, ◌+◌, ◌^◌, ◌<◌, ◌≤◌}
+use Rattle.std.proofs.Common.{arith, ltb-false, ltb-true, le-leb, T, ℤ, pos, negsuc, ◌≤ℤ◌, ◌<ℤ◌}
+use Rattle.std.proofs.lemmas.Bool.{lt-leb}
+use Rattle.std.specs.Int.Signed.{mag, le_z, lt_z}
 use native.Mathlib.Decide.{dec_le}
-use native.Mathlib.Omega.{arith}
-use borrow.Author.Tests.{ltb-false, ltb-true, lt-leb, le-leb}
-use lib.Dec.{T}
-use lib.IntN.{ℤ, pos, negsuc}
-use lib.Signed.{mag, le_z, lt_z, ◌≤ℤ◌, ◌<ℤ◌, ≤ℤ_refl, <ℤ-≤ℤ_trans}
+use lib.Signed.{≤ℤ_refl, <ℤ-≤ℤ_trans}
 use Rattle.measure.specs.Choose.{choose}
 use Rattle.settings.specs.Survey.{is_least, smallest}
 use Rattle.settings.specs.declared.surveying.Smallest.{Smallest}

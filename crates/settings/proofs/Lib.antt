@@ -1,6 +1,7 @@
 pub mod CasesHold
 pub mod Size
 pub mod Signs
+pub mod InRange
 pub mod Judging
 pub mod Inequalities
 pub mod BothEnds

@@ -1,9 +1,5 @@
 -- When M1, M2 and M3 are -d or more, said without a difference: what a margin takes away is at most d more than it has.
-use mathlib.Core.Path.{◌≡◌, ap, ◌∙◌}
-use Prim.Native.Nat.{ℕ, ◌+◌, ◌*◌}
-use native.Mathlib.Omega.{arith}
-use lib.Dec.{leb}
-use lib.IntN.{pos, ◌+ℤ◌}
+use Rattle.std.proofs.Common.{◌≡◌, ap, ◌∙◌, ℕ, ◌+◌, ◌*◌, arith, leb, pos, ◌+ℤ◌}
 use Rattle.settings.specs.Margins.{Ends, m1, m2, m3, zero_or_more}
 use Rattle.settings.proofs.Inequalities.{margin_least}
 

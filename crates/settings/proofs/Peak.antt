@@ -1,10 +1,7 @@
 -- The least of three numbers, of which one stays, one rises and one falls: it rises as long as the rising one is below
 -- the others and never rises afterwards, so it is greatest at the last place where it rises or at the next.
-use Prim.Native.Nat.{ℕ, ◌+◌, ◌≤◌, ◌<◌, min}
-use mathlib.Core.Path.{◌≡◌}
-use mathlib.Core.Logic.{◌⊎◌, inl, inr}
+use Rattle.std.proofs.Common.{ℕ, ◌+◌, ◌≤◌, ◌<◌, min, ◌≡◌, ◌⊎◌, inl, inr, arith}
 use native.Mathlib.Decide.{dec_le}
-use native.Mathlib.Omega.{arith}
 
 -- from 1 to `most`, k is the first place at which `of` is greatest
 pub record Greatest (of : ℕ → ℕ) (most k : ℕ) : Type 0 where

@@ -1,14 +1,11 @@
 -- Exactly one answer fits: two best sampling counts would each have to be the smaller, and where the best one's least
 -- margin is negative, so is that of every other.
-use Prim.Native.Nat.{ℕ, ◌+◌, ◌≤◌}
-use mathlib.Core.Path.{◌≡◌, refl, sym, ap, subst, ◌∙◌}
-use mathlib.Core.Bool.{Bool, true, false, ◌&&◌}
+use Rattle.std.proofs.Common.{ℕ, ◌+◌, ◌≤◌, ◌≡◌, refl, sym, ap, subst, ◌∙◌, Bool, true, false, ◌&&◌, arith, le-leb, T}
+use Rattle.std.proofs.Common.{leb, ℤ, pos, negsuc, ◌≤ℤ◌}
+use Rattle.std.proofs.lemmas.Bool.{lt-leb}
+use Rattle.std.specs.Int.Signed.{lt_z}
 use native.Mathlib.Decide.{dec_le}
-use native.Mathlib.Omega.{arith}
-use borrow.Author.Tests.{le-leb, lt-leb}
-use lib.Dec.{T, leb}
-use lib.IntN.{ℤ, pos, negsuc}
-use lib.Signed.{lt_z, ◌≤ℤ◌, clash_ℤ}
+use lib.Signed.{clash_ℤ}
 use Rattle.measure.specs.Choose.{choose}
 use Rattle.measure.specs.Refusals.{Answer, given, refused}
 use Rattle.measure.proofs.Both.{range_ends}

@@ -1,10 +1,6 @@
 -- With an M1 of zero or more, M2 starts below M1 and below M3, and no distance passes what the code can say.
-use mathlib.Core.Path.{◌≡◌, sym, ap, ◌∙◌}
-use mathlib.Core.Bool.{true}
-use Prim.Native.Nat.{ℕ, ◌+◌, ◌*◌, ◌-◌, ◌≤◌}
-use native.Mathlib.Nat.{add-mul, sub-add_cancel, mul-le-mul, mul-le-mul_left, le_of_mul-le-mul_right}
-use native.Mathlib.Omega.{arith}
-use borrow.Author.Tests.{leb-true}
+use Rattle.std.proofs.Common.{◌≡◌, sym, ap, ◌∙◌, true, ℕ, ◌+◌, ◌*◌, ◌-◌, ◌≤◌, add-mul, sub-add_cancel, mul-le-mul}
+use Rattle.std.proofs.Common.{mul-le-mul_left, le_of_mul-le-mul_right, arith, leb-true}
 use Rattle.settings.specs.Margins.{Ends, m1, zero_or_more}
 use Rattle.settings.specs.Pick.{pickable}
 use Rattle.settings.proofs.Inequalities.{m1_met}

@@ -1,10 +1,6 @@
 -- Places that pass a test: the first, all, and how many.
-use mathlib.Core.Path.{◌≡◌, refl}
-use mathlib.Core.Bool.{Bool, true, false, ◌&&◌}
-use Prim.Native.Nat.{ℕ, zero, suc, ◌+◌, ◌<◌, ◌≤◌}
-use native.Mathlib.Numerals.{add-one}
+use Rattle.std.proofs.Common.{◌≡◌, refl, Bool, true, false, ◌&&◌, ℕ, zero, suc, ◌+◌, ◌<◌, ◌≤◌, add-one, arith}
 use native.Mathlib.Decide.{dec_le}
-use native.Mathlib.Omega.{arith}
 use Rattle.settings.specs.Survey.{first_place, every_place, how_many}
 
 pub first_found : (n : ℕ) (test : ℕ → Bool) (i : ℕ) → i < n → ((j : ℕ) → j < i → test j ≡ false) → test i ≡ true

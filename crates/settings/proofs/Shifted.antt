@@ -1,15 +1,12 @@
 -- Signed numbers compared through lengths: two that lie so far above the same depth stand to each other as these
 -- heights do.
-use mathlib.Core.Path.{◌≡◌, refl, sym, ap, subst, ◌∙◌}
-use mathlib.Core.Bool.{Bool, true, false, not, ◌&&◌}
-use Prim.Native.Nat.{ℕ, zero, suc, ◌+◌, ◌-◌, ◌≤◌, ◌<◌, min}
-use native.Mathlib.Nat.{add-zero, add_comm}
+use Rattle.std.proofs.Common.{◌≡◌, refl, sym, ap, subst, ◌∙◌, Bool, true, false, not, ◌&&◌, ℕ, zero, suc, ◌+◌, ◌-◌}
+use Rattle.std.proofs.Common.{◌≤◌, ◌<◌, min, add-zero, add_comm, arith, T, leb, ltb, ℤ, pos, negsuc, ◌-ℤ◌, ◌≤ℤ◌}
+use Rattle.std.proofs.Common.{lt-ltb, le-ltb, le-leb}
+use Rattle.std.proofs.lemmas.Bool.{lt-leb}
+use Rattle.std.specs.Int.Signed.{le_z, lt_z}
 use native.Mathlib.Decide.{dec_le}
-use native.Mathlib.Omega.{arith}
-use lib.Dec.{T, leb, ltb}
-use lib.IntN.{ℤ, pos, negsuc, ◌-ℤ◌, +ℤ-neg_ℤ_cancel}
-use lib.Signed.{le_z, lt_z, ◌≤ℤ◌}
-use borrow.Author.Tests.{lt-ltb, le-ltb, le-leb, lt-leb}
+use lib.IntN.{+ℤ-neg_ℤ_cancel}
 use Rattle.measure.specs.Choose.{choose}
 use Rattle.settings.specs.Margins.{zero_or_more}
 use Rattle.settings.specs.Pick.{lower}

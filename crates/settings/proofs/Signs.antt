@@ -1,14 +1,8 @@
 -- A signed number that fits is read back as it was put down, and the code's test for zero or more is the definition's.
-use mathlib.Core.Path.{◌≡◌, refl, sym, ◌∙◌}
-use mathlib.Core.Bool.{true, false, not}
-use Prim.Native.Nat.{◌^◌, ◌<◌}
-use native.Mathlib.Omega.{arith}
-use lib.IntN.{ℤ, pos, negsuc}
-use lib.Signed.{mag, le_z, lt_z}
-use borrow.Author.Tests.{le-leb, le-ltb, not-true, not-false}
-use mir.Syntax.{w64}
-use mir.Val.{SFits, to_z, of_z}
-use mir.Facts.{to_z-of_z}
+use Rattle.std.proofs.Common.{◌≡◌, refl, sym, ◌∙◌, true, false, not, ◌^◌, ◌<◌, arith, ℤ, pos, negsuc, le-leb, le-ltb}
+use Rattle.std.proofs.Common.{w64, SFits, to_z, of_z, to_z-of_z}
+use Rattle.std.proofs.lemmas.Bool.{not-true, not-false}
+use Rattle.std.specs.Int.Signed.{mag, le_z, lt_z}
 use Rattle.settings.specs.Margins.{zero_or_more}
 
 pub read_back : (z : ℤ) → mag z < 2 ^ 63 → to_z w64 (of_z w64 z) ≡ z

@@ -1,14 +1,9 @@
 -- How far a signed number is from zero: a difference is at most as far as its two parts together, and a product as far
 -- as its two parts multiplied.
-use mathlib.Core.Path.{◌≡◌, refl}
-use Prim.Native.Nat.{ℕ, zero, suc, ◌+◌, ◌*◌, ◌^◌, ◌≤◌, ◌<◌}
-use native.Mathlib.Nat.{mul-le-mul}
+use Rattle.std.proofs.Common.{◌≡◌, refl, ℕ, zero, suc, ◌+◌, ◌*◌, ◌^◌, ◌≤◌, ◌<◌, mul-le-mul, arith, lt-ltb, le-ltb, ℤ}
+use Rattle.std.proofs.Common.{pos, negsuc, neg_ℤ, nat_abs, ◌-ℤ◌, ◌*ℤ◌, w64, SFits}
 use native.Mathlib.Decide.{dec_le}
-use native.Mathlib.Omega.{arith}
-use borrow.Author.Tests.{lt-ltb, le-ltb}
-use lib.IntN.{ℤ, pos, negsuc, neg_ℤ, nat_abs, sub_ℕ, ◌-ℤ◌, ◌*ℤ◌}
-use mir.Syntax.{w64}
-use mir.Val.{SFits}
+use lib.IntN.{sub_ℕ}
 
 neg_size : (z : ℤ) → nat_abs (neg_ℤ z) ≡ nat_abs z
 neg_size (pos zero) = refl

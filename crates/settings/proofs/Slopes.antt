@@ -1,11 +1,9 @@
 -- Where one number gains so much a step and another loses so much, two divisions give the steps that the first stays
 -- below the second and below one that does not move. The two slopes need not be equal.
-use Prim.Native.Nat.{ℕ, ◌+◌, ◌*◌, ◌-◌, ◌/◌, ◌≤◌, ◌<◌, min}
-use mathlib.Core.Path.{◌≡◌}
-use mathlib.Core.Logic.{◌⊎◌, inl, inr}
-use native.Mathlib.Nat.{mul-le-mul_right, div-mul-le_self, lt-div-mul-add}
+use Rattle.std.proofs.Common.{ℕ, ◌+◌, ◌*◌, ◌-◌, ◌/◌, ◌≤◌, ◌<◌, min, ◌≡◌, ◌⊎◌, inl, inr, mul-le-mul_right}
+use Rattle.std.proofs.Common.{div-mul-le_self, arith}
+use native.Mathlib.Nat.{lt-div-mul-add}
 use native.Mathlib.Decide.{dec_le}
-use native.Mathlib.Omega.{arith}
 use Rattle.settings.proofs.Peak.{Turns}
 
 -- so many steps of a slope stay below a distance, and one more does not

@@ -1,17 +1,15 @@
 -- What the judge and the quiet judge answer, for all input (rules M13 and R40, R41, R74, R75), and what each case of
 -- the code says.
-use Rattle.std.specs.Prelude.{ℕ, Bool, true, false, ◌&&◌, leb}
+use Rattle.std.specs.Prelude.{ℕ, Bool, true, false, ◌&&◌, leb, Result}
 use Rattle.measure.specs.Choose.{choose}
 use Rattle.measure.specs.Ranges.{subcell, sampling, settling, cycle_length, quiet, pad_most}
-use Rattle.measure.specs.Refusals.{Answer, given, refused, denied}
-use Rattle.settings.specs.Margins.{Ends, m1, m2, m3, m4, m5, accepted, quiet_accepted}
+use Rattle.measure.specs.Refusals.{Answer, given, refused, says}
+use Rattle.measure.specs.declared.Refusal.{Refusal}
+use Rattle.settings.specs.Margins.{Ends, m1, m2, m3, m4, m5, zero_or_more, accepted, quiet_accepted}
 use Rattle.settings.specs.declared.Margins.{Margins}
 use Rattle.settings.specs.declared.QuietMargins.{QuietMargins}
-use Rattle.settings.specs.declared.Judged.{Judged}
-use Rattle.settings.specs.declared.Judged.TheVariants.{Yes, No, Refused}
-use Rattle.settings.specs.declared.QuietJudged.{QuietJudged}
-use Rattle.settings.specs.declared.QuietJudged.TheVariants.{Yes as QuietYes, No as QuietNo}
-use Rattle.settings.specs.declared.QuietJudged.TheVariants.{Refused as QuietRefused}
+use Rattle.settings.specs.declared.Verdict.{Verdict}
+use Rattle.settings.specs.declared.Verdict.TheVariants.{Yes, No}
 
 -- M13: the margins and yes or no; a "no" has its margins too
 pub record Judgement : Type 0 where
@@ -43,8 +41,15 @@ cell_margins a b g k e = record { m1 = m1 a g e; m2 = m2 a g k e; m3 = m3 a b g 
 
 -- all five margins
 abbrev pub all_margins : (a b g k : ℕ) (e : Ends) (Q p1 : ℕ) → QuietMargins
-all_margins a b g k e Q p1 =
-    record { m1 = m1 a g e; m2 = m2 a g k e; m3 = m3 a b g k e; m4 = m4 a b g e Q; m5 = m5 g e Q p1 }
+all_margins a b g k e Q p1 = record { cell = cell_margins a b g k e; m4 = m4 a b g e Q; m5 = m5 g e Q p1 }
+
+-- M11: none of the three is negative
+abbrev pub cell_met : Margins → Bool
+cell_met m = zero_or_more m.m1 && zero_or_more m.m2 && zero_or_more m.m3
+
+-- M12: none of the five is
+abbrev pub all_met : QuietMargins → Bool
+all_met m = cell_met m.cell && zero_or_more m.m4 && zero_or_more m.m5
 
 -- R74: the judge over ends: refusal 1 where a setting is out of range; R40: the judge is its case of steady clocks
 unfoldable pub judgement : (a b g k : ℕ) (e : Ends) → Answer Judgement
@@ -60,14 +65,20 @@ quiet_judgement a b g k e Q p1 =
     (given (record { margins = all_margins a b g k e Q p1; accepts = quiet_accepted a b g k e Q p1 }))
     (refused 1 0)
 
+-- A8: what the judge's two words say
+abbrev pub judged_as : Verdict Margins → Judgement
+judged_as (Yes m) = record { margins = m; accepts = true }
+judged_as (No m) = record { margins = m; accepts = false }
+
+-- A8: and the quiet judge's
+abbrev pub quiet_judged_as : Verdict QuietMargins → QuietJudgement
+quiet_judged_as (Yes m) = record { margins = m; accepts = true }
+quiet_judged_as (No m) = record { margins = m; accepts = false }
+
 -- A8: what each case of the judge's answer says
-abbrev pub judged_says : Judged → Answer Judgement
-judged_says (Yes m) = given (record { margins = m; accepts = true })
-judged_says (No m) = given (record { margins = m; accepts = false })
-judged_says (Refused refusal) = denied refusal
+abbrev pub judged_says : Result (Verdict Margins) Refusal → Answer Judgement
+judged_says answer = says judged_as answer
 
 -- A8: and of the quiet judge's
-abbrev pub quiet_judged_says : QuietJudged → Answer QuietJudgement
-quiet_judged_says (QuietYes m) = given (record { margins = m; accepts = true })
-quiet_judged_says (QuietNo m) = given (record { margins = m; accepts = false })
-quiet_judged_says (QuietRefused refusal) = denied refusal
+abbrev pub quiet_judged_says : Result (Verdict QuietMargins) Refusal → Answer QuietJudgement
+quiet_judged_says answer = says quiet_judged_as answer

@@ -100,7 +100,7 @@ P14 = record {
   kind = Answer QuietJudgement;
   gives = quiet_judgement 80 160 64 160 (steady 100 100) 306 371;
   printed = given (record {
-    margins = record { m1 = pos 1400; m2 = pos 1500; m3 = pos 1400; m4 = pos 0; m5 = pos 0 };
+    margins = record { cell = record { m1 = pos 1400; m2 = pos 1500; m3 = pos 1400 }; m4 = pos 0; m5 = pos 0 };
     accepts = true;
   });
 }
@@ -111,7 +111,7 @@ p16_near = record {
   kind = Answer QuietJudgement;
   gives = quiet_judgement 4 7 1 5 (ends 9999 10001 14098 14102) 11 18;
   printed = given (record {
-    margins = record { m1 = pos 1793; m2 = pos 6387; m3 = pos 1276; m4 = pos 6870; m5 = pos 759 };
+    margins = record { cell = record { m1 = pos 1793; m2 = pos 6387; m3 = pos 1276 }; m4 = pos 6870; m5 = pos 759 };
     accepts = true;
   });
 }
@@ -121,7 +121,11 @@ p16_far = record {
   kind = Answer QuietJudgement;
   gives = quiet_judgement 5 13 64 10 (ends 90 110 80 120) 21 23;
   printed = given (record {
-    margins = record { m1 = negsuc 5549; m2 = negsuc 6869; m3 = negsuc 5579; m4 = negsuc 7499; m5 = negsuc 6329 };
+    margins = record {
+      cell = record { m1 = negsuc 5549; m2 = negsuc 6869; m3 = negsuc 5579 };
+      m4 = negsuc 7499;
+      m5 = negsuc 6329;
+    };
     accepts = false;
   });
 }

@@ -5,3 +5,4 @@ pub mod Pick
 pub mod PickShown
 pub mod Turning
 pub mod Survey
+pub mod Sifting

@@ -1,5 +1,6 @@
 -- Rules M: the five margins over the ends of two clocks, and when settings are accepted.
 use Rattle.std.specs.Prelude.{ℕ, ◌+◌, Bool, true, false, ◌&&◌, ℤ, pos, negsuc, ◌-ℤ◌, ◌*ℤ◌}
+use Rattle.settings.specs.declared.Clocks.{Clocks}
 
 -- N14 to N17: the ends of two clocks: a writer cycle is w1 to w2 time units long, and a read r1 to r2
 pub record Ends : Type 0 where
@@ -10,6 +11,10 @@ pub record Ends : Type 0 where
 
 abbrev pub ends : (w1 w2 r1 r2 : ℕ) → Ends
 ends w1 w2 r1 r2 = record { w1 = w1; w2 = w2; r1 = r1; r2 = r2 }
+
+-- A8: the ends that the code's clocks have
+abbrev pub ends_of : Clocks → Ends
+ends_of clocks = ends clocks.w1.0 clocks.w2.0 clocks.r1.0 clocks.r2.0
 
 -- M40: the ends of steady clocks: every writer cycle is w long, and every read r
 abbrev pub steady : (w r : ℕ) → Ends

@@ -1,13 +1,13 @@
 -- The sampling count that is picked for the fitter: the best of all in range, said by comparing margins.
-use Rattle.std.specs.Prelude.{ℕ, ◌<◌, ◌≡◌, Bool, true, false, ◌&&◌, ℤ, ◌≤ℤ◌, ◌<ℤ◌}
+use Rattle.std.specs.Prelude.{ℕ, ◌<◌, ◌≡◌, Bool, true, false, ◌&&◌, ℤ, ◌≤ℤ◌, ◌<ℤ◌, Result}
 use Rattle.std.specs.Int.Signed.{le_z}
 use Rattle.measure.specs.Choose.{choose}
 use Rattle.measure.specs.Ranges.{subcell, sampling, settling}
-use Rattle.measure.specs.Refusals.{Answer, given, refused, denied}
+use Rattle.measure.specs.Refusals.{Answer, given, refused, says}
+use Rattle.measure.specs.declared.ReadCycles.{ReadCycles}
+use Rattle.measure.specs.declared.Refusal.{Refusal}
 use Rattle.settings.specs.Margins.{Ends, m1, m2, m3, zero_or_more, accepted}
 use Rattle.settings.specs.Answers.{ends_fit}
-use Rattle.settings.specs.declared.picking.Picked.{Picked}
-use Rattle.settings.specs.declared.picking.Picked.TheVariants.{K, Refused}
 
 -- M30: the lower of two margins
 abbrev pub lower : ℤ → ℤ → ℤ
@@ -40,6 +40,5 @@ pub data Picks (a b g : ℕ) (e : Ends) : Answer ℕ → Type 0 where
       → Picks a b g e (given k)
 
 -- A8: what each case of the code's answer says
-abbrev pub picked_says : Picked → Answer ℕ
-picked_says (K k) = given k.0
-picked_says (Refused refusal) = denied refusal
+abbrev pub picked_says : Result ReadCycles Refusal → Answer ℕ
+picked_says answer = says (λ k. k.0) answer

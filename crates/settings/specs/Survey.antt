@@ -1,15 +1,15 @@
 -- Rules V1 to V4 and R90: the survey of a region: how many boards are accepted, and of each margin the smallest with
 -- the first place that has it, said by comparing each board with all others.
 use Rattle.std.specs.Prelude.{ℕ, zero, suc, Bool, true, not, ◌&&◌, List, ltb, eqb, ℤ, length, get_or}
+use Rattle.std.specs.Prelude.{Option, None, Some, Result}
 use Rattle.std.specs.Int.Signed.{le_z}
 use Rattle.measure.specs.Choose.{choose}
-use Rattle.measure.specs.Refusals.{Answer, given, refused, denied}
+use Rattle.measure.specs.Refusals.{Answer, given, refused, says}
+use Rattle.measure.specs.declared.Refusal.{Refusal}
 use Rattle.settings.specs.Margins.{Ends, steady, m1, m2, m3, accepted}
 use Rattle.settings.specs.Answers.{in_range}
 use Rattle.settings.specs.declared.surveying.Smallest.{Smallest}
 use Rattle.settings.specs.declared.surveying.Figures.{Figures}
-use Rattle.settings.specs.declared.surveying.Surveyed.{Surveyed}
-use Rattle.settings.specs.declared.surveying.Surveyed.TheVariants.{NoBoards, Boards, Refused}
 
 -- V1: the settings of a region: a list of each of a, b, g, k, w and r, with an entry for each board
 pub record Region : Type 0 where
@@ -123,8 +123,11 @@ judged_boards s =
 unfoldable pub surveyed : Region → Answer Report
 surveyed s = choose (lists_fit s) (judged_boards s) (refused 1 0)
 
+-- A8: what the code's figures say
+abbrev pub reported : Option Figures → Report
+reported None = none
+reported (Some figures) = told figures
+
 -- A8: what each case of the code's answer says
-abbrev pub surveyed_says : Surveyed → Answer Report
-surveyed_says NoBoards = given none
-surveyed_says (Boards figures) = given (told figures)
-surveyed_says (Refused refusal) = denied refusal
+abbrev pub surveyed_says : Result (Option Figures) Refusal → Answer Report
+surveyed_says answer = says reported answer

@@ -1,24 +1,43 @@
 // The survey of a region: it counts the boards that the judge accepts, and finds for M1, M2 and M3 the board that is
 // worst off.
-ghost use Rattle.std.specs.Prelude.{◌≡◌, true};
-ghost use Rattle.std.specs.Int.Signed.{lt_z};
-ghost use Rattle.measure.specs.Choose.{choose};
-ghost use Rattle.settings.specs.Survey.{region, lists_fit, judged_boards, surveyed, surveyed_says};
+ghost use Rattle.std.specs.Prelude.{◌≡◌, ◌+◌, ◌^◌, ◌<◌};
+ghost use Rattle.settings.specs.Survey.{region, boards, judged_boards, surveyed, surveyed_says};
+ghost use Rattle.settings.specs.Sifting.{smaller, with_board, margins_at};
 
-use crate::{cell_accepted, cell_margins, in_range};
+use crate::checked::Settings;
+use crate::{Clocks, Margins, Pair};
 use measure::{ReadCycles, Refusal, TimeUnits, WriterCycles};
+use std::marker::Model;
 
 // The most boards of a region.
 const BOARDS_MOST: usize = 4096;
-
-// The greatest margin that the type holds: no margin of a board is above it.
-const MARGIN_MOST: i64 = 9223372036854775807;
 
 // A margin in time units, and the first board that has it, counted from 0.
 #[derive(Clone, Copy)]
 pub struct Smallest {
     pub margin: i64,
     pub place: usize,
+}
+
+impl Smallest {
+    // Stands for the smallest of no margins, so that the loop asks nothing of a first board: no board's margin is above
+    // the greatest that the type holds.
+    const OF_NONE: Smallest = Smallest {
+        margin: i64::MAX,
+        place: 0,
+    };
+
+    // Gives the smaller of this margin and that of the board at a place; of equals this one. It is no `min`, since a
+    // derived order would compare the places too.
+    fn or(self, margin: i64, place: usize) -> Smallest
+        ensures { result ≡ smaller self margin place }
+    {
+        let before = self.margin;
+        if margin < before {
+            return Smallest { margin, place };
+        }
+        self
+    }
 }
 
 // What is told of a region: how many boards are accepted, and the smallest of each margin.
@@ -30,104 +49,102 @@ pub struct Figures {
     pub m3: Smallest,
 }
 
-// What the survey answers.
-#[derive(Clone, Copy)]
-pub enum Surveyed {
-    // There is no board, so there is no smallest margin.
-    NoBoards,
-    Boards(Figures),
-    Refused(Refusal),
-}
-
-// Tells whether the lists of a region have as many entries each.
-fn lists_fit(a: &[usize], b: &[usize], g: &[usize], k: &[usize], w: &[usize], r: &[usize]) -> bool
-    ensures { result
-        ≡ lists_fit (region a.now b.now g.now k.now w.now
-        r.now) }
-{
-    (b.len() == a.len())
-        & (g.len() == a.len())
-        & (k.len() == a.len())
-        & (w.len() == a.len())
-        & (r.len() == a.len())
-}
-
-// Gives the smaller of a margin found before and that of the board at a place; of equals the one found before.
-fn smaller(found: Smallest, margin: i64, place: usize) -> Smallest
-    ensures { result ≡ choose (lt_z margin found.margin) (record { margin = margin; place = place }) found }
-{
-    let before = found.margin;
-    if margin < before {
-        return Smallest { margin, place };
-    }
-    found
-}
-
-// Surveys lists that fit one another, in one pass that stops at the first board with a setting out of range.
-fn survey_boards(
-    a: &[usize],
-    b: &[usize],
-    g: &[usize],
-    k: &[usize],
-    w: &[usize],
-    r: &[usize],
-) -> Surveyed
-    requires { lists_fit (region a.now b.now g.now k.now w.now r.now) ≡ true }
-    ensures { judged_boards (region a.now b.now g.now k.now
-        w.now r.now) ≡ surveyed_says result }
-{
-    let mut accepted = 0;
-    let mut m1 = Smallest {
-        margin: MARGIN_MOST,
-        place: 0,
+impl Figures {
+    // Stands for the figures of no boards.
+    const OF_NONE: Figures = Figures {
+        accepted: 0,
+        m1: Smallest::OF_NONE,
+        m2: Smallest::OF_NONE,
+        m3: Smallest::OF_NONE,
     };
-    let mut m2 = Smallest {
-        margin: MARGIN_MOST,
-        place: 0,
-    };
-    let mut m3 = Smallest {
-        margin: MARGIN_MOST,
-        place: 0,
-    };
-    let mut i = 0;
-    while i < a.len() {
-        let mark = WriterCycles(a[i]);
-        let code = WriterCycles(b[i]);
-        let settling = WriterCycles(g[i]);
-        let sampling = ReadCycles(k[i]);
-        let cycle = TimeUnits(w[i]);
-        let read = TimeUnits(r[i]);
-        if !in_range(mark, code, settling, sampling, cycle, cycle, read, read) {
-            return Surveyed::Refused(Refusal::Setting(i));
+
+    // Gives what is told with the board at a place, by its margins.
+    fn with(self, board: Margins, place: usize) -> Figures
+        requires { self.accepted + 1 < 2 ^ 64 }
+        ensures { result ≡ with_board self board place }
+    {
+        Figures {
+            accepted: self.accepted + usize::from(board.accepted()),
+            m1: self.m1.or(board.m1, place),
+            m2: self.m2.or(board.m2, place),
+            m3: self.m3.or(board.m3, place),
         }
-        let m = cell_margins(mark, code, settling, sampling, cycle, cycle, read, read);
-        if cell_accepted(m) {
-            accepted += 1;
+    }
+}
+
+// The settings of a region's boards: six lists that have as many entries each.
+#[derive(Drop)]
+struct Boards<'a> {
+    a: &'a [usize],
+    b: &'a [usize],
+    g: &'a [usize],
+    k: &'a [usize],
+    w: &'a [usize],
+    r: &'a [usize],
+}
+
+impl<'a> Model for Boards<'a> {
+    ghost use Rattle.std.specs.Prelude.{◌≡◌, true};
+    ghost use Rattle.settings.specs.Survey.{Region, region, lists_fit};
+
+    ghost Value = { Region };
+
+    ghost view = { λ s. region s.a.now s.b.now s.g.now s.k.now s.w.now s.r.now };
+
+    ghost invariant = { λ s. lists_fit (region s.a.now s.b.now s.g.now s.k.now s.w.now s.r.now) ≡ true };
+}
+
+impl<'a> Boards<'a> {
+    // Gives how many there are.
+    fn count(&self) -> usize
+        ensures { result ≡ boards self.now }
+    {
+        self.a.len()
+    }
+
+    // Gives M1, M2 and M3 of the board at a place, if its settings are in range.
+    fn margins(&self, i: usize) -> Option<Margins>
+        requires { i < boards self.now }
+        ensures { result ≡ margins_at self.now i }
+    {
+        let Boards { a, b, g, k, w, r } = self;
+        let pair = Pair {
+            a: WriterCycles(a[i]),
+            b: WriterCycles(b[i]),
+            g: WriterCycles(g[i]),
+        };
+        let clocks = Clocks::steady(TimeUnits(w[i]), TimeUnits(r[i]));
+        let board = Settings::checked(pair, ReadCycles(k[i]), clocks).ok()?;
+        Some(board.margins())
+    }
+
+    // Surveys the boards, in one pass that stops at the first with a setting out of range.
+    fn survey(&self) -> Result<Option<Figures>, Refusal>
+        ensures { judged_boards self.now ≡ surveyed_says result }
+    {
+        let count = self.count();
+        let mut figures = Figures::OF_NONE;
+        for i in 0..count {
+            let margins = self.margins(i).ok_or(Refusal::Setting(i))?;
+            figures = figures.with(margins, i);
         }
-        m1 = smaller(m1, m.m1, i);
-        m2 = smaller(m2, m.m2, i);
-        m3 = smaller(m3, m.m3, i);
-        i += 1;
+        if count > BOARDS_MOST {
+            return Err(Refusal::Limit);
+        }
+        if count == 0 {
+            return Ok(None);
+        }
+        Ok(Some(figures))
     }
-    if BOARDS_MOST < i {
-        return Surveyed::Refused(Refusal::Limit);
-    }
-    if i == 0 {
-        return Surveyed::NoBoards;
-    }
-    Surveyed::Boards(Figures {
-        accepted,
-        m1,
-        m2,
-        m3,
-    })
 }
 
 // The survey of a region of boards with steady clocks, each with its a, b, g, k, w and r in six lists. Gives how many
 // boards the judge accepts, and the smallest of each of M1, M2 and M3 with the first place that has it; of no boards it
-// gives a case of its own.
+// gives none.
 // Refuses with 1 lists of unequal length, place 0; with 1 the first board that has a setting out of range, at its
 // place, also after the 4,096th; then with 3 more than 4,096 boards.
+// It takes the lists one by one, as C lends them.
+#[tactic(auto, unfolding(crate::specs::Survey::surveyed))]
 pub fn survey(
     a: &[usize],
     b: &[usize],
@@ -135,12 +152,19 @@ pub fn survey(
     k: &[usize],
     w: &[usize],
     r: &[usize],
-) -> Surveyed
+) -> Result<Option<Figures>, Refusal>
     ensures { surveyed (region a.now b.now g.now k.now
         w.now r.now) ≡ surveyed_says result }
 {
-    if !lists_fit(a, b, g, k, w, r) {
-        return Surveyed::Refused(Refusal::Setting(0));
+    // Five plain tests: a loop over a list of the six would need that list, and be no shorter.
+    let fit = (b.len() == a.len())
+        & (g.len() == a.len())
+        & (k.len() == a.len())
+        & (w.len() == a.len())
+        & (r.len() == a.len());
+    if !fit {
+        return Err(Refusal::Setting(0));
     }
-    survey_boards(a, b, g, k, w, r)
+    let boards = Boards { a, b, g, k, w, r };
+    boards.survey()
 }

@@ -48,7 +48,7 @@ module _ (lent : Lent) (bare : Bare) (told : Told) {bytes room numbers : List �
     (fit : numbers_fit (named lent.numbers) ≡ true)
     (lends : (bits : List ℕ) → receiver_lent (named lent.numbers) bits ≡ whole bare bits)
     (hands : (bits delivered : List ℕ)
-    → handed lent.numbers (whole told.bare bits) (event_says told.bare.n delivered told.event)
+    → handed lent.numbers (whole told.bare bits) (event_says told.bare.settings.n delivered told.event)
     ≡ (reply, numbers)) where
   crosses : (reads : List ℕ)
       → in_lent lent.row (listened (whole bare lent.bytes) reads) ≡ told_says told bytes room

@@ -8,7 +8,7 @@ use Rattle.board.specs.declared.Receiver.{Receiver}
 use Rattle.siengulot.specs.Receivers.{put_back, brought, stepped_lent, brought_by, listened_lent}
 use Rattle.siengulot.proofs.Recovered.{its_numbers_fit, receiver_recovered}
 
-module _ (x : Receiver) (run : x.runlevel ≤ 255) (byte : x.level ≤ 255) (room : List ℕ) where
+module _ (x : Receiver) (run : x.bare.numbers.runlevel ≤ 255) (byte : x.bare.numbers.level ≤ 255) (room : List ℕ) where
   pub next_step : (read : ℕ) → stepped_lent (put_back x room) read ≡ brought (put_back x room) (stepped x read)
   unfolding stepped_lent
   next_step read = rw (its_numbers_fit x run byte, receiver_recovered x)

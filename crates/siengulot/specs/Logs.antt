@@ -4,12 +4,6 @@ use Rattle.std.specs.Prelude.{ℕ}
 use Rattle.measure.specs.Refusals.{Answer, given, refused, refused_after}
 use Rattle.bay_log.specs.Records.{Log}
 
--- H16: the refusal's number (0: none), and the place taken or the count of records listed, which is 0 with a refusal
-abbrev pub logged_over : Answer ℕ → ℕ × ℕ
-logged_over (given place) = (0, place)
-logged_over (refused number place) = (number, 0)
-logged_over (refused_after number place count) = (number, 0)
-
 -- H16: of clearing the refusal's number alone
 abbrev pub cleared_over : Answer (Unit {0}) → ℕ
 cleared_over (given done) = 0

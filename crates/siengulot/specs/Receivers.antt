@@ -3,6 +3,7 @@ use Rattle.std.specs.Prelude.{ℕ, Bool, ◌&&◌, List, [], ◌∷◌, leb, eqb
 use Rattle.measure.specs.Choose.{choose}
 use Rattle.measure.specs.Refusals.{Answer, given, refused, refused_after}
 use Rattle.board.specs.Rows.{Event, nothing, row, broken}
+use Rattle.board.specs.Packed.{mode_number}
 use Rattle.board.specs.WellFormed.{well_formed}
 use Rattle.board.specs.Answers.{Outcome, stepped, listened}
 use Rattle.board.specs.declared.Mode.{Mode}
@@ -10,14 +11,7 @@ use Rattle.board.specs.declared.Mode.TheVariants.{Hunting, Ready, Counting, Wait
 use Rattle.board.specs.declared.Receiver.{Receiver}
 use Rattle.siengulot.specs.Crossing.{flag}
 
--- H8: a mode's number
-abbrev pub mode_number : Mode → ℕ
-mode_number Hunting = 0
-mode_number Ready = 1
-mode_number Counting = 2
-mode_number Waiting = 3
-
--- H8: and the mode of a number up to 3
+-- H8: the mode of a number up to 3
 abbrev pub mode_of : ℕ → Mode
 mode_of m = choose (eqb m 0) Hunting (choose (eqb m 1) Ready (choose (eqb m 2) Counting Waiting))
 
@@ -51,15 +45,15 @@ named numbers =
 -- H7: the numbers that a receiver crosses as, in that order
 abbrev pub numbers_of : Receiver → List ℕ
 numbers_of x =
-    x.k.0
-    ∷ x.n
-    ∷ x.q.0
-    ∷ mode_number x.mode
-    ∷ x.run.0
-    ∷ x.runlevel
-    ∷ x.left.0
-    ∷ x.level
-    ∷ x.found
+    x.bare.settings.k.0
+    ∷ x.bare.settings.n
+    ∷ x.bare.settings.q.0
+    ∷ mode_number x.bare.numbers.mode
+    ∷ x.bare.numbers.run.0
+    ∷ x.bare.numbers.runlevel
+    ∷ x.bare.numbers.left.0
+    ∷ x.bare.numbers.level
+    ∷ x.bare.numbers.found
     ∷ []
 
 -- H8: Numbers make a receiver where the mode's is that of a mode and both levels are bytes. Other numbers are a state
@@ -71,15 +65,17 @@ numbers_fit x = leb x.mode 3 && leb x.runlevel 255 && leb x.level 255
 unfoldable pub receiver_lent : Named → (bytes : List ℕ) → Receiver
 receiver_lent x bytes =
     record {
-      k = record { 0 = x.k };
-      n = x.n;
-      q = record { 0 = x.Q };
-      mode = mode_of x.mode;
-      run = record { 0 = x.run };
-      runlevel = x.runlevel;
-      left = record { 0 = x.left };
-      level = x.level;
-      found = x.found;
+      bare = record {
+        settings = record { k = record { 0 = x.k }; n = x.n; q = record { 0 = x.Q } };
+        numbers = record {
+          mode = mode_of x.mode;
+          run = record { 0 = x.run };
+          runlevel = x.runlevel;
+          left = record { 0 = x.left };
+          level = x.level;
+          found = x.found;
+        };
+      };
       bits = bytes;
     }
 

@@ -1,17 +1,11 @@
 // How an answer crosses: the refusal's number is returned, and its place and the count are written to lent numbers.
 ghost use Rattle.std.specs.Prelude.{◌≡◌};
-ghost use Rattle.measure.specs.Refusals.{given, denied};
-ghost use Rattle.sender.specs.Answers.{sent_says};
-ghost use Rattle.line.specs.Answers.{smoothed_says, read_says};
+ghost use Rattle.measure.specs.Refusals.{given, denied, says};
 ghost use Rattle.counted.specs.Answers.{counted_says};
-ghost use Rattle.capture.specs.Answers.{written_says};
-ghost use Rattle.siengulot.specs.Crossing.{crossed, crossed_bits, flag as flag_of};
+ghost use Rattle.siengulot.specs.Crossing.{crossed, crossed_bits, numbered, flag as flag_of};
 
-use capture::Written;
-use counted::Received;
-use line::{Read, Smoothed};
-use measure::Refusal;
-use sender::Sent;
+use counted::Stop;
+use measure::{Count, Refusal};
 
 // The number of refusal 5, which is no case of a refusal.
 const RAN_OUT: usize = 5;
@@ -20,7 +14,7 @@ const RAN_OUT: usize = 5;
 pub fn flag(yes: bool) -> usize
     ensures { flag_of yes ≡ result }
 {
-    if yes { 1 } else { 0 }
+    usize::from(yes)
 }
 
 // A result of so many entries.
@@ -36,67 +30,57 @@ pub fn gives(length: usize, place: &mut usize, count: &mut usize) -> usize
 pub fn refuses(refusal: Refusal, place: &mut usize, count: &mut usize) -> usize
     ensures { crossed (denied refusal) ≡ (result, place.new, count.new) }
 {
-    *place = measure::place(refusal);
+    *place = refusal.place();
     *count = 0;
-    measure::number(refusal)
+    refusal.number()
 }
 
-// What sending answers.
-pub fn of_sent(answer: Sent, place: &mut usize, count: &mut usize) -> usize
-    ensures { crossed (sent_says answer) ≡ (result, place.new, count.new) }
+// An answer that counts something, in whatever unit.
+pub fn crosses<T: Count>(answer: Result<T, Refusal>, place: &mut usize, count: &mut usize) -> usize
+    ensures { crossed (says T.number answer) ≡ (result, place.new, count.new) }
 {
     match answer {
-        Sent::Wave(cycles) => gives(cycles.0, place, count),
-        Sent::Refused(refusal) => refuses(refusal, place, count),
+        Ok(counted) => gives(counted.count(), place, count),
+        Err(refusal) => refuses(refusal, place, count),
     }
 }
 
-// What smooth answers.
-pub fn of_smoothed(answer: Smoothed, place: &mut usize, count: &mut usize) -> usize
-    ensures { crossed (smoothed_says answer) ≡ (result, place.new, count.new) }
+// The same, of an operation whose refusals have no place that crosses.
+pub fn crosses_alone<T: Count>(answer: Result<T, Refusal>, given: &mut usize) -> usize
+    ensures { numbered (says T.number answer) ≡ (result, given.new) }
 {
     match answer {
-        Smoothed::Wave(cycles) => gives(cycles.0, place, count),
-        Smoothed::Refused(refusal) => refuses(refusal, place, count),
-    }
-}
-
-// What warp and settle answer.
-pub fn of_read(answer: Read, place: &mut usize, count: &mut usize) -> usize
-    ensures { crossed (read_says answer) ≡ (result, place.new, count.new) }
-{
-    match answer {
-        Read::Reads(reads) => gives(reads.0, place, count),
-        Read::Refused(refusal) => refuses(refusal, place, count),
+        Ok(counted) => {
+            *given = counted.count();
+            0
+        }
+        Err(refusal) => {
+            *given = 0;
+            refusal.number()
+        }
     }
 }
 
 // What the counted receiver answers: also after refusal 5 the count is of the bits found, and with both the place is
 // that of the current read.
-pub fn of_counted(answer: Received, place: &mut usize, count: &mut usize) -> usize
+pub fn of_counted(
+    answer: Result<counted::Found, Stop>,
+    place: &mut usize,
+    count: &mut usize,
+) -> usize
     ensures { crossed_bits (counted_says answer) ≡ (result, place.new, count.new) }
 {
     match answer {
-        Received::Bits(found, at) => {
-            *place = at;
-            *count = found;
+        Ok(found) => {
+            *place = found.at;
+            *count = found.bits;
             0
         }
-        Received::RanOut(bits, at) => {
-            *place = at;
-            *count = bits;
+        Err(Stop::RanOut(short)) => {
+            *place = short.at;
+            *count = short.bits;
             RAN_OUT
         }
-        Received::Refused(refusal) => refuses(refusal, place, count),
-    }
-}
-
-// What writing a capture answers.
-pub fn of_written(answer: Written, place: &mut usize, count: &mut usize) -> usize
-    ensures { crossed (written_says answer) ≡ (result, place.new, count.new) }
-{
-    match answer {
-        Written::Bytes(length) => gives(length, place, count),
-        Written::Refused(refusal) => refuses(refusal, place, count),
+        Err(Stop::Refused(refusal)) => refuses(refusal, place, count),
     }
 }

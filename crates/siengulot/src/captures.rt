@@ -3,24 +3,34 @@ ghost use Rattle.std.specs.Prelude.{◌≡◌};
 ghost use Rattle.capture.specs.Answers.{checked, read_back, checked_says, written};
 ghost use Rattle.siengulot.specs.Crossing.{crossed, crossing, summed};
 
-use crate::answers::of_written;
-use capture::Checked;
-use measure::ReadCycles;
+use crate::answers::crosses;
+use capture::Summary;
+use measure::{ReadCycles, Refusal, RowSettings};
 
 // What checking and reading answer: the summary is written to the lent numbers, and a refusal leaves these.
-fn of_checked(answer: Checked, summary: &mut [usize; 5], place: &mut usize) -> usize
+fn of_checked(
+    answer: Result<Summary, Refusal>,
+    summary: &mut [usize; 5],
+    place: &mut usize,
+) -> usize
     ensures { summed summary.old (checked_says answer)
         ≡ (result, place.new, summary.new) }
 {
     match answer {
-        Checked::Capture(s) => {
-            *summary = [s.k.0, s.n, s.q.0, s.reads.0, s.runs];
+        Ok(s) => {
+            *summary = [
+                s.settings.k.0,
+                s.settings.n,
+                s.settings.q.0,
+                s.reads.0,
+                s.runs,
+            ];
             *place = 0;
             0
         }
-        Checked::Refused(refusal) => {
-            *place = measure::place(refusal);
-            measure::number(refusal)
+        Err(refusal) => {
+            *place = refusal.place();
+            refusal.number()
         }
     }
 }
@@ -66,6 +76,11 @@ pub fn siengulot_capture_write(
     ensures { crossing crossed (written k n q reads.now out.old)
         ≡ ((result, place.new, count.new), out.new) }
 {
-    let answer = capture::write_capture(ReadCycles(k), n, ReadCycles(q), reads, out);
-    of_written(answer, place, count)
+    let settings = RowSettings {
+        k: ReadCycles(k),
+        n,
+        q: ReadCycles(q),
+    };
+    let answer = capture::write_capture(settings, reads, out);
+    crosses(answer, place, count)
 }

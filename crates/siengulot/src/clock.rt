@@ -1,49 +1,43 @@
 // Time code: from decoded bits to times, and from a time to the bits of its word.
-ghost use Rattle.std.specs.Prelude.{◌≡◌};
+ghost use Rattle.std.specs.Prelude.{◌≡◌, false, MatchOption};
 ghost use Rattle.timecode.specs.Times.{time_fits};
-ghost use Rattle.timecode.specs.Answers.{read_times, read_says, write_time, written_says};
+ghost use Rattle.timecode.specs.Answers.{read_times, read_says, write_time};
 ghost use Rattle.siengulot.specs.Crossing.{crossed, crossing};
 
-use crate::answers::{gives, refuses};
+use crate::answers::{crosses, gives, refuses};
 use measure::Refusal;
-use timecode::{FRAMES_MOST, HOURS_MOST, MINUTES_MOST, Read, SECONDS_MOST, Time, Written};
+use timecode::{Stop, Time};
 
 // The number of refusal 10, which is no case of a refusal.
 const BAD_WORD: usize = 10;
 
 // What reading answers: also after refusal 10 the count is of the times listed.
-fn of_times(answer: Read, place: &mut usize, count: &mut usize) -> usize
+fn of_times(answer: Result<usize, Stop>, place: &mut usize, count: &mut usize) -> usize
     ensures { crossed (read_says answer) ≡ (result, place.new, count.new) }
 {
     match answer {
-        Read::Times(listed) => gives(listed, place, count),
-        Read::BadWord(at, listed) => {
+        Ok(listed) => gives(listed, place, count),
+        Err(Stop::BadWord { at, words }) => {
             *place = at;
-            *count = listed;
+            *count = words;
             BAD_WORD
         }
-        Read::Refused(refusal) => refuses(refusal, place, count),
+        Err(Stop::Refused(refusal)) => refuses(refusal, place, count),
     }
 }
 
-// What writing answers.
-fn of_word(answer: Written, place: &mut usize, count: &mut usize) -> usize
-    ensures { crossed (written_says answer) ≡ (result, place.new, count.new) }
+// Gives the time that four numbers are, where each of them is a byte.
+fn time_of(hours: usize, minutes: usize, seconds: usize, frames: usize) -> Option<Time>
+    ensures { MatchOption result (time_fits hours minutes seconds frames ≡ false)
+        (λ time. (time.hours ≡ hours) × (time.minutes ≡ minutes) × (time.seconds ≡ seconds)
+        × (time.frames ≡ frames)) }
 {
-    match answer {
-        Written::Bits(written) => gives(written, place, count),
-        Written::Refused(refusal) => refuses(refusal, place, count),
-    }
-}
-
-// Tells whether four numbers are a time in range.
-fn in_range(hours: usize, minutes: usize, seconds: usize, frames: usize) -> bool
-    ensures { result ≡ time_fits hours minutes seconds frames }
-{
-    (hours <= HOURS_MOST as usize)
-        & (minutes <= MINUTES_MOST as usize)
-        & (seconds <= SECONDS_MOST as usize)
-        & (frames <= FRAMES_MOST as usize)
+    Some(Time {
+        hours: u8::try_from(hours).ok()?,
+        minutes: u8::try_from(minutes).ok()?,
+        seconds: u8::try_from(seconds).ok()?,
+        frames: u8::try_from(frames).ok()?,
+    })
 }
 
 // Reads time code. Gives the times of the words found, four bytes a word (hours, minutes, seconds, frames), at the
@@ -78,19 +72,9 @@ pub fn siengulot_time_write(
     ensures { crossing crossed (write_time hours minutes seconds frames out.old)
         ≡ ((result, place.new, count.new), out.new) }
 {
-    if !in_range(hours, minutes, seconds, frames) {
+    let Some(time) = time_of(hours, minutes, seconds, frames) else {
         return refuses(Refusal::Setting(0), place, count);
-    }
-    let h = hours as u8;
-    let m = minutes as u8;
-    let s = seconds as u8;
-    let f = frames as u8;
-    let time = Time {
-        hours: h,
-        minutes: m,
-        seconds: s,
-        frames: f,
     };
     let answer = timecode::write_time(time, out);
-    of_word(answer, place, count)
+    crosses(answer, place, count)
 }

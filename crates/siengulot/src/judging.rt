@@ -1,67 +1,85 @@
 // Judging: settings against the margins.
-ghost use Rattle.std.specs.Prelude.{◌≡◌, [], ◌∷◌};
-ghost use Rattle.measure.specs.Refusals.{number_of};
-ghost use Rattle.settings.specs.Margins.{ends, steady};
-ghost use Rattle.settings.specs.Answers.{judgement, quiet_judgement, judged_says, quiet_judged_says};
-ghost use Rattle.siengulot.specs.Crossing.{judged_three, judged_five};
+ghost use Rattle.std.specs.Prelude.{◌≡◌, List, ℤ, [], ◌∷◌};
+ghost use Rattle.settings.specs.Margins.{ends, ends_of, steady};
+ghost use Rattle.settings.specs.Answers.{judgement, quiet_judgement};
+ghost use Rattle.siengulot.specs.Crossing.{judged_three, judged_five, verdict_over};
 
 use measure::{ReadCycles, Refusal, TimeUnits, WriterCycles};
-use settings::{Judged, Margins, QuietJudged, QuietMargins};
+use settings::{Clocks, Margins, Pair, QuietMargins, Verdict};
 
 // What stands in `accepted`.
 const YES: usize = 1;
 
 const NO: usize = 0;
 
-// Gives three margins one after another, and a yes or no.
-fn give_three(m: Margins, yes: usize, margins: &mut [i64; 3], accepted: &mut usize) -> usize
-    ensures { (result ≡ 0) × (yes ≡ accepted.new)
-        × (m.m1 ∷ m.m2 ∷ m.m3 ∷ [] ≡ margins.new) }
+// The pair of three bare numbers.
+pub fn pair(a: usize, b: usize, g: usize) -> Pair
+    ensures { (result.a.0 ≡ a) × (result.b.0 ≡ b) × (result.g.0 ≡ g) }
 {
-    *margins = [m.m1, m.m2, m.m3];
-    *accepted = yes;
-    0
-}
-
-// Gives five margins one after another, and a yes or no.
-fn give_five(m: QuietMargins, yes: usize, margins: &mut [i64; 5], accepted: &mut usize) -> usize
-    ensures { (result ≡ 0) × (yes ≡ accepted.new)
-        × (m.m1 ∷ m.m2 ∷ m.m3 ∷ m.m4 ∷ m.m5 ∷ [] ≡ margins.new) }
-{
-    *margins = [m.m1, m.m2, m.m3, m.m4, m.m5];
-    *accepted = yes;
-    0
-}
-
-// A refusal is a no.
-fn refuse(refusal: Refusal, accepted: &mut usize) -> usize
-    ensures { (result ≡ number_of refusal) × (accepted.new ≡ 0) }
-{
-    *accepted = NO;
-    measure::number(refusal)
-}
-
-// What the judges answer.
-fn of_judged(answer: Judged, margins: &mut [i64; 3], accepted: &mut usize) -> usize
-    ensures { judged_three (judged_says answer) margins.old
-        ≡ (result, accepted.new, margins.new) }
-{
-    match answer {
-        Judged::Yes(m) => give_three(m, YES, margins, accepted),
-        Judged::No(m) => give_three(m, NO, margins, accepted),
-        Judged::Refused(refusal) => refuse(refusal, accepted),
+    Pair {
+        a: WriterCycles(a),
+        b: WriterCycles(b),
+        g: WriterCycles(g),
     }
 }
 
-// What the quiet judges answer.
-fn of_quiet_judged(answer: QuietJudged, margins: &mut [i64; 5], accepted: &mut usize) -> usize
-    ensures { judged_five (quiet_judged_says answer) margins.old
-        ≡ (result, accepted.new, margins.new) }
+// The clocks of four ends.
+pub fn clocks(w1: usize, w2: usize, r1: usize, r2: usize) -> Clocks
+    ensures { ends_of result ≡ ends w1 w2 r1 r2 }
 {
+    Clocks {
+        w1: TimeUnits(w1),
+        w2: TimeUnits(w2),
+        r1: TimeUnits(r1),
+        r2: TimeUnits(r2),
+    }
+}
+
+// Margins as C lends them, one after another.
+trait Laid<const N: usize> {
+    ghost laid: { Self → List ℤ };
+
+    fn lay(self) -> [i64; N]
+        ensures { laid self ≡ result };
+}
+
+impl Laid<3> for Margins {
+    ghost laid = { λ m. m.m1 ∷ m.m2 ∷ m.m3 ∷ [] };
+
+    fn lay(self) -> [i64; 3] {
+        [self.m1, self.m2, self.m3]
+    }
+}
+
+impl Laid<5> for QuietMargins {
+    ghost laid = { λ m. m.cell.m1 ∷ m.cell.m2 ∷ m.cell.m3 ∷ m.m4 ∷ m.m5 ∷ [] };
+
+    fn lay(self) -> [i64; 5] {
+        let cell = self.cell;
+        [cell.m1, cell.m2, cell.m3, self.m4, self.m5]
+    }
+}
+
+// What the judges answer. A refusal is a no.
+fn of_judged<M: Laid<N>, const N: usize>(
+    answer: Result<Verdict<M>, Refusal>,
+    margins: &mut [i64; N],
+    accepted: &mut usize,
+) -> usize
+    ensures { verdict_over M.laid answer margins.old ≡ (result, accepted.new, margins.new) }
+{
+    *accepted = NO;
     match answer {
-        QuietJudged::Yes(m) => give_five(m, YES, margins, accepted),
-        QuietJudged::No(m) => give_five(m, NO, margins, accepted),
-        QuietJudged::Refused(refusal) => refuse(refusal, accepted),
+        Ok(Verdict::Yes(m)) => {
+            *accepted = YES;
+            *margins = m.lay();
+            0
+        }
+        Ok(Verdict::No(m)) => {
+            *margins = m.lay();
+            0
+        }
+        Err(refusal) => refusal.number(),
     }
 }
 
@@ -80,14 +98,9 @@ pub fn siengulot_judge(
     ensures { judged_three (judgement a b g k (steady w r)) margins.old
         ≡ (result, accepted.new, margins.new) }
 {
-    let answer = settings::judge(
-        WriterCycles(a),
-        WriterCycles(b),
-        WriterCycles(g),
-        ReadCycles(k),
-        TimeUnits(w),
-        TimeUnits(r),
-    );
+    let pair = pair(a, b, g);
+    let clocks = Clocks::steady(TimeUnits(w), TimeUnits(r));
+    let answer = settings::judge(pair, ReadCycles(k), clocks);
     of_judged(answer, margins, accepted)
 }
 
@@ -109,16 +122,9 @@ pub fn siengulot_judge_ends(
     ensures { judged_three (judgement a b g k (ends w1 w2 r1 r2)) margins.old
         ≡ (result, accepted.new, margins.new) }
 {
-    let answer = settings::judge_ends(
-        WriterCycles(a),
-        WriterCycles(b),
-        WriterCycles(g),
-        ReadCycles(k),
-        TimeUnits(w1),
-        TimeUnits(w2),
-        TimeUnits(r1),
-        TimeUnits(r2),
-    );
+    let pair = pair(a, b, g);
+    let clocks = clocks(w1, w2, r1, r2);
+    let answer = settings::judge(pair, ReadCycles(k), clocks);
     of_judged(answer, margins, accepted)
 }
 
@@ -139,17 +145,16 @@ pub fn siengulot_judge_quiet(
     ensures { judged_five (quiet_judgement a b g k (steady w r) q p1) margins.old
         ≡ (result, accepted.new, margins.new) }
 {
+    let pair = pair(a, b, g);
+    let clocks = Clocks::steady(TimeUnits(w), TimeUnits(r));
     let answer = settings::judge_quiet(
-        WriterCycles(a),
-        WriterCycles(b),
-        WriterCycles(g),
+        pair,
         ReadCycles(k),
-        TimeUnits(w),
-        TimeUnits(r),
+        clocks,
         ReadCycles(q),
         WriterCycles(p1),
     );
-    of_quiet_judged(answer, margins, accepted)
+    of_judged(answer, margins, accepted)
 }
 
 // The quiet judge over the ends of two clocks. Gives M1 to M5 over them, and 1 in `accepted`
@@ -172,17 +177,14 @@ pub fn siengulot_judge_quiet_ends(
     ensures { judged_five (quiet_judgement a b g k (ends w1 w2 r1 r2) q p1) margins.old
         ≡ (result, accepted.new, margins.new) }
 {
-    let answer = settings::judge_quiet_ends(
-        WriterCycles(a),
-        WriterCycles(b),
-        WriterCycles(g),
+    let pair = pair(a, b, g);
+    let clocks = clocks(w1, w2, r1, r2);
+    let answer = settings::judge_quiet(
+        pair,
         ReadCycles(k),
-        TimeUnits(w1),
-        TimeUnits(w2),
-        TimeUnits(r1),
-        TimeUnits(r2),
+        clocks,
         ReadCycles(q),
         WriterCycles(p1),
     );
-    of_quiet_judged(answer, margins, accepted)
+    of_judged(answer, margins, accepted)
 }

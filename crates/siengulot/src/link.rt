@@ -6,11 +6,10 @@ ghost use Rattle.line.specs.Answers.{smoothed, warped, warped_by_lengths, settle
 ghost use Rattle.counted.specs.Answers.{counted_bits};
 ghost use Rattle.siengulot.specs.Crossing.{crossed, crossing, crossed_bits};
 
-use crate::answers::{of_counted, of_read, of_sent, of_smoothed, refuses};
-use measure::{HIGH, ReadCycles, Refusal, TimeUnits, WriterCycles};
-
-// The greatest level.
-const LEVEL_MOST: usize = HIGH as usize;
+use crate::answers::{crosses, of_counted, refuses};
+use line::{Bounds, Timing};
+use measure::{ReadCycles, Refusal, TimeUnits, WriterCycles};
+use sender::Cell;
 
 // Sends a message. Gives its wave.
 // Refuses with 1 (a, b or the pad), 3 (more than 1,024 bits), 2 (the place of the first entry that is no bit), 4: the
@@ -27,14 +26,12 @@ pub fn siengulot_send(
     ensures { crossing crossed (sent_message a b p1 bits.now out.old)
         ≡ ((result, place.new, count.new), out.new) }
 {
-    let answer = sender::send(
-        WriterCycles(a),
-        WriterCycles(b),
-        WriterCycles(p1),
-        bits,
-        out,
-    );
-    of_sent(answer, place, count)
+    let cell = Cell {
+        a: WriterCycles(a),
+        b: WriterCycles(b),
+    };
+    let answer = sender::send(cell, WriterCycles(p1), bits, out);
+    crosses(answer, place, count)
 }
 
 // Sends a plan: for each row a lead pad, and n bits of the one list of bits. Gives the plan's wave.
@@ -54,8 +51,12 @@ pub fn siengulot_plan(
         (sent_plan a b n leads.now bits.now out.old)
         ≡ ((result, place.new, count.new), out.new) }
 {
-    let answer = sender::send_plan(WriterCycles(a), WriterCycles(b), n, leads, bits, out);
-    of_sent(answer, place, count)
+    let cell = Cell {
+        a: WriterCycles(a),
+        b: WriterCycles(b),
+    };
+    let answer = sender::send_plan(cell, n, leads, bits, out);
+    crosses(answer, place, count)
 }
 
 // Pass 1, smooth. Gives the wave, in which a cycle is unknown if the level changes at it or at one of the g - 1 cycles
@@ -72,8 +73,8 @@ pub fn siengulot_smooth(
     ensures { crossing crossed (smoothed g wave.now out.old)
         ≡ ((result, place.new, count.new), out.new) }
 {
-    let answer = line::smooth(wave, WriterCycles(g), out);
-    of_smoothed(answer, place, count)
+    let smoothed = line::smooth(wave, WriterCycles(g), out);
+    crosses(smoothed, place, count)
 }
 
 // Pass 2, warp. Gives the reads of a wave.
@@ -91,8 +92,13 @@ pub fn siengulot_warp(
     ensures { crossing crossed (warped w r p wave.now out.old)
         ≡ ((result, place.new, count.new), out.new) }
 {
-    let answer = line::warp(wave, TimeUnits(w), TimeUnits(r), TimeUnits(p), out);
-    of_read(answer, place, count)
+    let timing = Timing {
+        w: TimeUnits(w),
+        r: TimeUnits(r),
+        p: TimeUnits(p),
+    };
+    let answer = line::warp(wave, timing, out);
+    crosses(answer, place, count)
 }
 
 // Pass 2, warp by lengths. Gives the reads of a wave whose cycles and reads have a length each.
@@ -116,18 +122,16 @@ pub fn siengulot_warp_by_lengths(
         wave.now out.old)
         ≡ ((result, place.new, count.new), out.new) }
 {
-    let answer = line::warp_by_lengths(
-        wave,
-        TimeUnits(w1),
-        TimeUnits(w2),
-        TimeUnits(r1),
-        TimeUnits(r2),
-        TimeUnits(p),
-        cycles,
-        reads,
-        out,
-    );
-    of_read(answer, place, count)
+    let w = Bounds {
+        least: TimeUnits(w1),
+        most: TimeUnits(w2),
+    };
+    let r = Bounds {
+        least: TimeUnits(r1),
+        most: TimeUnits(r2),
+    };
+    let answer = line::warp_by_lengths(wave, w, r, TimeUnits(p), cycles, reads, out);
+    crosses(answer, place, count)
 }
 
 // Pass 3, settle. Gives the reads with each unknown one made the next choice, or low once choices have run out.
@@ -144,7 +148,7 @@ pub fn siengulot_settle(
         ≡ ((result, place.new, count.new), out.new) }
 {
     let answer = line::settle(reads, choices, out);
-    of_read(answer, place, count)
+    crosses(answer, place, count)
 }
 
 // The counted receiver. Gives the n bits of a message that starts with the level in force.
@@ -164,9 +168,9 @@ pub fn siengulot_counted(
     ensures { crossing crossed_bits (counted_bits k n level reads.now out.old)
         ≡ ((result, place.new, count.new), out.new) }
 {
-    if LEVEL_MOST < level {
+    let Ok(level) = u8::try_from(level) else {
         return refuses(Refusal::Setting(0), place, count);
-    }
-    let answer = counted::count_bits(ReadCycles(k), n, level as u8, reads, out);
+    };
+    let answer = counted::count_bits(ReadCycles(k), n, level, reads, out);
     of_counted(answer, place, count)
 }

@@ -1,54 +1,23 @@
 // The log of a bay: logging an event, clearing a record, listing, on five lists and a count that C lends.
 ghost use Rattle.std.specs.Prelude.{◌≡◌};
-ghost use Rattle.bay_log.specs.Answers.{logged, cleared, listed, logged_says, cleared_says, listed_says};
-ghost use Rattle.siengulot.specs.Crossing.{crossing};
-ghost use Rattle.siengulot.specs.Logs.{logged_over, cleared_over, leaving};
+ghost use Rattle.bay_log.specs.Answers.{logged, cleared, listed, cleared_says};
+ghost use Rattle.siengulot.specs.Crossing.{crossing, numbered};
+ghost use Rattle.siengulot.specs.Logs.{cleared_over, leaving};
 
-use bay_log::{Cleared, Listed, Logged};
-use measure::{RECORD_BYTES, RECORDS};
+use crate::answers::crosses_alone;
+use bay_log::{Event, Log};
+use measure::{RECORD_BYTES, RECORDS, Refusal};
 
 // The bytes of all records' bits.
 pub const ALL_BYTES: usize = 8192;
 
-// What logging an event answers.
-fn of_logged(answer: Logged, taken: &mut usize) -> usize
-    ensures { logged_over (logged_says answer) ≡ (result, taken.new) }
-{
-    match answer {
-        Logged::At(place) => {
-            *taken = place;
-            0
-        }
-        Logged::Refused(refusal) => {
-            *taken = 0;
-            measure::number(refusal)
-        }
-    }
-}
-
 // What clearing a record answers.
-fn of_cleared(answer: Cleared) -> usize
+fn of_cleared(answer: Result<(), Refusal>) -> usize
     ensures { cleared_over (cleared_says answer) ≡ result }
 {
     match answer {
-        Cleared::Done => 0,
-        Cleared::Refused(refusal) => measure::number(refusal),
-    }
-}
-
-// What listing answers.
-fn of_listed(answer: Listed, count: &mut usize) -> usize
-    ensures { logged_over (listed_says answer) ≡ (result, count.new) }
-{
-    match answer {
-        Listed::Places(places) => {
-            *count = places;
-            0
-        }
-        Listed::Refused(refusal) => {
-            *count = 0;
-            measure::number(refusal)
-        }
+        Ok(()) => 0,
+        Err(refusal) => refusal.number(),
     }
 }
 
@@ -68,7 +37,7 @@ pub fn siengulot_log_event(
     broken_count: &mut usize,
     taken: &mut usize,
 ) -> usize
-    ensures { leaving logged_over (logged number row.now count mark
+    ensures { leaving numbered (logged number row.now count mark
         (record {
           numbers = numbers.entry.now;
           bits = bits.old;
@@ -89,19 +58,22 @@ pub fn siengulot_log_event(
           },
         ) }
 {
-    let answer = bay_log::log_event(
+    let event = Event {
         number,
-        row,
+        bits: row,
         count,
-        mark,
+        broken: mark,
+    };
+    let mut log = Log {
         numbers,
         bits,
         counts,
         broken,
         free,
         broken_count,
-    );
-    of_logged(answer, taken)
+    };
+    let answer = bay_log::log_event(event, &mut log);
+    crosses_alone(answer, taken)
 }
 
 // Clears the record at a place, and leaves a free one as it is.
@@ -136,7 +108,15 @@ pub fn siengulot_log_clear(
           },
         ) }
 {
-    let answer = bay_log::clear(place, numbers, bits, counts, broken, free, broken_count);
+    let mut log = Log {
+        numbers,
+        bits,
+        counts,
+        broken,
+        free,
+        broken_count,
+    };
+    let answer = bay_log::clear(place, &mut log);
     of_cleared(answer)
 }
 
@@ -148,9 +128,9 @@ pub fn siengulot_log_list(
     places: &mut [usize],
     count: &mut usize,
 ) -> usize
-    ensures { crossing logged_over (listed numbers.now free.now places.old)
+    ensures { crossing numbered (listed numbers.now free.now places.old)
         ≡ ((result, count.new), places.new) }
 {
     let answer = bay_log::list(numbers, free, places);
-    of_listed(answer, count)
+    crosses_alone(answer, count)
 }

@@ -1,27 +1,12 @@
 // Picking: the best sampling count for given settings.
 ghost use Rattle.std.specs.Prelude.{◌≡◌};
 ghost use Rattle.settings.specs.Margins.{ends, steady};
-ghost use Rattle.settings.specs.Pick.{picked_says};
-ghost use Rattle.siengulot.specs.Picking.{picked_over, PickCrosses};
+ghost use Rattle.siengulot.specs.Picking.{PickCrosses};
 
-use measure::{TimeUnits, WriterCycles};
-use settings::Picked;
-
-// What the pickers answer.
-fn of_picked(answer: Picked, k: &mut usize) -> usize
-    ensures { picked_over (picked_says answer) ≡ (result, k.new) }
-{
-    match answer {
-        Picked::K(best) => {
-            *k = best.0;
-            0
-        }
-        Picked::Refused(refusal) => {
-            *k = 0;
-            measure::number(refusal)
-        }
-    }
-}
+use crate::answers::crosses_alone;
+use crate::judging::{clocks, pair};
+use measure::TimeUnits;
+use settings::Clocks;
 
 // The picker, for steady clocks. Gives in `k` the sampling count whose least margin among M1, M2 and M3 is the
 // greatest, of equals the smallest. Refuses with 1 a setting out of range, and with 9 settings for which no k from 1 to
@@ -29,14 +14,9 @@ fn of_picked(answer: Picked, k: &mut usize) -> usize
 pub fn siengulot_pick(a: usize, b: usize, g: usize, w: usize, r: usize, k: &mut usize) -> usize
     ensures { PickCrosses a b g (steady w r) result k.new }
 {
-    let answer = settings::pick(
-        WriterCycles(a),
-        WriterCycles(b),
-        WriterCycles(g),
-        TimeUnits(w),
-        TimeUnits(r),
-    );
-    of_picked(answer, k)
+    let pair = pair(a, b, g);
+    let answer = settings::pick(pair, Clocks::steady(TimeUnits(w), TimeUnits(r)));
+    crosses_alone(answer, k)
 }
 
 // The picker over the ends of two clocks. Gives in `k` the sampling count whose least margin among M1, M2 and M3, each
@@ -55,14 +35,8 @@ pub fn siengulot_pick_ends(
 ) -> usize
     ensures { PickCrosses a b g (ends w1 w2 r1 r2) result k.new }
 {
-    let answer = settings::pick_ends(
-        WriterCycles(a),
-        WriterCycles(b),
-        WriterCycles(g),
-        TimeUnits(w1),
-        TimeUnits(w2),
-        TimeUnits(r1),
-        TimeUnits(r2),
-    );
-    of_picked(answer, k)
+    let pair = pair(a, b, g);
+    let clocks = clocks(w1, w2, r1, r2);
+    let answer = settings::pick(pair, clocks);
+    crosses_alone(answer, k)
 }

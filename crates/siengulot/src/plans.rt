@@ -4,25 +4,28 @@ ghost use Rattle.stored.specs.Answers.{read_plan, joined_says};
 ghost use Rattle.siengulot.specs.Crossing.{crossing};
 ghost use Rattle.siengulot.specs.StoredPlans.{joined_over};
 
-use stored::Joined;
+use crate::answers::{gives, refuses};
+use measure::Refusal;
+use stored::Plan;
 
 // What reading a stored plan answers: beside the number of rows, the cycles dropped.
-fn of_joined(answer: Joined, place: &mut usize, count: &mut usize, dropped: &mut usize) -> usize
+fn of_joined(
+    answer: Result<Plan, Refusal>,
+    place: &mut usize,
+    count: &mut usize,
+    dropped: &mut usize,
+) -> usize
     ensures { joined_over (joined_says answer)
         ≡ (result, place.new, count.new, dropped.new) }
 {
     match answer {
-        Joined::Plan(rows, cycles) => {
-            *place = 0;
-            *count = rows;
-            *dropped = cycles.0;
-            0
+        Ok(plan) => {
+            *dropped = plan.dropped.0;
+            gives(plan.rows, place, count)
         }
-        Joined::Refused(refusal) => {
-            *place = measure::place(refusal);
-            *count = 0;
+        Err(refusal) => {
             *dropped = 0;
-            measure::number(refusal)
+            refuses(refusal, place, count)
         }
     }
 }

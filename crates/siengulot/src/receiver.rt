@@ -6,11 +6,11 @@ ghost use Rattle.siengulot.specs.Receivers.{handed, no_receiver, stepped_lent, l
 ghost use Rattle.siengulot.specs.Receivers.{begun_lent};
 
 use crate::answers::flag;
-use crate::state::{NUMBERS, bare_lent, numbers_fit, put_back};
-use board::{Bare, Event, Receiver, Start};
-use measure::{ReadCycles, Refusal};
+use crate::state::{NUMBERS, bare_lent, put_back};
+use board::{Bare, Event, Receiver};
+use measure::{ReadCycles, Refusal, RowSettings};
 
-// The numbers of the events.
+// The numbers of the events: `enum siengulot_event` of the header.
 const NOTHING: usize = 0;
 
 const ROW: usize = 1;
@@ -21,14 +21,14 @@ const BROKEN: usize = 2;
 // leaves the numbers as they are lent.
 fn hand_over(
     next: Bare,
-    came: Event,
+    came: Result<Option<Event>, Refusal>,
     numbers: &mut [usize; NUMBERS],
     event: &mut usize,
     found: &mut usize,
     place: &mut usize,
 ) -> usize
     ensures { (bits row : List ℕ)
-        → handed numbers.old (whole next bits) (event_says next.n row came)
+        → handed numbers.old (whole next bits) (event_says next.settings.n row came)
         ≡ (
           record { number = result; place = place.new; event = event.new; found = found.new },
           numbers.new,
@@ -38,24 +38,24 @@ fn hand_over(
     *found = 0;
     *place = 0;
     match came {
-        Event::Nothing => {
+        Ok(None) => {
             put_back(next, numbers);
             0
         }
-        Event::Row => {
+        Ok(Some(Event::Row)) => {
             put_back(next, numbers);
             *event = ROW;
             0
         }
-        Event::Broken(dropped) => {
+        Ok(Some(Event::Broken(dropped))) => {
             put_back(next, numbers);
             *event = BROKEN;
             *found = dropped;
             0
         }
-        Event::Refused(refusal) => {
-            *place = measure::place(refusal);
-            measure::number(refusal)
+        Err(refusal) => {
+            *place = refusal.place();
+            refusal.number()
         }
     }
 }
@@ -68,7 +68,7 @@ fn no_receiver(event: &mut usize, found: &mut usize, place: &mut usize) -> usize
     *event = NOTHING;
     *found = 0;
     *place = 0;
-    measure::number(Refusal::Setting(0))
+    Refusal::Setting(0).number()
 }
 
 // Starts a receiver: hunting, run 0, no bits, in the lent numbers and bytes.
@@ -82,15 +82,18 @@ pub fn siengulot_fresh(
 ) -> usize
     ensures { begun_lent (begun k n q) ≡ (result, numbers.new, bytes.new) }
 {
-    let started = Receiver::fresh(ReadCycles(k), n, ReadCycles(q));
-    let next = started.receiver;
-    let start = started.start;
-    put_back(next.bare(), numbers);
-    let bits = next.bits;
+    let settings = RowSettings {
+        k: ReadCycles(k),
+        n,
+        q: ReadCycles(q),
+    };
+    let started = Receiver::fresh(settings);
+    put_back(started.receiver.bare, numbers);
+    let bits = started.receiver.bits;
     *bytes = bits;
-    match start {
-        Start::Fresh => 0,
-        Start::Refused(refusal) => measure::number(refusal),
+    match started.start {
+        Ok(()) => 0,
+        Err(refusal) => refusal.number(),
     }
 }
 
@@ -98,10 +101,9 @@ pub fn siengulot_fresh(
 pub fn siengulot_well_formed(numbers: &[usize; NUMBERS], bytes: &[u8; 128]) -> usize
     ensures { well_formed_lent numbers.now bytes.now ≡ result }
 {
-    if !numbers_fit(numbers) {
+    let Some(bare) = bare_lent(numbers) else {
         return 0;
-    }
-    let bare = bare_lent(numbers);
+    };
     flag(bare.well_formed(bytes))
 }
 
@@ -125,14 +127,11 @@ pub fn siengulot_step(
           record { numbers = numbers.exit.now; bytes = bytes.new; row = row.new },
         ) }
 {
-    if !numbers_fit(numbers) {
+    let Some(bare) = bare_lent(numbers) else {
         return no_receiver(event, found, place);
-    }
-    let bare = bare_lent(numbers);
+    };
     let told = bare.step(read, bytes, row);
-    let next = told.bare;
-    let came = told.event;
-    hand_over(next, came, numbers, event, found, place)
+    hand_over(told.bare, told.event, numbers, event, found, place)
 }
 
 // Gives a receiver reads up to and with the first that brings an event, or all: `event`, `row` and `found` as above,
@@ -160,14 +159,11 @@ pub fn siengulot_listen(
           used.new,
         ) }
 {
-    if !numbers_fit(numbers) {
+    let Some(bare) = bare_lent(numbers) else {
         *used = 0;
         return no_receiver(event, found, place);
-    }
-    let bare = bare_lent(numbers);
+    };
     let told = bare.listen(reads, bytes, row);
     *used = told.used.0;
-    let next = told.bare;
-    let came = told.event;
-    hand_over(next, came, numbers, event, found, place)
+    hand_over(told.bare, told.event, numbers, event, found, place)
 }

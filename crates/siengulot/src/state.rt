@@ -1,10 +1,10 @@
 // A receiver's numbers as C lends them, each at a place of its own. Its bits stay where they are lent.
-ghost use Rattle.std.specs.Prelude.{◌≡◌, true, List, ℕ};
+ghost use Rattle.std.specs.Prelude.{◌≡◌, true, false, List, [], ℕ, ◌≤◌, ◌<◌, MatchOption};
 ghost use Rattle.board.specs.Packed.{whole};
-ghost use Rattle.siengulot.specs.Receivers.{mode_number, mode_of, named, numbers_of, numbers_fit, receiver_lent};
+ghost use Rattle.siengulot.specs.Receivers.{mode_of, named, numbers_of, numbers_fit, receiver_lent};
 
-use board::{Bare, Mode};
-use measure::ReadCycles;
+use board::{Bare, Mode, Numbers};
+use measure::{ReadCycles, RowSettings};
 
 // Where each number stands: `enum siengulot_number` of the header.
 const K: usize = 0;
@@ -28,96 +28,67 @@ const FOUND: usize = 8;
 // How many numbers there are.
 pub const NUMBERS: usize = 9;
 
-// The greatest number of a mode, and the greatest byte.
-const MODE_MOST: usize = 3;
-
-const BYTE_MOST: usize = 255;
-
-// The order of the numbers is that of the modes' names in the rules.
-fn mode_number(mode: Mode) -> usize
-    ensures { mode_number mode ≡ result }
+// Gives the mode that a number names, if it does.
+fn mode_of(number: usize) -> Option<Mode>
+    ensures { MatchOption result (3 < number) (λ mode. (number ≤ 3) × (mode_of number ≡ mode)) }
 {
-    match mode {
-        Mode::Hunting => 0,
-        Mode::Ready => 1,
-        Mode::Counting => 2,
-        Mode::Waiting => 3,
+    match number {
+        0 => Some(Mode::Hunting),
+        1 => Some(Mode::Ready),
+        2 => Some(Mode::Counting),
+        3 => Some(Mode::Waiting),
+        _ => None,
     }
 }
 
-// A number above 3 never comes here: `numbers_fit` comes first.
-fn mode_of(number: usize) -> Mode
-    ensures { mode_of number ≡ result }
+// Gives the byte that a number is, if it is one.
+fn byte(number: usize) -> Option<u8>
+    ensures { MatchOption result (255 < number) (λ byte. (number ≤ 255) × (byte ≡ number)) }
 {
-    if number == 0 {
-        return Mode::Hunting;
-    }
-    if number == 1 {
-        return Mode::Ready;
-    }
-    if number == 2 {
-        return Mode::Counting;
-    }
-    Mode::Waiting
+    u8::try_from(number).ok()
 }
 
-// Tells whether numbers make a receiver.
-pub fn numbers_fit(numbers: &[usize; NUMBERS]) -> bool
-    ensures { result ≡ numbers_fit (named numbers.now) }
+// Gives the receiver that numbers make, without its bits, where they make one.
+pub fn bare_lent(numbers: &[usize; NUMBERS]) -> Option<Bare>
+    ensures { MatchOption result (numbers_fit (named numbers.now) ≡ false)
+        (λ bare. (numbers_fit (named numbers.now) ≡ true)
+        × ((bits : List ℕ) → receiver_lent (named numbers.now) bits ≡ whole bare bits)) }
 {
-    if MODE_MOST < numbers[MODE] {
-        return false;
-    }
-    if BYTE_MOST < numbers[RUN_LEVEL] {
-        return false;
-    }
-    numbers[LEVEL] <= BYTE_MOST
-}
-
-// Gives the receiver that numbers make, without its bits.
-pub fn bare_lent(numbers: &[usize; NUMBERS]) -> Bare
-    requires { numbers_fit (named numbers.now) ≡ true }
-    ensures { (bits : List ℕ) → receiver_lent (named numbers.now) bits ≡ whole result bits }
-{
-    let k = numbers[K];
-    let n = numbers[N];
-    let q = numbers[Q];
-    let mode = mode_of(numbers[MODE]);
-    let run = numbers[RUN];
-    let runlevel = numbers[RUN_LEVEL] as u8;
-    let left = numbers[LEFT];
-    let level = numbers[LEVEL] as u8;
-    let found = numbers[FOUND];
-    Bare {
-        k: ReadCycles(k),
-        n: n,
-        q: ReadCycles(q),
-        mode: mode,
-        run: ReadCycles(run),
-        runlevel: runlevel,
-        left: ReadCycles(left),
-        level: level,
-        found: found,
-    }
+    let mode = mode_of(numbers[MODE])?;
+    let runlevel = byte(numbers[RUN_LEVEL])?;
+    let level = byte(numbers[LEVEL])?;
+    Some(Bare {
+        settings: RowSettings {
+            k: ReadCycles(numbers[K]),
+            n: numbers[N],
+            q: ReadCycles(numbers[Q]),
+        },
+        numbers: Numbers {
+            mode,
+            run: ReadCycles(numbers[RUN]),
+            runlevel,
+            left: ReadCycles(numbers[LEFT]),
+            level,
+            found: numbers[FOUND],
+        },
+    })
 }
 
 // Puts a receiver's numbers back where they are lent, in their order.
 pub fn put_back(next: Bare, numbers: &mut [usize; NUMBERS])
-    ensures { (bits : List ℕ) → numbers_of (whole next bits) ≡ numbers.new }
+    ensures { numbers_of (whole next []) ≡ numbers.new }
 {
-    let held = next.mode;
-    let mode = mode_number(held);
-    let runlevel = next.runlevel as usize;
-    let level = next.level as usize;
+    let settings = next.settings;
+    let kept = next.numbers;
     *numbers = [
-        next.k.0,
-        next.n,
-        next.q.0,
-        mode,
-        next.run.0,
-        runlevel,
-        next.left.0,
-        level,
-        next.found,
+        settings.k.0,
+        settings.n,
+        settings.q.0,
+        kept.mode.number(),
+        kept.run.0,
+        usize::from(kept.runlevel),
+        kept.left.0,
+        usize::from(kept.level),
+        kept.found,
     ];
 }

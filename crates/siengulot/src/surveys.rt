@@ -1,13 +1,13 @@
 // The survey of a region: its numbers, and its lines.
 ghost use Rattle.std.specs.Prelude.{◌≡◌, [], ◌∷◌, length};
 ghost use Rattle.settings.specs.Survey.{region, surveyed, surveyed_says};
-ghost use Rattle.region.specs.Answers.{survey_lines, put_says};
+ghost use Rattle.region.specs.Answers.{survey_lines};
 ghost use Rattle.siengulot.specs.Crossing.{crossed, crossing};
 ghost use Rattle.siengulot.specs.Surveys.{surveyed_over};
 
-use crate::answers::{gives, refuses};
-use region::Put;
-use settings::{Figures, Surveyed};
+use crate::answers::{crosses, gives, refuses};
+use measure::Refusal;
+use settings::Figures;
 
 // Gives the smallest margins one after another, and their places.
 fn give_smallest(f: Figures, margins: &mut [i64; 3], places: &mut [usize; 3])
@@ -23,7 +23,7 @@ fn give_smallest(f: Figures, margins: &mut [i64; 3], places: &mut [usize; 3])
 
 // What the survey answers.
 fn of_surveyed(
-    answer: Surveyed,
+    answer: Result<Option<Figures>, Refusal>,
     boards: usize,
     margins: &mut [i64; 3],
     places: &mut [usize; 3],
@@ -39,35 +39,19 @@ fn of_surveyed(
         ) }
 {
     match answer {
-        Surveyed::NoBoards => {
+        Ok(None) => {
             *accepted = 0;
-            *place = 0;
-            *count = 0;
-            0
+            gives(0, place, count)
         }
-        Surveyed::Boards(f) => {
+        Ok(Some(f)) => {
             give_smallest(f, margins, places);
             *accepted = f.accepted;
-            *place = 0;
-            *count = boards;
-            0
+            gives(boards, place, count)
         }
-        Surveyed::Refused(refusal) => {
+        Err(refusal) => {
             *accepted = 0;
-            *place = measure::place(refusal);
-            *count = 0;
-            measure::number(refusal)
+            refuses(refusal, place, count)
         }
-    }
-}
-
-// What the survey's lines answer.
-fn of_put(answer: Put, place: &mut usize, count: &mut usize) -> usize
-    ensures { crossed (put_says answer) ≡ (result, place.new, count.new) }
-{
-    match answer {
-        Put::Lines(bytes) => gives(bytes, place, count),
-        Put::Refused(refusal) => refuses(refusal, place, count),
     }
 }
 
@@ -121,6 +105,6 @@ pub fn siengulot_survey_lines(
         k.now w.now r.now) out.old)
         ≡ ((result, place.new, count.new), out.new) }
 {
-    let answer = region::survey_lines(a, b, g, k, w, r, out);
-    of_put(answer, place, count)
+    let lines = region::survey_lines(a, b, g, k, w, r, out);
+    crosses(lines, place, count)
 }

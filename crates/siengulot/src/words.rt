@@ -1,31 +1,10 @@
 // Words of half cells, for a shifter: bytes to words, and back. Each result stands at the front of the lent output,
 // `count` is its length, and the rest of the output is untouched.
 ghost use Rattle.std.specs.Prelude.{◌≡◌};
-ghost use Rattle.halfcells.specs.Answers.{encoded, decoded, encoded_says, decoded_says};
+ghost use Rattle.halfcells.specs.Answers.{encoded, decoded};
 ghost use Rattle.siengulot.specs.Crossing.{crossed, crossing};
 
-use crate::answers::{gives, refuses};
-use halfcells::{Decoded, Encoded};
-
-// What encoding answers.
-fn of_encoded(answer: Encoded, place: &mut usize, count: &mut usize) -> usize
-    ensures { crossed (encoded_says answer) ≡ (result, place.new, count.new) }
-{
-    match answer {
-        Encoded::Words(words) => gives(words, place, count),
-        Encoded::Refused(refusal) => refuses(refusal, place, count),
-    }
-}
-
-// What decoding answers.
-fn of_decoded(answer: Decoded, place: &mut usize, count: &mut usize) -> usize
-    ensures { crossed (decoded_says answer) ≡ (result, place.new, count.new) }
-{
-    match answer {
-        Decoded::Bytes(bytes) => gives(bytes, place, count),
-        Decoded::Refused(refusal) => refuses(refusal, place, count),
-    }
-}
+use crate::answers::crosses;
 
 // Encodes a message. Gives a word of half cells for each byte.
 // Refuses with 3 (more than 128 bytes), 4: the output is left, and `count` is 0.
@@ -38,8 +17,8 @@ pub fn siengulot_encode(
     ensures { crossing crossed (encoded bytes.now out.old)
         ≡ ((result, place.new, count.new), out.new) }
 {
-    let answer = halfcells::encode(bytes, out);
-    of_encoded(answer, place, count)
+    let encoded = halfcells::encode(bytes, out);
+    crosses(encoded, place, count)
 }
 
 // Decodes words of half cells. Gives a byte for each word.
@@ -54,6 +33,6 @@ pub fn siengulot_decode(
     ensures { crossing crossed (decoded words.now out.old)
         ≡ ((result, place.new, count.new), out.new) }
 {
-    let answer = halfcells::decode(words, out);
-    of_decoded(answer, place, count)
+    let decoded = halfcells::decode(words, out);
+    crosses(decoded, place, count)
 }

@@ -1,5 +1,5 @@
-// The exports of the static library for C. Each calls the library's function of the same name, where it is described, and states its clauses
-// again. `include/siengulot.h` declares them.
+// The exports of the static library for C. Each calls the library's function of the same name, where it is described,
+// and states its clauses again. `include/siengulot.h` declares them.
 #![tactic(auto)]
 
 ghost use Rattle.bay_log.specs.Answers.{cleared, listed, logged};
@@ -13,8 +13,9 @@ ghost use Rattle.sender.specs.Answers.{sent_message, sent_plan};
 ghost use Rattle.settings.specs.Answers.{judgement, quiet_judgement};
 ghost use Rattle.settings.specs.Margins.{ends, steady};
 ghost use Rattle.settings.specs.Survey.{region, surveyed};
-ghost use Rattle.siengulot.specs.Crossing.{crossed, crossed_bits, crossing, judged_five, judged_three, summed};
-ghost use Rattle.siengulot.specs.Logs.{cleared_over, leaving, logged_over};
+ghost use Rattle.siengulot.specs.Crossing.{crossed, crossed_bits, crossing, judged_five, judged_three, numbered};
+ghost use Rattle.siengulot.specs.Crossing.{summed};
+ghost use Rattle.siengulot.specs.Logs.{cleared_over, leaving};
 ghost use Rattle.siengulot.specs.Picking.{PickCrosses};
 ghost use Rattle.siengulot.specs.Receivers.{begun_lent, listened_lent, stepped_lent, well_formed_lent};
 ghost use Rattle.siengulot.specs.StoredPlans.{joined_over};
@@ -483,7 +484,7 @@ pub extern "C" fn siengulot_log_event(
     broken_count: &mut usize,
     taken: &mut usize,
 ) -> usize
-    ensures { leaving logged_over (logged number row.now count mark
+    ensures { leaving numbered (logged number row.now count mark
         (record {
           numbers = numbers.entry.now;
           bits = bits.old;
@@ -560,7 +561,7 @@ pub extern "C" fn siengulot_log_list(
     places: &mut [usize],
     count: &mut usize,
 ) -> usize
-    ensures { crossing logged_over (listed numbers.now free.now places.old)
+    ensures { crossing numbered (listed numbers.now free.now places.old)
         ≡ ((result, count.new), places.new) }
 {
     siengulot::siengulot_log_list(numbers, free, places, count)

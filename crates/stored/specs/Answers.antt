@@ -1,14 +1,14 @@
 -- Rules S and R: what reading a stored plan answers and leaves in the lent output, for all input, and what each case of
 -- the code says.
-use Rattle.std.specs.Prelude.{ℕ, Bool, ◌&&◌, List, length, leb, ltb, eqb}
+use Rattle.std.specs.Prelude.{ℕ, Bool, ◌&&◌, List, length, leb, ltb, eqb, Result}
 use Rattle.measure.specs.Choose.{choose}
 use Rattle.measure.specs.Ranges.{pad_most, rows_most}
 use Rattle.measure.specs.Lists.{first_above, some_above, onto}
-use Rattle.measure.specs.Refusals.{Answer, given, refused, denied, ranged, limited}
+use Rattle.measure.specs.Refusals.{Answer, given, refused, says, ranged, limited}
 use Rattle.sender.specs.Answers.{padded}
 use Rattle.stored.specs.Stored.{joined, dropped}
-use Rattle.stored.specs.declared.Joined.{Joined}
-use Rattle.stored.specs.declared.Joined.TheVariants.{Plan, Refused}
+use Rattle.stored.specs.declared.Plan.{Plan}
+use Rattle.measure.specs.declared.Refusal.{Refusal}
 
 -- S34: a stored plan has a row, a trail pad for each lead pad, and no pad that is out of range
 abbrev pub stored_in_range : (leads trails : List ℕ) → Bool
@@ -30,7 +30,10 @@ read_plan leads trails output =
     (choose (ltb (length output) (length leads)) (refused 4 0, output)
     (given (record { rows = length leads; dropped = dropped trails }), onto (joined leads trails) output))))
 
+-- A8: what is told of a plan that was read
+abbrev pub told : Plan → Told
+told plan = record { rows = plan.rows; dropped = plan.dropped.0 }
+
 -- A8: what each case of the code's answer says
-abbrev pub joined_says : Joined → Answer Told
-joined_says (Plan rows cycles) = given (record { rows = rows; dropped = cycles.0 })
-joined_says (Refused refusal) = denied refusal
+abbrev pub joined_says : Result Plan Refusal → Answer Told
+joined_says answer = says told answer

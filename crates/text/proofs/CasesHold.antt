@@ -1,5 +1,5 @@
 -- The definitions compute to the bytes that are printed.
-use mathlib.Core.Path.{refl}
+use Rattle.std.proofs.Common.{refl}
 use Rattle.measure.specs.Table.{Agree}
 use Rattle.text.specs.Decimal.{decimal_in}
 use Rattle.text.specs.Cases.{cases}

@@ -1,14 +1,10 @@
 -- A number in decimal: its one digit below ten, and otherwise the digits of its tenth before its last. So its digits
 -- can be counted, and stored from the last, one at a time.
-use mathlib.Core.Path.{◌≡◌, refl, sym, ap, ◌∙◌}
-use mathlib.Core.List.{List, [], ◌∷◌, ◌++◌}
-use Prim.Native.Nat.{ℕ, zero, suc, ◌+◌, ◌-◌, ◌/◌, ◌%◌, ◌^◌, ◌<◌, ◌≤◌}
-use native.Mathlib.Nat.{add-zero, add-suc, suc-add, pow-succ'}
+use Rattle.std.proofs.Common.{take, drop, drop_at, append-nil, append_assoc, length-take-le, ◌≡◌, refl, sym, ap, subst, ◌∙◌, List, [], ◌∷◌, ◌++◌, ℕ, zero, suc, ◌+◌, ◌-◌, ◌/◌, ◌%◌, ◌^◌, ◌<◌, ◌≤◌, add-zero, add-suc, suc-add, arith, length, length-append, length-set, set, drop_of_length-le, lt-ltb, le-ltb}
+use Rattle.std.proofs.lemmas.List.Edits.{sets, sets-eq}
+use Rattle.std.proofs.Math.Seq.{set_comm}
+use native.Mathlib.Nat.{pow-succ'}
 use native.Mathlib.Decide.{dec_le}
-use native.Mathlib.Omega.{arith}
-use lib.ListN.{length, length-append, length-set, set}
-use lib.Seq.{sets, set_comm}
-use borrow.Author.Tests.{lt-ltb, le-ltb}
 use Rattle.text.specs.Decimal.{digit, decimal_in, digits_most, decimal}
 
 decimal_one : (digits n : ℕ) → 1 ≤ digits → n < 10 → decimal_in digits n ≡ digit n ∷ []
@@ -64,31 +60,6 @@ fewer_one (suc (suc digits)) left q h = record {
   is = decimal_more (suc digits) left h;
 }
 
--- digits that are counted: so many, and those of what is left
-pub record Counted (n left size : ℕ) : Type 0 where
-  pub digits : ℕ
-  pub rest : Left digits left
-  pub few : size + digits ≡ digits_most + 1
-  pub whole : size + length (decimal_in digits left) ≡ length (decimal n) + 1
-
-pub counted_none : (n : ℕ) → n < 2 ^ 64 → Counted n n 1
-counted_none n h = record { digits = digits_most; rest = left_all n h; few = omega arith; whole = omega arith }
-
-module _ {n left size : ℕ} (q : Counted n left size) where
-  pub counted_one : 10 ≤ left → Counted n (left / 10) (size + 1)
-  counted_one h =
-      let f = fewer_one q.digits left q.rest h in
-      let others = decimal_in f.fewer (left / 10) in
-      record {
-        digits = f.fewer;
-        rest = f.rest;
-        few = omega (arith, q.few, f.one_more);
-        whole = omega (arith, q.whole, ap length f.is, length-append others (digit (left % 10) ∷ []));
-      }
-
-  pub counted_all : left < 10 → size ≡ length (decimal n)
-  counted_all h = omega (arith, q.whole, ap length (decimal_one q.digits left q.rest.some h))
-
 -- a last entry stored first
 sets_last : (output entries : List ℕ) (at v : ℕ)
     → sets (set output (at + length entries) v) at entries ≡ sets output at (entries ++ v ∷ [])
@@ -96,6 +67,15 @@ sets_last output [] at v = rw add-zero
 sets_last output (x ∷ entries) at v =
     rw (add-suc, ← suc-add, set_comm output (suc at + length entries) at v x (λ e. omega arith))
     (sets_last (set output at x) entries (suc at) v)
+
+-- a piece that is stored up to the end of a list
+stored_to_end : (output piece : List ℕ) (at : ℕ) → at + length piece ≡ length output
+    → drop at (sets output at piece) ≡ piece
+stored_to_end output piece at h =
+    let front : length (take at output) ≡ at = length-take-le at output (omega arith) in
+    rw (sets-eq piece output at (omega arith), append_assoc (take at output) piece (drop (at + length piece) output))
+    (drop_at (take at output) (piece ++ drop (at + length piece) output) at front
+    ∙ rw (drop_of_length-le output {i = at + length piece} (omega arith), append-nil piece))
 
 -- digits that are stored from the last on: what is left has its own still to come, up to a place
 pub record Storing (output : List ℕ) (at n : ℕ) (stored : List ℕ) (left to : ℕ) : Type 0 where
@@ -148,3 +128,18 @@ module _ {output : List ℕ} {at n : ℕ} {stored : List ℕ} {left to : ℕ} (q
 
   pub storing_all : left < 10 → set stored at (digit left) ≡ sets output at (decimal n)
   storing_all h = ap (sets stored at) (sym (decimal_one q.digits left q.rest.some h)) ∙ q.whole
+
+  -- up to the end of a list, they are its text from there on
+  pub storing_text : left < 10 → at + length (decimal n) ≡ length output
+      → drop (to - 1) (set stored (to - 1) (digit left)) ≡ decimal n
+  storing_text h room =
+      let place : to - 1 ≡ at = omega (arith, storing_end h) in
+      rw (place, storing_all h) (stored_to_end output (decimal n) at room)
+
+-- a list that has room for the longest number and a sign: the digits stand at its end
+pub storing_from_end : (output : List ℕ) (n : ℕ) → n < 2 ^ 64
+    → Storing output (21 - length (decimal n)) n output n 21
+storing_from_end output n h =
+    let end : 21 - length (decimal n) + length (decimal n) ≡ 21 = omega (arith, decimal_most n) in
+    subst (λ (to : ℕ). Storing output (21 - length (decimal n)) n output n to) end
+    (storing_none output (21 - length (decimal n)) n h)

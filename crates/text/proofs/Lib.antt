@@ -1,4 +1,3 @@
 pub mod CasesHold
 pub mod Digits
 pub mod PutLaws
-pub mod Signs

@@ -1,20 +1,16 @@
 -- A piece that has room is stored, and the place after it given; so a line is put piece by piece, each where the one
 -- before it ends, and stands whole at the front of the output.
-use mathlib.Core.Path.{◌≡◌, sym, ap, subst, ◌∙◌}
-use mathlib.Core.Bool.{true, false}
-use mathlib.Core.List.{List, [], ◌++◌, append_assoc, append-nil}
-use Prim.Native.Nat.{ℕ, ◌+◌, ◌≤◌, ◌<◌}
-use native.Mathlib.Numerals.{add-one}
-use native.Mathlib.Omega.{arith}
-use borrow.Author.Tests.{lt-ltb, le-ltb, le-leb}
-use lib.Dec.{leb}
-use lib.ListN.{length, take, get_or, set, length-append}
-use lib.Seq.{sets, take-suc, length-take-le}
+use Rattle.std.proofs.Common.{◌-◌, refl, rules, tests, Bool, Option, Some, None, ◌≡◌, sym, ap, subst, ◌∙◌, true, false, List, [], ◌++◌, append_assoc, append-nil, ℕ, ◌+◌, ◌≤◌, ◌<◌, arith, lt-ltb, le-ltb, le-leb, leb, length, length-append, drop-drop}
+use Rattle.std.proofs.lemmas.List.Edits.{sets, sets-eq}
+use Rattle.std.proofs.Math.Seq.{length-sets}
+use borrow.Author.Tests.{lt-leb}
+use borrow.Rule.Slice.PartMut.{put_mid}
+use Rattle.measure.specs.Choose.{choose}
 use Rattle.measure.specs.Lists.{onto}
 use Rattle.measure.specs.Refusals.{given, refused, lent}
-use Rattle.measure.proofs.Laid.{laid_first, sets_more}
+use Rattle.measure.proofs.Laid.{laid_first, sets_joined}
 use Rattle.measure.proofs.Stores.{Stored, stored_none, stored_part, stored_next}
-use Rattle.text.specs.Putting.{put_at}
+use Rattle.text.specs.Putting.{put_at, end_within}
 
 module _ (piece : List ℕ) (at : ℕ) (output : List ℕ) where
   pub put_whole : leb (at + length piece) (length output) ≡ true
@@ -33,6 +29,55 @@ module _ (piece : List ℕ) (at : ℕ) (output : List ℕ) where
       let same : ◌≡◌ {A = ℕ × List ℕ} (end, left) (at + length piece, sets output at piece) =
       sym e ∙ put_whole (le-leb (at + length piece) (length output) h) in
       (ap (λ (p : ℕ × List ℕ). p.0) same, ap (λ (p : ℕ × List ℕ). p.1) same)
+
+-- a place after so many bytes that was found, and one that was not
+module _ (at size room : ℕ) where
+  pub end_found : (end : ℕ) → end_within at size room ≡ Some end → (at + size ≤ room) × (end ≡ at + size)
+  end_found end e = go (leb (at + size) room) refl e
+    where
+      go : (fits : Bool) → leb (at + size) room ≡ fits → choose fits (Some (at + size)) None ≡ Some end
+          → (at + size ≤ room) × (end ≡ at + size)
+      go true k f = (search (rules, tests), cc)
+      go false k f = let z : ◌≡◌ {A = ℕ} 0 1 = cc in absurd (omega arith)
+
+  pub end_missed : end_within at size room ≡ None → room < at + size
+  end_missed e = go (leb (at + size) room) refl e
+    where
+      go : (fits : Bool) → leb (at + size) room ≡ fits → ◌≡◌ {A = Option ℕ} (choose fits (Some (at + size)) None) None
+          → room < at + size
+      go true k f = let z : ◌≡◌ {A = ℕ} 0 1 = cc in absurd (omega arith)
+      go false k f = search (rules, tests)
+
+-- a part of the output that a piece was copied to
+pub part_put : (piece output : List ℕ) (at end : ℕ) → end_within at (length piece) (length output) ≡ Some end
+    → put_at piece at output ≡ (end, put_mid at (end - at) output piece)
+part_put piece output at end e =
+    let found = end_found at (length piece) (length output) end e in
+    let place : at + length piece ≡ end = sym found.1 in
+    let size : end - at ≡ length piece = omega (arith, found.1) in
+    put_whole piece at output (le-leb (at + length piece) (length output) found.0)
+    ∙ rw (place, size, drop-drop (length piece) at output, sets-eq piece output at found.0, append_assoc) refl
+
+pub part_short : (piece output : List ℕ) (at : ℕ) → end_within at (length piece) (length output) ≡ None
+    → put_at piece at output ≡ (at, output)
+part_short piece output at e =
+    put_short piece at output (lt-leb _ _ (end_missed at (length piece) (length output) e))
+
+-- two pieces that have room together, the second put where the first ends
+pub put_both : (one other output middle left : List ℕ) (at place end room : ℕ)
+    → end_within at (length (one ++ other)) (length output) ≡ Some room
+    → put_at one at output ≡ (place, middle) → put_at other place middle ≡ (end, left)
+    → put_at (one ++ other) at output ≡ (end, left)
+put_both one other output middle left at place end room e f g =
+    let found = end_found at (length (one ++ other)) (length output) room e in
+    let size = length-append one other in
+    let first = put_gives one at output place middle (omega (arith, found.0, size)) f in
+    let kept : length middle ≡ length output = ap length first.1 ∙ length-sets output at one in
+    let second = put_gives other place middle end left (omega (arith, found.0, size, first.0, kept)) g in
+    let place_is : at + length (one ++ other) ≡ end = omega (arith, size, first.0, second.0) in
+    let stored : sets output at (one ++ other) ≡ left =
+    sym (sets_joined output one other at) ∙ rw (← first.0, ← first.1) (sym second.1) in
+    put_whole (one ++ other) at output (le-leb _ _ found.0) ∙ cc (place_is, stored)
 
 -- of a line that has room, a piece is put, and what follows it is still to come
 module _ {output : List ℕ} {line stored : List ℕ} {at : ℕ} (room : length line ≤ length output) where
@@ -54,65 +99,33 @@ module _ {output : List ℕ} {line stored : List ℕ} {at : ℕ} (room : length 
       let laid : onto line output ≡ left = sym (laid_first line output room) ∙ sym done.whole in
       rw (le-ltb (length output) (length line) room, laid, size)
 
--- a line that has no room is refused
-line_short : (line output : List ℕ) → length output < length line → lent line output ≡ (refused 4 0, output)
-line_short line output h = rw (lt-ltb (length output) (length line) h)
-
--- Lines of one piece, of four and of five: put piece after piece they are lent whole where their lengths together have
--- room, and refused where they have none.
+-- a line of one piece
 pub put_one : (a output left : List ℕ) (end : ℕ) → length a ≤ length output → put_at a 0 output ≡ (end, left)
     → lent a output ≡ (given end, left)
 put_one a output left end room e = put_last room a left end (stored_none output 0 a) e
 
+-- a line that has no room is refused
 pub one_short : (a output : List ℕ) → length output < length a → lent a output ≡ (refused 4 0, output)
-one_short a output h = line_short a output h
+one_short a output h = rw (lt-ltb (length output) (length a) h)
 
+-- how long a line of four and of five pieces is
 module _ (a b c d output : List ℕ) where
   pub length_four : length (a ++ b ++ c ++ d) ≡ length a + length b + length c + length d
   length_four = simp length-append
-
-  pub four_short : length output < length a + length b + length c + length d
-      → lent (a ++ b ++ c ++ d) output ≡ (refused 4 0, output)
-  four_short h = line_short (a ++ b ++ c ++ d) output (omega (arith, length_four))
-
-  pub put_four : {one two three left : List ℕ} {at_one at-two at-three end : ℕ}
-      → length a + length b + length c + length d ≤ length output
-      → put_at a 0 output ≡ (at_one, one) → put_at b at_one one ≡ (at-two, two) → put_at c at-two two ≡ (at-three, three)
-      → put_at d at-three three ≡ (end, left)
-      → lent (a ++ b ++ c ++ d) output ≡ (given end, left)
-  put_four h e f g i =
-      let line : a ++ b ++ c ++ d ≡ a ++ (b ++ (c ++ d)) = simp append_assoc in
-      let room : length (a ++ (b ++ (c ++ d))) ≤ length output = omega (arith, length_four, ap length line) in
-      rw line
-      (put_last room d _ _
-      (put_next room c _ _
-      (put_next room b _ _ (put_next room a _ _ (stored_none output 0 (a ++ (b ++ (c ++ d)))) e) f) g) i)
 
 module _ (a b c d z output : List ℕ) where
   pub length_five : length (a ++ b ++ c ++ d ++ z) ≡ length a + length b + length c + length d + length z
   length_five = simp length-append
 
-  pub five_short : length output < length a + length b + length c + length d + length z
-      → lent (a ++ b ++ c ++ d ++ z) output ≡ (refused 4 0, output)
-  five_short h = line_short (a ++ b ++ c ++ d ++ z) output (omega (arith, length_five))
+-- a whole line at the front of the output
+pub line_put : (line output left : List ℕ) (end room : ℕ) → end_within 0 (length line) (length output) ≡ Some room
+    → put_at line 0 output ≡ (end, left) → lent line output ≡ (given end, left)
+line_put line output left end room e f =
+    let found = end_found 0 (length line) (length output) room e in
+    put_one line output left end (omega (arith, found.0)) f
 
-  pub put_five : {one two three four left : List ℕ} {at_one at-two at-three at-four end : ℕ}
-      → length a + length b + length c + length d + length z ≤ length output
-      → put_at a 0 output ≡ (at_one, one) → put_at b at_one one ≡ (at-two, two) → put_at c at-two two ≡ (at-three, three)
-      → put_at d at-three three ≡ (at-four, four) → put_at z at-four four ≡ (end, left)
-      → lent (a ++ b ++ c ++ d ++ z) output ≡ (given end, left)
-  put_five h e f g i j =
-      let line : a ++ b ++ c ++ d ++ z ≡ a ++ (b ++ (c ++ (d ++ z))) = simp append_assoc in
-      let room : length (a ++ (b ++ (c ++ (d ++ z)))) ≤ length output = omega (arith, length_five, ap length line) in
-      rw line
-      (put_last room z _ _
-      (put_next room d _ _
-      (put_next room c _ _
-      (put_next room b _ _ (put_next room a _ _ (stored_none output 0 (a ++ (b ++ (c ++ (d ++ z))))) e) f) g) i) j)
-
--- a list stored entry by entry from a place on: one store more, and the stores so far are the list's front
-pub stored_more : (output all : List ℕ) (at i v : ℕ) → i < length all → v ≡ get_or all i 0
-    → set (sets output at (take i all)) (at + i) v ≡ sets output at (take (i + 1) all)
-stored_more output all at i v h e =
-    let n : length (take i all) ≡ i = length-take-le i all (omega arith) in
-    sym (rw (add-one, take-suc all i 0 h, sets_more output (take i all) at (get_or all i 0), n, e))
+pub line_short_of : (line output : List ℕ) → end_within 0 (length line) (length output) ≡ None
+    → lent line output ≡ (refused 4 0, output)
+line_short_of line output e =
+    let missed = end_missed 0 (length line) (length output) e in
+    one_short line output (omega (arith, missed))

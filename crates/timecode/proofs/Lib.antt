@@ -1,7 +1,7 @@
 pub mod Numbers
 pub mod CarriedLaws
 pub mod Search
-pub mod Bits
+pub mod NumberBits
 pub mod TimeLaws
 pub mod Lists
 pub mod WrittenBack

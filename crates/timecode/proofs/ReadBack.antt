@@ -17,7 +17,7 @@ use Rattle.timecode.specs.Times.{number, part, hours, minutes, seconds, frames, 
 use Rattle.timecode.specs.Times.{bits_of, part_bits, word_of}
 use Rattle.timecode.specs.Answers.{write_time}
 use Rattle.timecode.specs.RoundTrips.{ReadWritesBack}
-use Rattle.timecode.proofs.Bits.{same_equal, word_lent}
+use Rattle.timecode.proofs.NumberBits.{same_equal, word_lent}
 
 -- bits that are read as a number are the bits of that number
 bits_back : (count from : ℕ) (word : List ℕ) → Levels word → from + count ≤ length word

@@ -9,16 +9,16 @@ use native.Mathlib.Nat.{zero-add, add-suc, suc-add}
 use native.Mathlib.Decide.{dec_le}
 use native.Mathlib.Omega.{arith}
 use lib.Dec.{T, eqb}
-use lib.ListN.{length, take, drop, get_or, replicate, length-drop, length-take, length-append, drop_of_length-le}
-use lib.ListN.{get_or-replicate, get_or-append}
-use lib.Seq.{drop-drop, drop-cons, take-suc, get_or-drop, get_or-take, length-take-le, drop-append-add, get_or-append-add}
-use borrow.Author.Tests.{lt-ltb, le-ltb, eq-eqb, ne_eqb}
+use lib.ListN.{length, take, drop, get_or, replicate, length-drop, length-take, length-append, get_or-replicate, get_or-append, drop_of_length-le}
+use lib.Seq.{drop-drop, drop-cons, take-suc, get_or-drop, length-take-le, drop-append-add, get_or-append-add, get_or-take}
+use borrow.Author.Tests.{eq-eqb, ne_eqb}
 use Rattle.measure.specs.Choose.{choose}
 use Rattle.measure.specs.Lists.{first_above}
 use Rattle.measure.specs.Levels.{Levels}
 use Rattle.measure.proofs.LevelLaws.{most_take, most_drop, most_at, most_none_some}
-use Rattle.timecode.specs.Words.{mark, same, stands, places, word_places}
-use Rattle.timecode.specs.Carried.{carried, words_from, word_then}
+use Rattle.timecode.specs.Words.{mark, same, stands, places}
+use Rattle.timecode.specs.Carried.{carried, words_from, words_by}
+use Rattle.std.specs.Prelude.{Some}
 use Rattle.timecode.proofs.CarriedLaws.{carried_last, carried_cons, carried_fifteen, same_carried, same_length}
 
 -- bits that are passed over
@@ -66,14 +66,6 @@ few_places at (bit ∷ bits) h = rw (few_stand (bit ∷ bits) h) (few_places (su
 
 pub none_left : (bits : List ℕ) (i : ℕ) → length bits < i + 80 → words_from bits i ≡ []
 none_left bits i h = few_places i (drop i bits) (rw length-drop (omega arith))
-
--- what the search comes to at its end, and at a word
-pub then_none : (bits : List ℕ) (i : ℕ) → length bits < i + 80 → words_from bits i ≡ word_then bits (length bits)
-then_none bits i h = none_left bits i h ∙ rw (le-ltb (length bits) (length bits) (omega arith))
-
-pub then_here : (bits : List ℕ) (i : ℕ) → i < length bits → stands (drop i bits) ≡ true
-    → words_from bits i ≡ word_then bits i
-then_here bits i h e = word_here bits i h e ∙ rw (lt-ltb i (length bits) h)
 
 mark_carried : carried 0 mark ≡ 16381
 unfolding carried
@@ -253,53 +245,20 @@ module _ {bits : List ℕ} {from last i : ℕ} (q : Searching bits from last i) 
           rw same_place
 
   pub searching_found : 2 * last + get_or bits i 0 ≡ 16381
-      → (from + 79 ≤ i) × (words_from bits from ≡ word_then bits (i - 79))
+      → (from + 79 ≤ i) × (words_from bits from ≡ words_by bits (Some (i - 79)))
   unfolding j
   searching_found e = go (seen_stands ∙ eq-eqb (2 * last + get_or bits i 0) 16381 e) (dec_le (from + 79) i)
     where
       go : stands (drop j (seen bits from)) ≡ true → Dec (from + 79 ≤ i)
-          → (from + 79 ≤ i) × (words_from bits from ≡ word_then bits (i - 79))
+          → (from + 79 ≤ i) × (words_from bits from ≡ words_by bits (Some (i - 79)))
       go here (yes late) =
           let place : from + (i - (from + 79)) ≡ i - 79 = omega arith in (
             late,
             q.passed ∙ ap (λ (n : ℕ). words_from bits n) place
-                ∙ then_here bits (i - 79) (omega arith) (late_stands late ∙ here),
+                ∙ word_here bits (i - 79) (omega arith) (late_stands late ∙ here),
           )
       go here (no early) =
           absurd (subst T (sym here ∙ seen_early bits from (i - (from + 64)) (omega (arith, q.begun))) tt)
-
--- A word at a place, and the end of the bits.
-pub then_one : (bits : List ℕ) (at : ℕ) → at < length bits → word_then bits at ≡ at ∷ words_from bits (at + 80)
-then_one bits at h = rw (lt-ltb at (length bits) h)
-
-pub then_end : (bits : List ℕ) (at : ℕ) → length bits ≤ at → word_then bits at ≡ []
-then_end bits at h = rw (le-ltb at (length bits) h)
-
--- The walk from word to word: n have been passed, and the next is at a place, or none is.
-pub record Walking (bits : List ℕ) (n at : ℕ) : Type 0 where
-  pub count : n + length (word_then bits at) ≡ length (word_places bits)
-  pub early : n ≤ at
-  pub whole : at < length bits → at + 80 ≤ length bits
-
-pub walking_none : (bits : List ℕ) (at : ℕ) → words_from bits 0 ≡ word_then bits at
-    → (at < length bits → at + 80 ≤ length bits) → Walking bits 0 at
-walking_none bits at e whole =
-    record { count = omega (arith, ap length e); early = omega arith; whole = whole }
-
-module _ {bits : List ℕ} {n at : ℕ} (q : Walking bits n at) where
-  pub walking_one : (next : ℕ) → at < length bits → words_from bits (at + 80) ≡ word_then bits next → at + 80 ≤ next
-      → (next < length bits → next + 80 ≤ length bits) → Walking bits (n + 1) next
-  walking_one next h e later whole = record {
-    count = omega (arith, q.count, ap length (then_one bits at h), ap length e);
-    early = omega (arith, q.early);
-    whole = whole;
-  }
-
-  pub walking_all : length bits ≤ at → n ≡ length (word_places bits)
-  walking_all h = omega (arith, q.count, ap length (then_end bits at h))
-
-  pub walking_more : at < length bits → n < length (word_places bits)
-  walking_more h = omega (arith, q.count, ap length (then_one bits at h))
 
 -- a word has 80 bits, so there is at most one for each 80
 pub few_words : (over at : ℕ) (bits : List ℕ) → over ≤ length bits
@@ -318,6 +277,36 @@ few_words zero at (bit ∷ bits) h =
         → 0 + 80 * length (choose is (at ∷ places 79 (suc at) bits) (places 0 (suc at) bits)) ≤ suc (length bits)
     go true h l = omega arith
     go false h l = omega arith
+
+-- each word at these places ends where the bits end, or before
+abbrev pub Whole : (most : ℕ) (at : List ℕ) → Type 0
+Whole most [] = Unit {0}
+Whole most (place ∷ at) = (place + 80 ≤ most) × Whole most at
+
+pub words_whole : (most over at : ℕ) (bits : List ℕ) → at + length bits ≤ most
+    → Whole most (places over at bits)
+unfolding places
+words_whole most over at [] h = tt
+words_whole most (suc over) at (bit ∷ bits) h = words_whole most over (suc at) bits (omega arith)
+words_whole most zero at (bit ∷ bits) h =
+    go (stands (bit ∷ bits)) refl (words_whole most 79 (suc at) bits (omega arith))
+    (words_whole most zero (suc at) bits (omega arith))
+  where
+    whole : stands (bit ∷ bits) ≡ true → at + 80 ≤ most
+    whole e =
+        dite (dec_le 80 (suc (length bits))) (λ enough. omega arith)
+        (λ few. absurd (subst T (sym e ∙ few_stand (bit ∷ bits) (omega arith)) tt))
+
+    go : (is : Bool) → stands (bit ∷ bits) ≡ is → Whole most (places 79 (suc at) bits)
+        → Whole most (places 0 (suc at) bits)
+        → Whole most (choose is (at ∷ places 79 (suc at) bits) (places 0 (suc at) bits))
+    go true e later others = (whole e, later)
+    go false e later others = others
+
+pub word_whole : (bits : List ℕ) (from at : ℕ) (rest : List ℕ) → from ≤ length bits → words_from bits from ≡ at ∷ rest
+    → at + 80 ≤ length bits
+word_whole bits from at rest h e =
+    (rw e at (words_whole (length bits) 0 from (drop from bits) (rw length-drop (omega arith)))).0
 
 -- The 16 bits of a mark, compared one by one: i have been, and n of them are the mark's.
 pub record Comparing (window : List ℕ) (n i : ℕ) : Type 0 where

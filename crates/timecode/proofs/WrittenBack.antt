@@ -19,7 +19,7 @@ use Rattle.timecode.specs.Times.{bits_of, part_bits, word_of}
 use Rattle.timecode.specs.Answers.{times_at, listed, read_times}
 use Rattle.timecode.specs.RoundTrips.{Time, words_of, bytes_of, WrittenReadsBack}
 use Rattle.timecode.proofs.Search.{levels_mark, places_over}
-use Rattle.timecode.proofs.Bits.{every_holds}
+use Rattle.timecode.proofs.NumberBits.{every_holds}
 use Rattle.timecode.proofs.TimeLaws.{fit_hours, fit_minutes, fit_seconds, fit_frames}
 
 -- a part in its 16 bits is the part, and its units are a digit

@@ -1,16 +1,15 @@
 -- Rules T and R: what reading and writing answer and leave in the lent output, for all input, and what each case of the
 -- code says.
-use Rattle.std.specs.Prelude.{ℕ, suc, ◌*◌, List, [], ◌∷◌, ◌++◌, length, drop, ltb}
+use Rattle.std.specs.Prelude.{ℕ, suc, ◌*◌, List, [], ◌∷◌, ◌++◌, length, drop, ltb, Result, Ok, Err}
 use Rattle.measure.specs.Choose.{choose}
 use Rattle.measure.specs.Ranges.{entries_most}
 use Rattle.measure.specs.Lists.{onto}
-use Rattle.measure.specs.Refusals.{Answer, given, refused, refused_after, denied, ranged, limited, entered, lent}
+use Rattle.measure.specs.Refusals.{Answer, given, refused, refused_after, denied, says, ranged, limited, entered, lent}
 use Rattle.timecode.specs.Words.{word_places}
 use Rattle.timecode.specs.Times.{time_of, time_fits, good_word, word_of}
-use Rattle.timecode.specs.declared.Read.{Read}
-use Rattle.timecode.specs.declared.Read.TheVariants.{Times, BadWord, Refused}
-use Rattle.timecode.specs.declared.Written.{Written}
-use Rattle.timecode.specs.declared.Written.TheVariants.{Bits, Refused as WrittenRefused}
+use Rattle.measure.specs.declared.Refusal.{Refusal}
+use Rattle.timecode.specs.declared.Stop.{Stop}
+use Rattle.timecode.specs.declared.Stop.TheVariants.{BadWord, Refused}
 
 -- T7: the times of the words at these places, up to, and without, the first bad one
 unfoldable pub times_at : (bits at : List ℕ) → List ℕ
@@ -38,16 +37,15 @@ read_times bits output =
     (listed_into bits output)))
 
 -- A8: what each case of the reader's answer says
-abbrev pub read_says : Read → Answer ℕ
-read_says (Times n) = given n
-read_says (BadWord place n) = refused_after 10 place n
-read_says (Refused refusal) = denied refusal
+abbrev pub read_says : Result ℕ Stop → Answer ℕ
+read_says (Ok words) = given words
+read_says (Err (BadWord place words)) = refused_after 10 place words
+read_says (Err (Refused refusal)) = denied refusal
 
 -- R78: refusal 1 for a time out of range, then 4
 unfoldable pub write_time : (h m s f : ℕ) (output : List ℕ) → Answer ℕ × List ℕ
 write_time h m s f output = ranged (time_fits h m s f) output (lent (word_of h m s f) output)
 
 -- A8: what each case of the writer's answer says
-abbrev pub written_says : Written → Answer ℕ
-written_says (Bits n) = given n
-written_says (WrittenRefused refusal) = denied refusal
+abbrev pub written_says : Result ℕ Refusal → Answer ℕ
+written_says answer = says (λ bits. bits) answer

@@ -1,14 +1,14 @@
--- `encode_into` meets its contract: after the eights the rest is written one by one, and then nothing is still to come.
-use mathlib.Core.Path.{◌≡◌}
-use Prim.Native.Nat.{◌≤◌, ◌-◌}
-use lib.ListN.{length}
-use Rattle.halfcells.specs.Turns.{StillTo}
+-- `encode_into` meets its contract: the words of the bytes left are still to be stored.
+use Rattle.std.proofs.Common.{◌≡◌, ◌+◌, length, drop}
+use Rattle.std.specs.Slice.Iter.{chunks_exact_rest, chunks_exact_size}
+use Rattle.measure.proofs.Stores.{Stored}
+use Rattle.halfcells.specs.HalfCells.{words_from, words_of}
 use Rattle.halfcells.proofs.encode_into.Given as goal
 
-abbrev pub invariant-loop-at : goal.invariant-loop-at
-invariant-loop-at l =
-    (l.at ≤ length l.bytes) × (length l.out ≡ length l.initial.out)
-    × StillTo l.bytes l.initial.out l.initial.at l.initial.level l.out l.at l.level
-
-abbrev pub decreases-loop-at : goal.decreases-loop-at
-decreases-loop-at l = length l.bytes - l.at
+abbrev pub invariant-loop-eight : goal.invariant-loop-eight
+invariant-loop-eight l =
+    let left = chunks_exact_rest l.eight-iterator in
+    (chunks_exact_size l.eight-iterator ≡ 8)
+    × (left ≡ drop l.at l.bytes)
+    × (l.at + length left ≡ length l.bytes)
+    × Stored l.initial.out 0 (words_of l.bytes) l.out l.at (words_from l.level left)

@@ -1,12 +1,7 @@
 -- `search` meets its contract: each cell of the words so far has an edge, and the search goes on at the level on which
 -- they end.
-use Prim.Native.Nat.{◌-◌}
-use lib.ListN.{length}
 use Rattle.halfcells.proofs.ListLaws.{Edged}
 use Rattle.halfcells.proofs.search.Given as goal
 
 abbrev pub invariant-loop-i : goal.invariant-loop-i
 invariant-loop-i l = Edged l.words l.i l.before
-
-abbrev pub decreases-loop-i : goal.decreases-loop-i
-decreases-loop-i l = length l.words - l.i

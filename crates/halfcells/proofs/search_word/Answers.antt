@@ -1,10 +1,6 @@
 -- `search_word` meets its contract: the cells left are the lowest bits of the word, twice as many as there are cells.
-use mathlib.Core.Path.{◌≡◌, sym, ◌∙◌}
-use mathlib.Core.List.{◌∷◌}
-use Prim.Native.Nat.{ℕ, suc, ◌+◌, ◌-◌, ◌*◌, ◌/◌, ◌%◌, ◌^◌, ◌≤◌, ◌<◌}
-use native.Mathlib.Numerals.{add-one}
-use native.Mathlib.Omega.{arith}
-use borrow.Author.Tests.{eq-eqb, ne_eqb}
+use Rattle.std.proofs.Common.{◌≡◌, sym, ◌∙◌, ◌∷◌, ℕ, suc, ◌+◌, ◌-◌, ◌*◌, ◌/◌, ◌%◌, ◌^◌, ◌≤◌, ◌<◌, add-one, arith}
+use Rattle.std.proofs.Common.{eq-eqb, ne_eqb}
 use Rattle.halfcells.specs.HalfCells.{bits_of, no_edge_from}
 use Rattle.halfcells.proofs.search_word.Goals as goal
 
@@ -37,29 +33,23 @@ none_left word level cell h =
     let e : 16 - 2 * cell ≡ 0 = omega arith in
     rw e
 
-pub loop-cell-init : goal.loop-cell-init
-loop-cell-init c = (omega arith, omega arith)
-
 pub returns-then-half-level : goal.returns-then-half-level
 returns-then-half-level c =
     let none =
-    here c.args.word c.loop-cell.level c.loop-cell.cell
-    c.loop-cell-test.true
-    (sym c.half.ensures ∙ c.if-half-level.true) in
-    omega (arith, none, c.loop-cell.invariant.1)
+    here c.args.word c.loop-cell.level c.loop-cell.cell (omega arith) (sym c.half.ensures ∙ c.if-half-level.true) in
+    (omega arith, omega (arith, none, c.loop-cell.invariant))
 
 pub loop-cell-preserved : goal.loop-cell-preserved
 loop-cell-preserved c =
     let next =
-    further c.args.word c.loop-cell.level c.loop-cell.cell
-    c.loop-cell-test.true
+    further c.args.word c.loop-cell.level c.loop-cell.cell (omega arith)
     (λ e. c.if-half-level.false (c.half.ensures ∙ e)) in
-    (omega arith, rw c.half-level.ensures (omega (arith, next, c.loop-cell.invariant.1)))
+    rw c.half-level.ensures (omega (arith, next, c.loop-cell.invariant))
 
 pub returns : goal.returns
 returns c =
     omega (
       arith,
-      none_left c.args.word c.loop-cell.level c.loop-cell.cell c.loop-cell-test.false,
-      c.loop-cell.invariant.1,
+      none_left c.args.word c.loop-cell.level c.loop-cell.cell (omega arith),
+      c.loop-cell.invariant,
     )

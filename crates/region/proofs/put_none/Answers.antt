@@ -1,5 +1,5 @@
 -- `put_none` meets its contract: its one piece is put. Where the output is too short, `none_short` says so.
-use native.Mathlib.Omega.{arith}
+use Rattle.std.proofs.Common.{arith}
 use Rattle.region.proofs.NoBoards.{none_put}
 use Rattle.region.proofs.put_none.Goals as goal
 

@@ -3,19 +3,19 @@ use mathlib.Core.Path.{◌≡◌, sym}
 use mathlib.Core.List.{List}
 use native.Mathlib.Omega.{arith}
 use Prim.Native.Nat.{ℕ, ◌≤◌}
+use Rattle.std.proofs.Common.{Result}
 use lib.ListN.{length, replicate, length-replicate}
 use lib.Seq.{length-take-le}
 use Rattle.measure.specs.Refusals.{given, number_of, place_of, lent}
 use Rattle.measure.specs.declared.Refusal.{Refusal}
 use Rattle.page.specs.Answers.{put_says}
-use Rattle.page.specs.declared.Put.{Put}
 use Rattle.page.specs.Lines.{refused_line}
 use Rattle.page.proofs.Longest.{refused_most}
 use Rattle.rows.proofs.Turning.{put_within}
 use Rattle.rows.proofs.print_refused.Goals as goal
 
 -- how much of it is written
-within : (refusal : Refusal) (put : Put) (out : List ℕ) (bytes : ℕ)
+within : (refusal : Refusal) (put : Result ℕ Refusal) (out : List ℕ) (bytes : ℕ)
     → lent (refused_line (number_of refusal) (place_of refusal)) (replicate 1050 0) ≡ (put_says put, out)
     → ((n : ℕ) → put_says put ≡ given n → bytes ≡ n) → length out ≡ length (replicate {A = ℕ} 1050 0)
     → bytes ≤ length out

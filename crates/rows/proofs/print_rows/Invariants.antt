@@ -5,8 +5,8 @@ use lib.ListN.{length}
 use Rattle.rows.specs.Turns.{walk_of, Ready}
 use Rattle.rows.proofs.print_rows.Given as goal
 
-abbrev pub invariant-loop-walk : goal.invariant-loop-walk
-invariant-loop-walk g l = (length l.page ≡ 16384) × Ready (walk_of l.walk) (length l.reads)
+abbrev pub invariant-loop-next : goal.invariant-loop-next
+invariant-loop-next g l = (length l.page ≡ 16384) × Ready (walk_of l.walk) (length l.reads)
 
-abbrev pub decreases-loop-walk : goal.decreases-loop-walk
-decreases-loop-walk g l = length l.reads - l.walk.place.0
+abbrev pub decreases-loop-next : goal.decreases-loop-next
+decreases-loop-next g l = length l.reads - l.walk.place.0

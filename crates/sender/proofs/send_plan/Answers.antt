@@ -1,14 +1,24 @@
 -- `send_plan` meets its contract: the tests that led to a return pick the definition's case.
-use mathlib.Core.Path.{sym, ◌∙◌}
-use native.Mathlib.Omega.{arith}
-use lib.ListN.{length}
-use borrow.Author.Tests.{lt-ltb, le-ltb}
-use Rattle.measure.specs.Ranges.{entries_most}
+use Rattle.std.proofs.Common.{◌≡◌, ◌∙◌, sym, true, List, ℕ, ◌≤◌, arith, length, lt-ltb, le-ltb}
+use Rattle.measure.specs.Refusals.{entered, lent}
+use Rattle.measure.specs.Ranges.{rows_most, entries_most}
+use Rattle.measure.proofs.Checked.{good_entries, bad_entries}
 use Rattle.sender.specs.Sending.{plan_wave, rows_of}
-use Rattle.sender.specs.Answers.{sent_plan}
-use Rattle.sender.proofs.Ranged.{plan_bounded}
+use Rattle.sender.specs.Answers.{plan_in_range, sent_plan}
 use Rattle.sender.proofs.Placed.{lent_placed, lent_short}
 use Rattle.sender.proofs.send_plan.Goals as goal
+
+-- past the tests of the settings, the rows and the cycles, the answer is that of the entries and the lent output
+judged : (a b n : ℕ) (leads bits out : List ℕ) (cycles : ℕ) → plan_in_range a b n leads bits ≡ true
+    → length leads ≤ rows_most → length (plan_wave a b (rows_of n leads bits)) ≡ cycles → cycles ≤ entries_most
+    → sent_plan a b n leads bits out ≡ entered 1 bits out (lent (plan_wave a b (rows_of n leads bits)) out)
+unfolding sent_plan
+judged a b n leads bits out cycles accepts few is most =
+    rw (
+      accepts,
+      le-ltb rows_most (length leads) few,
+      le-ltb entries_most (length (plan_wave a b (rows_of n leads bits))) (omega (arith, is)),
+    )
 
 pub returns-then-not-plan_in_range : goal.returns-then-not-plan_in_range
 unfolding sent_plan
@@ -17,75 +27,37 @@ returns-then-not-plan_in_range c = simp (sym c.plan_in_range.ensures ∙ c.if-no
 pub returns-then-leads-gt-ROWS_MOST : goal.returns-then-leads-gt-ROWS_MOST
 unfolding sent_plan
 returns-then-leads-gt-ROWS_MOST c =
-    simp (sym c.plan_in_range.ensures ∙ c.if-not-plan_in_range.false, lt-ltb _ _ c.if-leads-gt-ROWS_MOST.true)
-
-pub plan_cycles-total-requires : goal.plan_cycles-total-requires
-plan_cycles-total-requires c =
-    let ok = plan_bounded c.args.a.0 c.args.b.0 _ _ _ (sym c.plan_in_range.ensures ∙ c.if-not-plan_in_range.false) in
-    (ok.a_most, ok.b_most, ok.n_most, c.if-leads-gt-ROWS_MOST.false, ok.leads_padded)
+    simp (
+      sym c.plan_in_range.ensures ∙ c.if-not-plan_in_range.false,
+      lt-ltb _ _ c.if-leads-gt-ROWS_MOST.true,
+    )
 
 pub returns-then-total-gt-ENTRIES_MOST : goal.returns-then-total-gt-ENTRIES_MOST
 unfolding sent_plan
 returns-then-total-gt-ENTRIES_MOST c =
     let accepts = sym c.plan_in_range.ensures ∙ c.if-not-plan_in_range.false in
-    let ok = plan_bounded c.args.a.0 c.args.b.0 _ _ _ accepts in
-    let cycles = c.plan_cycles-total.ensures c.args.bits.now ok.bits_fit in
-    let plan = plan_wave c.args.a.0 c.args.b.0 (rows_of c.args.n c.args.leads.now c.args.bits.now) in
+    let plan = plan_wave c.args.cell.a.0 c.args.cell.b.0 (rows_of c.args.n c.args.leads.now c.args.bits.now) in
     simp (
       accepts,
       le-ltb _ _ c.if-leads-gt-ROWS_MOST.false,
-      lt-ltb entries_most (length plan) (omega (arith, cycles)),
+      lt-ltb entries_most (length plan) (omega (arith, c.cycles-total.ensures)),
     )
 
-pub returns-then-place-bits : goal.returns-then-place-bits
-unfolding sent_plan
-returns-then-place-bits c =
+pub returns-in_err-check_bits : goal.returns-in_err-check_bits
+returns-in_err-check_bits c =
     let accepts = sym c.plan_in_range.ensures ∙ c.if-not-plan_in_range.false in
-    let ok = plan_bounded c.args.a.0 c.args.b.0 _ _ _ accepts in
-    let cycles = c.plan_cycles-total.ensures c.args.bits.now ok.bits_fit in
-    let plan = plan_wave c.args.a.0 c.args.b.0 (rows_of c.args.n c.args.leads.now c.args.bits.now) in
-    simp (
-      accepts,
-      le-ltb _ _ c.if-leads-gt-ROWS_MOST.false,
-      le-ltb entries_most (length plan) (omega (arith, cycles)),
-      ← c.first_above-place.ensures,
-      lt-ltb _ _ c.if-place-bits.true,
-    )
+    judged _ _ _ _ _ _ _ accepts c.if-leads-gt-ROWS_MOST.false c.cycles-total.ensures c.if-total-gt-ENTRIES_MOST.false
+    ∙ bad_entries _ _ _ _ c.from_residual.result _ _ c.in_err-check_bits.ensures c.from_residual.ensures.1
 
 pub returns-then-out-total : goal.returns-then-out-total
-unfolding sent_plan
 returns-then-out-total c =
     let accepts = sym c.plan_in_range.ensures ∙ c.if-not-plan_in_range.false in
-    let ok = plan_bounded c.args.a.0 c.args.b.0 _ _ _ accepts in
-    let cycles = c.plan_cycles-total.ensures c.args.bits.now ok.bits_fit in
-    let plan = plan_wave c.args.a.0 c.args.b.0 (rows_of c.args.n c.args.leads.now c.args.bits.now) in
-    simp (
-      accepts,
-      le-ltb _ _ c.if-leads-gt-ROWS_MOST.false,
-      le-ltb entries_most (length plan) (omega (arith, cycles)),
-      ← c.first_above-place.ensures,
-      le-ltb _ _ c.if-place-bits.false,
-    )
-    (lent_short plan _ _ cycles c.if-out-total.true)
-
-pub plan_into-requires : goal.plan_into-requires
-plan_into-requires c =
-    let ok = plan_bounded c.args.a.0 c.args.b.0 _ _ _ (sym c.plan_in_range.ensures ∙ c.if-not-plan_in_range.false) in
-    let cycles = c.plan_cycles-total.ensures c.args.bits.now ok.bits_fit in
-    (ok.bits_fit, omega (arith, cycles))
+    judged _ _ _ _ _ _ _ accepts c.if-leads-gt-ROWS_MOST.false c.cycles-total.ensures c.if-total-gt-ENTRIES_MOST.false
+    ∙ rw (good_entries _ _ _ c.in_ok-check_bits.ensures) (lent_short _ _ _ c.cycles-total.ensures c.if-out-total.true)
 
 pub returns : goal.returns
-unfolding sent_plan
 returns c =
     let accepts = sym c.plan_in_range.ensures ∙ c.if-not-plan_in_range.false in
-    let ok = plan_bounded c.args.a.0 c.args.b.0 _ _ _ accepts in
-    let cycles = c.plan_cycles-total.ensures c.args.bits.now ok.bits_fit in
-    let plan = plan_wave c.args.a.0 c.args.b.0 (rows_of c.args.n c.args.leads.now c.args.bits.now) in
-    simp (
-      accepts,
-      le-ltb _ _ c.if-leads-gt-ROWS_MOST.false,
-      le-ltb entries_most (length plan) (omega (arith, cycles)),
-      ← c.first_above-place.ensures,
-      le-ltb _ _ c.if-place-bits.false,
-    )
-    (lent_placed plan _ _ _ cycles c.if-out-total.false c.plan_into.ensures)
+    judged _ _ _ _ _ _ _ accepts c.if-leads-gt-ROWS_MOST.false c.cycles-total.ensures c.if-total-gt-ENTRIES_MOST.false
+    ∙ rw (good_entries _ _ _ c.in_ok-check_bits.ensures)
+    (lent_placed _ _ _ _ c.cycles-total.ensures c.if-out-total.false c.write.ensures)

@@ -2,7 +2,7 @@
 use mathlib.Core.Path.{sym, ◌∙◌}
 use borrow.Author.Tests.{lt-ltb}
 use Rattle.timecode.specs.Answers.{write_time}
-use Rattle.timecode.proofs.Bits.{word_length, word_lent}
+use Rattle.timecode.proofs.NumberBits.{word_length, word_lent}
 use Rattle.timecode.proofs.write_time.Goals as goal
 
 pub returns-then-not-in_range : goal.returns-then-not-in_range

@@ -1,8 +1,5 @@
 -- `step` meets its contract: it takes its read on its own bits, with no row in the bytes for one.
-use Prim.Native.Nat.{ℕ}
-use mathlib.Core.Path.{sym, ◌∙◌, ap}
-use mathlib.Core.List.{List, [], ◌∷◌}
-use Rattle.board.specs.declared.Receiver.{Receiver}
+use Rattle.std.proofs.Common.{ℕ, sym, ◌∙◌, ap, List, [], ◌∷◌}
 use Rattle.board.specs.Answers.{Outcome, in_lent, listened}
 use Rattle.board.proofs.ListenedLaws.{stepped_listened}
 use Rattle.board.proofs.HeardLaws.{row_lent}
@@ -16,6 +13,4 @@ returns c =
     ∙ ap (λ (heard : Outcome × ℕ). heard.0)
     (sym (row_lent a.self one)
     ∙ ap (λ (row : List ℕ). in_lent row (listened a.self one)) c.none-row.ensures
-    ∙ ap (λ (x : Receiver). in_lent c.none-row.result (listened x one)) (sym c.bare-bare.ensures)
     ∙ c.step-told.ensures)
-    ∙ rw (← c.with_bits-receiver.ensures)

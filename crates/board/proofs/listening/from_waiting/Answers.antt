@@ -1,39 +1,33 @@
 -- `from_waiting` meets its contract: the mark that it finds is a cell's, from which counting goes on.
-use Prim.Native.Nat.{ℕ, ◌<◌, ◌≤◌}
-use mathlib.Core.Path.{◌≡◌, ◌∙◌, ap}
-use mathlib.Core.List.{List}
-use native.Mathlib.Omega.{arith}
+use Rattle.std.proofs.Common.{ℕ, ◌≡◌, ◌∙◌, ap, ◌<◌, ◌≤◌, List, arith}
 use Rattle.board.specs.declared.Mode.TheVariants.{Waiting}
 use Rattle.board.specs.declared.Receiver.{Receiver}
-use Rattle.board.specs.declared.state.Numbers.{Numbers}
-use Rattle.board.specs.declared.listening.Sought.{Sought}
+use Rattle.board.specs.declared.Numbers.{Numbers}
+use Rattle.board.specs.declared.listening.Found.{Found}
 use Rattle.board.specs.Rows.{Settings, State, waiting, marked}
-use Rattle.board.specs.Packed.{state_of}
-use Rattle.board.specs.Listening.{settings_from, keeping, Keeps, heard_from, sought_says, Seeks}
+use Rattle.board.specs.Packed.{rules_of, state_of}
+use Rattle.board.specs.Listening.{keeping, Keeps, heard_from, Sought, sought_says, Seeks}
 use Rattle.board.proofs.KeepingLaws.{run_in, bits_in, kept_valid, kept_length, kept_bytes, waiting_fits, waiting_kept}
 use Rattle.board.proofs.CellLaws.{Marked, mark_keeps, mark_heard}
 use Rattle.board.proofs.listening.from_waiting.Goals as goal
 
-module _ (k n q : ℕ) (now : Numbers) (bytes : List ℕ) (keeps : Keeps (settings_from k n q) now bytes)
-    (mode : now.mode ≡ Waiting) where
-  abbrev g : Settings
-  g = settings_from k n q
-
+module _ (g : Settings) (now : Numbers) (bytes : List ℕ) (keeps : Keeps g now bytes) (mode : now.mode ≡ Waiting) where
   -- what the search for the mark makes of the outcome
   waited : (reads : List ℕ) (sought : Sought)
-      → Seeks q now.found 0 reads (λ bits. waiting now.level (run_in now) bits)
-      (λ g bits run read. marked g (waiting now.level (run_in now) bits) run read) sought
+      → Seeks g now.found 0 reads (λ bits. waiting now.level (run_in now) bits)
+      (λ bits run read. marked g (waiting now.level (run_in now) bits) run read) sought
       → (x : Receiver)
       → heard_from x g (state_of (keeping g now bytes)) 0 reads
       ≡ sought_says x g (λ run read. marked g (waiting now.level (run_in now) (bits_in now bytes)) run read)
       (bits_in now bytes) reads sought
   waited reads sought seeks x =
       ap (λ (t : State). heard_from x g t 0 reads) (waiting_kept g now bytes keeps mode)
-      ∙ seeks.says x k n (bits_in now bytes) (kept_length g now bytes keeps)
+      ∙ seeks.says x (bits_in now bytes) (kept_length g now bytes keeps)
 
   -- the numbers at the mark
-  at_mark : (run mark : ℕ) → 1 ≤ run → run < q → mark ≤ 1 → Marked g run mark now.found (bits_in now bytes) bytes
-  at_mark run mark some below level =
+  at_mark : (mark : Found) → 1 ≤ mark.run.0 → mark.run.0 < g.Q → mark.level ≤ 1
+      → Marked g mark.run mark.level now.found (bits_in now bytes) bytes
+  at_mark mark some below level =
       record {
         range = (kept_valid g now bytes keeps).range;
         some = some;
@@ -45,32 +39,37 @@ module _ (k n q : ℕ) (now : Numbers) (bytes : List ℕ) (keeps : Keeps (settin
         same = kept_bytes g now bytes keeps;
       }
 
-pub to_mark-marked-requires : goal.to_mark-marked-requires
-to_mark-marked-requires c =
-    let a = c.args in (
-      omega arith,
-      (waiting_fits (settings_from a.k a.n a.q) a.start a.bits.now c.requires.keeps c.requires.mode_value).0,
-    )
+pub to_mark-requires-clause-room : goal.to_mark-requires-clause-room
+to_mark-requires-clause-room c =
+    let a = c.args in
+    let fits = waiting_fits (rules_of a.start.settings) a.start.numbers a.bits.now c.requires.keeps c.requires.mode_value in
+    (omega arith, fits.0, fits.1)
 
 pub from_counting-requires-clause-keeps : goal.from_counting-requires-clause-keeps
 from_counting-requires-clause-keeps c =
     let a = c.args in
-    let f = c.in-Found in
-    let lands = f.ensures.lands in
-    mark_keeps (at_mark a.k a.n a.q a.start a.bits.now c.requires.keeps c.requires.mode_value f.run' f.mark lands.2 lands.3 lands.4)
+    let g = rules_of a.start.settings in
+    let f = c.in-Continue.mark in
+    let seeks = c.in-Continue.ensures in
+    let lands = seeks.lands in
+    rw c.marked-numbers.ensures
+    (mark_keeps (at_mark g a.start.numbers a.bits.now c.requires.keeps c.requires.mode_value f lands.2 lands.3 lands.4))
 
-pub returns-in-Stopped : goal.returns-in-Stopped
-returns-in-Stopped c = λ x.
+pub returns-in-Break : goal.returns-in-Break
+returns-in-Break c = λ x.
     let a = c.args in
-    waited a.k a.n a.q a.start a.bits.now c.requires.keeps c.requires.mode_value a.reads.now _ c.in-Stopped.ensures x
-    ∙ rw (kept_bytes (settings_from a.k a.n a.q) a.start a.bits.now c.requires.keeps)
+    let g = rules_of a.start.settings in
+    let seeks = c.in-Break.ensures in
+    waited g a.start.numbers a.bits.now c.requires.keeps c.requires.mode_value a.reads.now _ seeks x
+    ∙ rw (kept_bytes g a.start.numbers a.bits.now c.requires.keeps)
 
-pub returns-in-Found : goal.returns-in-Found
-returns-in-Found c = λ x.
+pub returns-in-Continue : goal.returns-in-Continue
+returns-in-Continue c = λ x.
     let a = c.args in
-    let f = c.in-Found in
-    let lands = f.ensures.lands in
-    waited a.k a.n a.q a.start a.bits.now c.requires.keeps c.requires.mode_value a.reads.now _ f.ensures x
-    ∙ mark_heard (at_mark a.k a.n a.q a.start a.bits.now c.requires.keeps c.requires.mode_value f.run' f.mark lands.2 lands.3 lands.4)
-    x _ _
-    ∙ c.from_counting.ensures x
+    let g = rules_of a.start.settings in
+    let f = c.in-Continue.mark in
+    let seeks = c.in-Continue.ensures in
+    let lands = seeks.lands in
+    waited g a.start.numbers a.bits.now c.requires.keeps c.requires.mode_value a.reads.now _ seeks x
+    ∙ mark_heard (at_mark g a.start.numbers a.bits.now c.requires.keeps c.requires.mode_value f lands.2 lands.3 lands.4) x _ _
+    ∙ (rw c.marked-numbers.ensures at c.from_counting.ensures) x

@@ -1,10 +1,7 @@
--- `fill` meets its contract: each turn stores the level once, and the rest of the run is still to come.
-use Prim.Native.Nat.{◌-◌}
-use Rattle.measure.proofs.Stores.{Filled}
+-- `fill` meets its contract: the entries before the place reached are the level.
+use Rattle.std.proofs.Common.{◌≡◌, ◌++◌, replicate, drop}
 use Rattle.capture.proofs.reading.fill.Given as goal
 
-abbrev pub invariant-loop-i : goal.invariant-loop-i
-invariant-loop-i l = Filled l.initial.out l.from l.count l.level l.out l.i
-
-abbrev pub decreases-loop-i : goal.decreases-loop-i
-decreases-loop-i l = l.count - l.i
+abbrev pub invariant-loop-entry : goal.invariant-loop-entry
+invariant-loop-entry l =
+    l.entry-items ≡ replicate l.entry-index l.level ++ drop l.entry-index l.fn.entries

@@ -1,23 +1,22 @@
 -- `number_at` meets its contract: what stands at the front of the bytes from the place on says the number or the
 -- refusal.
-use Rattle.std.proofs.Common.{refl, ap, arith}
+use Rattle.std.proofs.Common.{sym, ap, ◌∙◌, arith}
+use Rattle.measure.specs.Refusals.{denied}
 use Rattle.capture.specs.Numbers.{placed, number_at}
+use Rattle.capture.proofs.Fronts.{placed_fault}
 use Rattle.capture.proofs.Places.{front_small}
 use Rattle.capture.proofs.reading.number_at.Goals as goal
 
-pub overflow_add-after : goal.overflow_add-after
-overflow_add-after c =
-    let f = front_small c.args.bytes.now c.args.at _ (λ i. omega (arith, c.type_inv.bytes i)) c.in-Value.ensures _ _ refl in
+pub overflow_add-result : goal.overflow_add-result
+overflow_add-result c =
+    let f = front_small c.args.bytes.now c.args.at (λ i. omega (arith, c.type_inv.bytes i)) c.in-Ok.ensures in
     omega arith
 
-pub returns-in-Value : goal.returns-in-Value
+pub returns-in-Ok : goal.returns-in-Ok
 unfolding number_at
-returns-in-Value c = ap (placed c.args.at) c.in-Value.ensures
+returns-in-Ok c = ap (placed c.args.at) c.in-Ok.ensures
 
-pub returns-in-Cut : goal.returns-in-Cut
+pub returns-in-Err : goal.returns-in-Err
 unfolding number_at
-returns-in-Cut c = ap (placed c.args.at) c.in-Cut.ensures
-
-pub returns-in-Long : goal.returns-in-Long
-unfolding number_at
-returns-in-Long c = ap (placed c.args.at) c.in-Long.ensures
+returns-in-Err c =
+    ap (placed c.args.at) c.in-Err.ensures ∙ placed_fault c.args.at _ ∙ ap denied (sym c.at.ensures)

@@ -1,6 +1,5 @@
 -- `unroll_into` meets its contract: each turn stores one run, and the runs still to come are known to be good.
-use Prim.Native.Nat.{◌-◌}
-use lib.ListN.{length}
+use Rattle.std.proofs.Common.{◌-◌, length}
 use Rattle.capture.proofs.Unrolling.{Unrolled}
 use Rattle.capture.proofs.reading.unroll_into.Given as goal
 

@@ -1,7 +1,10 @@
--- `at_place` meets its contract: the number that it is to find stays the same.
-use Rattle.std.proofs.Common.{◌-◌, ◌≡◌, length, drop}
-use Rattle.cases.specs.Reading.{number_among, number_at}
+-- `at_place` meets its contract: the number that it is to find is still to be found in the rest.
+use Rattle.std.proofs.Common.{length}
+use Rattle.cases.proofs.Entries.{Among}
 use Rattle.cases.proofs.reading.at_place.Given as goal
 
-abbrev pub invariant-loop-turn : goal.invariant-loop-turn
-invariant-loop-turn l = number_among (length l.text - l.turn) l.left (drop l.at l.text) ≡ number_at l.place l.text
+abbrev pub invariant-loop-entry : goal.invariant-loop-entry
+invariant-loop-entry l = Among l.place l.text l.left l.rest
+
+abbrev pub decreases-loop-entry : goal.decreases-loop-entry
+decreases-loop-entry l = length l.rest

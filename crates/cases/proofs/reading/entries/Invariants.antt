@@ -1,13 +1,10 @@
 -- `entries` meets its contract: what is to be written in the end stays the same, and so does the place after it.
-use Rattle.std.proofs.Common.{◌≤◌, ◌-◌, ◌≡◌, length, drop}
-use Rattle.cases.specs.Reading.{entries_among, entries_of, written, written_to}
+use Rattle.std.proofs.Common.{length}
+use Rattle.cases.proofs.Entries.{Putting}
 use Rattle.cases.proofs.reading.entries.Given as goal
 
-abbrev pub invariant-loop-turn : goal.invariant-loop-turn
-invariant-loop-turn l =
-    (l.size ≤ length l.initial.list)
-    × (length l.list ≡ length l.initial.list)
-    × (written l.size (entries_among (length l.text - l.turn) (drop l.at l.text)) l.list
-    ≡ written l.from (entries_of l.text) l.initial.list)
-    × (written_to l.size (entries_among (length l.text - l.turn) (drop l.at l.text)) l.list
-    ≡ written_to l.from (entries_of l.text) l.initial.list)
+abbrev pub invariant-loop-entry : goal.invariant-loop-entry
+invariant-loop-entry l = Putting l.from l.text l.initial.list l.size l.rest l.list
+
+abbrev pub decreases-loop-entry : goal.decreases-loop-entry
+decreases-loop-entry l = length l.rest

@@ -1,12 +1,7 @@
--- `agree_apart` meets its contract: what is written so far stands there, and the rest is to come.
-use Prim.Native.Nat.{◌-◌}
+-- `agree_apart` meets its contract: each place so far has what its two levels agree on.
+use Rattle.std.proofs.Common.{◌≡◌, ℕ, ◌<◌, get_or}
 use Rattle.line.specs.Windows.{level_at, agreed_apart}
-use Rattle.line.proofs.Windows.{Listing}
 use Rattle.line.proofs.smoothing.agree_apart.Given as goal
 
 abbrev pub invariant-loop-i : goal.invariant-loop-i
-invariant-loop-i l =
-    Listing l.initial.out l.to (agreed_apart (level_at l.levels) l.apart) l.from l.count l.out l.i
-
-abbrev pub decreases-loop-i : goal.decreases-loop-i
-decreases-loop-i l = l.count - l.i
+invariant-loop-i l = (k : ℕ) → k < l.i → get_or l.out k 0 ≡ agreed_apart (level_at l.levels) l.apart k

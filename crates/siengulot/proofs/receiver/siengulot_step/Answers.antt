@@ -1,18 +1,12 @@
 -- `siengulot_step` meets its contract: numbers that make no receiver are refused, and otherwise what the operation
 -- brings is handed over.
-use mathlib.Core.Path.{sym, ◌∙◌}
 use Rattle.siengulot.proofs.Brought.{step_refused, step_brought}
 use Rattle.siengulot.proofs.receiver.siengulot_step.Goals as goal
 
-pub returns-then-not-numbers_fit : goal.returns-then-not-numbers_fit
-returns-then-not-numbers_fit c =
-    step_refused _ (sym c.numbers_fit.ensures ∙ c.if-not-numbers_fit.true) _ c.no_receiver.ensures
-
-pub bare_lent-bare-requires : goal.bare_lent-bare-requires
-bare_lent-bare-requires c = sym c.numbers_fit.ensures ∙ c.if-not-numbers_fit.false
+pub returns-in_default : goal.returns-in_default
+returns-in_default c = step_refused _ c.in_default.ensures _ c.no_receiver.ensures
 
 pub returns : goal.returns
 returns c =
-    step_brought _ c.bare_lent-bare.result c.step-told.result
-    (sym c.numbers_fit.ensures ∙ c.if-not-numbers_fit.false) c.bare_lent-bare.ensures
-    c.hand_over.ensures _ c.step-told.ensures
+    let made = c.in-Some.ensures in
+    step_brought _ c.in-Some.bare c.step-told.result made.0 made.1 c.hand_over.ensures _ c.step-told.ensures

@@ -1,19 +1,13 @@
--- `bare_lent` meets its contract: each number is copied to its field, and both levels are bytes.
-use native.Mathlib.Omega.{arith}
+-- `bare_lent` meets its contract: a mode is named and both levels are bytes, so the numbers make a receiver, and each is
+-- copied to its field.
 use Rattle.siengulot.specs.Receivers.{named, receiver_lent}
-use Rattle.siengulot.proofs.Recovered.{run_level_byte, level_byte}
+use Rattle.siengulot.proofs.Recovered.{made}
 use Rattle.siengulot.proofs.state.bare_lent.Goals as goal
-
-pub overflow_cast-runlevel : goal.overflow_cast-runlevel
-overflow_cast-runlevel c =
-    let s = c in
-    omega (arith, run_level_byte (named s.args.numbers.now) s.requires)
-
-pub overflow_cast-level : goal.overflow_cast-level
-overflow_cast-level c =
-    let s = c in
-    omega (arith, level_byte (named s.args.numbers.now) s.requires)
 
 pub returns : goal.returns
 unfolding receiver_lent
-returns c = λ bits. rw c.mode_of-mode.ensures
+returns c =
+    let mode = c.in_ok-mode.ensures in
+    let run = c.in_ok-runlevel.ensures in
+    let level = c.in_ok-level.ensures in
+    (made (named c.args.numbers.now) mode.0 run.0 level.0, λ bits. rw (mode.1, run.1, level.1))

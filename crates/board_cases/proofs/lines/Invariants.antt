@@ -1,9 +1,0 @@
--- `lines` is safe and ends: each turn goes on past a line feed, and the lists keep their lengths.
-use Rattle.std.proofs.Common.{length, ◌-◌, ◌≡◌}
-use Rattle.board_cases.proofs.lines.Given as goal
-
-abbrev pub invariant-loop-at : goal.invariant-loop-at
-invariant-loop-at g l = (length l.list ≡ length l.initial.list) × (length l.out ≡ length l.initial.out)
-
-abbrev pub decreases-loop-at : goal.decreases-loop-at
-decreases-loop-at g l = length l.text - l.at

@@ -1,9 +1,0 @@
--- `bits` is safe and ends: the place stays below the count.
-use Rattle.std.proofs.Common.{◌-◌, ◌≤◌}
-use Rattle.board_cases.proofs.state.bits.Given as goal
-
-abbrev pub invariant-loop-i : goal.invariant-loop-i
-invariant-loop-i g l = l.i ≤ l.n
-
-abbrev pub decreases-loop-i : goal.decreases-loop-i
-decreases-loop-i g l = l.n - l.i

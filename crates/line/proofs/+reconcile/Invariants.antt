@@ -1,6 +1,0 @@
--- The measure of `reconcile` is the number of cycles left.
-use Rattle.std.proofs.Common.{◌-◌, length}
-use Rattle.line.proofs.+reconcile.Given as goal
-
-abbrev pub decreases-reconcile : goal.decreases-reconcile
-decreases-reconcile l = length l.wave.now - l.looking.next.0

@@ -1,9 +1,0 @@
--- `take` is safe and ends: a place of the list stays below its length, and two places of the entries below theirs.
-use Rattle.std.proofs.Common.{length, ◌-◌, ◌≤◌, ◌≡◌}
-use Rattle.line_cases.proofs.words.take.Given as goal
-
-abbrev pub invariant-loop-i : goal.invariant-loop-i
-invariant-loop-i l = (l.i ≤ length l.initial.words) × (length l.words ≡ length l.initial.words)
-
-abbrev pub decreases-loop-i : goal.decreases-loop-i
-decreases-loop-i l = length l.initial.words - l.i

@@ -1,5 +1,0 @@
--- `numbers_in_range` meets its contract, as `cell_in_range` does.
-use Rattle.sender.proofs.numbers_in_range.Goals as goal
-
-pub returns : goal.returns
-returns c = cc

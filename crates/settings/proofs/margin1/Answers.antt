@@ -1,9 +1,0 @@
--- `margin1` meets its contract: it is M1 in the one form of all margins.
-use mathlib.Core.Path.{◌∙◌}
-use Rattle.settings.specs.Margins.{m1}
-use Rattle.settings.proofs.Signs.{read_back}
-use Rattle.settings.proofs.margin1.Goals as goal
-
-pub returns : goal.returns
-unfolding m1
-returns c = λ w2 r1. read_back c.margin.result c.margin.type_inv ∙ c.margin.ensures

@@ -1,5 +1,0 @@
--- `of_logged` meets its contract: what is told is laid out, and a refusal's number is its own.
-use Rattle.siengulot.proofs.logs.of_logged.Goals as goal
-
-pub returns-in-Refused : goal.returns-in-Refused
-returns-in-Refused c = rw (c.in-Refused.is, c.number.ensures)

@@ -1,0 +1,11 @@
+-- `of` meets its contract: each turn stores one digit before those stored so far, and the highest comes last.
+use Rattle.std.proofs.Common.{◌-◌, length}
+use Rattle.text.specs.Decimal.{decimal}
+use Rattle.text.proofs.Digits.{Storing}
+use Rattle.text.proofs.Numeral.of.Given as goal
+
+abbrev pub invariant-loop-left : goal.invariant-loop-left
+invariant-loop-left l = Storing l.initial.bytes (21 - length (decimal l.n)) l.n l.bytes l.left l.start
+
+abbrev pub decreases-loop-left : goal.decreases-loop-left
+decreases-loop-left l = l.left
