@@ -12,3 +12,4 @@ pub mod InUse
 pub mod OnceListed
 pub mod Calls
 pub mod KeepsLast
+pub mod Behind

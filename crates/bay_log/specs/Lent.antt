@@ -33,6 +33,10 @@ over log lists = record log {
 abbrev pub SameReferences : (old new : Lent) → Type 0
 SameReferences old new = over old (lent new) ≡ new
 
+-- K1: what a call answers, and the log with the lists that it leaves behind the references that were lent
+abbrev pub behind : {A : Type 0} → Lent → A × Log → A × Lent
+behind log left = (left.0, over log left.1)
+
 -- K4: bits that are given, or all 0
 abbrev pub given_bits : Option (Bor (List ℕ)) → List ℕ
 given_bits None = no_bits

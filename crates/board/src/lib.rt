@@ -192,19 +192,37 @@ impl Bare {
         ensures { in_lent row.old (heard_says (rules_of self.settings) bits.old heard)
             ≡ told_says result bits.new row.new }
     {
-        if let Some(event) = heard.event {
-            if let Event::Row = event {
-                *row = *bits;
+        let settings = self.settings;
+        let numbers = heard.numbers;
+        let used = heard.used;
+        match heard.event {
+            None => {
+                let next = Bare { settings, numbers };
+                Told {
+                    bare: next,
+                    event: Ok(None),
+                    used,
+                }
             }
-            *bits = none();
-        }
-        Told {
-            bare: Bare {
-                settings: self.settings,
-                numbers: heard.numbers,
-            },
-            event: Ok(heard.event),
-            used: heard.used,
+            Some(Event::Row) => {
+                *row = *bits;
+                *bits = none();
+                let hunting = Bare { settings, numbers };
+                Told {
+                    bare: hunting,
+                    event: Ok(Some(Event::Row)),
+                    used,
+                }
+            }
+            Some(Event::Broken(found)) => {
+                *bits = none();
+                let ready = Bare { settings, numbers };
+                Told {
+                    bare: ready,
+                    event: Ok(Some(Event::Broken(found))),
+                    used,
+                }
+            }
         }
     }
 }

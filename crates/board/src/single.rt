@@ -1,5 +1,5 @@
 // One read, which is a level: what listening makes of it, with no loop around it. A caller that has one read at hand
-// pays for no more: through the loops of `hear` a step took more instructions than plain Rust's, and takes fewer here.
+// pays for no more: through the loops of `hear` a step takes more instructions.
 ghost use Rattle.std.specs.Prelude.{◌≡◌, [], ◌∷◌, ◌≤◌};
 ghost use Rattle.board.specs.Packed.{whole, rules_of, state_of};
 ghost use Rattle.board.specs.Listening.{Keeps, heard_from, heard_says};

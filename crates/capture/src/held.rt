@@ -40,13 +40,12 @@ impl<'a> CaptureReader<'a> {
     pub fn advance(self) -> CaptureReader<'a>
         ensures { result ≡ advanced self.entry }
     {
-        let after = match self.next() {
-            Ok(number) => number.after,
-            Err(_) => self.at,
+        let Ok(number) = self.next() else {
+            return self;
         };
         CaptureReader {
             src: self.src,
-            at: after,
+            at: number.after,
         }
     }
 }

@@ -141,7 +141,10 @@ pub fn number_at(bytes: &[u8], at: usize) -> Result<Number, Refusal>
 fn fitting_at(bytes: &[u8], at: usize, least: usize, most: usize) -> Result<Number, Refusal>
     ensures { fitting_at (is_between least most) bytes.now at ≡ number_says result }
 {
-    let number = number_at(bytes, at)?;
+    let read = number_at(bytes, at);
+    let Ok(number) = read else {
+        return read;
+    };
     if !between(least, most, number.value) {
         return Err(Refusal::Range(at));
     }
@@ -153,10 +156,22 @@ fn fitting_at(bytes: &[u8], at: usize, least: usize, most: usize) -> Result<Numb
 fn four_numbers(bytes: &[u8]) -> Result<Header, Refusal>
     ensures { four_numbers bytes.now ≡ head_says result }
 {
-    let k = fitting_at(bytes, 0, SAMPLING_LEAST, SAMPLING_MOST)?;
-    let n = fitting_at(bytes, k.after, BITS_LEAST, BITS_MOST)?;
-    let q = fitting_at(bytes, n.after, QUIET_LEAST, QUIET_MOST)?;
-    let level = fitting_at(bytes, q.after, 0, usize::from(HIGH))?;
+    let first = fitting_at(bytes, 0, SAMPLING_LEAST, SAMPLING_MOST);
+    let Ok(k) = first else {
+        return Err(first.unwrap_err());
+    };
+    let second = fitting_at(bytes, k.after, BITS_LEAST, BITS_MOST);
+    let Ok(n) = second else {
+        return Err(second.unwrap_err());
+    };
+    let third = fitting_at(bytes, n.after, QUIET_LEAST, QUIET_MOST);
+    let Ok(q) = third else {
+        return Err(third.unwrap_err());
+    };
+    let fourth = fitting_at(bytes, q.after, 0, usize::from(HIGH));
+    let Ok(level) = fourth else {
+        return Err(fourth.unwrap_err());
+    };
     Ok(Header {
         settings: RowSettings {
             k: ReadCycles(k.value),
@@ -195,7 +210,10 @@ fn check_runs(bytes: &[u8], head: Header) -> Result<Summary, Refusal>
     let mut left = TOTAL_MOST;
     let mut runs: usize = 0;
     while at < bytes.len() {
-        let run = fitting_at(bytes, at, RUN_LEAST, left)?;
+        let read = fitting_at(bytes, at, RUN_LEAST, left);
+        let Ok(run) = read else {
+            return Err(read.unwrap_err());
+        };
         left -= run.value;
         runs += 1;
         at = run.after;

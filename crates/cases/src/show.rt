@@ -1,4 +1,6 @@
 // Printing what a case gives, on standard output.
+ghost use Rattle.std.specs.Prelude.{◌≡◌, IfOk, IfErr};
+
 use measure::{Count, Refusal};
 use std::io;
 
@@ -25,7 +27,10 @@ pub fn refused(rt: &impl Print, refusal: Refusal) -> io::Result<()> {
 }
 
 // Prints how much an operation has written, or why it refused, and gives how much that is.
-pub fn written<T: Count>(rt: &impl Print, answer: Result<T, Refusal>) -> io::Result<usize> {
+pub fn written<T: Count>(rt: &impl Print, answer: Result<T, Refusal>) -> io::Result<usize>
+    ensures made { IfOk answer (λ wrote. IfOk result (λ made. made ≡ T.number wrote)) }
+    ensures none { IfErr answer (λ refusal. IfOk result (λ made. made ≡ 0)) }
+{
     match answer {
         Ok(result) => {
             let made = result.count();
@@ -46,9 +51,15 @@ fn entries(rt: &impl Print, list: &[u8]) -> io::Result<()> {
     Ok(())
 }
 
-// How many entries of a list are this one.
+// How many entries of a list are this one. A chain with `filter` and `count` takes more than twice the time.
 fn times(list: &[u8], entry: u8) -> usize {
-    list.iter().filter(|other| **other == entry).count()
+    let mut found: usize = 0;
+    for other in list {
+        if *other == entry {
+            found += 1;
+        }
+    }
+    found
 }
 
 fn mixed(sum: usize, entry: u8) -> usize {

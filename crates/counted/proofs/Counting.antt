@@ -79,11 +79,15 @@ module _ {k n level : ℕ} {reads out₀ out : List ℕ} {held : ℕ} {left : Li
           place = rw length-drop (omega (arith, rw (more, next_current k held left enough) at q.place, q.few));
         })
 
+-- the front of a lent output that has room for it has its length
+pub front_length : (m n : ℕ) (out front : List ℕ) → length front ≡ length (take m out) → n ≤ length out → m ≡ n → length front ≡ n
+front_length m n out front e room same = e ∙ length-take-le m out (omega (arith, same)) ∙ same
+
 -- bits that are written to the front of a lent output leave what comes after it untouched
-pub counted_front : (k n level : ℕ) (reads out out' : List ℕ) (answer : Answer (ℕ × ℕ)) → n ≤ length out
-    → counted_into n (counted k n level reads) (current k n level reads) (take n out) ≡ (answer, out')
-    → counted_into n (counted k n level reads) (current k n level reads) out ≡ (answer, out' ++ drop n out)
-counted_front k n level reads out out' answer room e =
+pub counted_front : (k n level front : ℕ) (reads out out' : List ℕ) (answer : Answer (ℕ × ℕ)) → n ≤ length out → front ≡ n
+    → counted_into n (counted k n level reads) (current k n level reads) (take front out) ≡ (answer, out')
+    → counted_into n (counted k n level reads) (current k n level reads) out ≡ (answer, out' ++ drop front out)
+counted_front k n level front reads out out' answer room same e =
     let bits = counted k n level reads in
     let most : length bits ≤ length (take n out) =
     omega (arith, counted_most k n level reads, length-take-le n out room) in
@@ -91,4 +95,4 @@ counted_front k n level reads out out' answer room e =
     sym (drop-append-le _ _ _ most) ∙ ap (λ (l : List ℕ). drop (length bits) l) (take-append-drop n out) in
     let laid : onto bits out ≡ onto bits (take n out) ++ drop n out =
     ap (λ (l : List ℕ). bits ++ l) (sym rest) ∙ sym (append_assoc bits _ _) in
-    rw laid (ap (λ (p : Answer (ℕ × ℕ) × List ℕ). (p.0, p.1 ++ drop n out)) e)
+    rw (same, laid) (ap (λ (p : Answer (ℕ × ℕ) × List ℕ). (p.0, p.1 ++ drop n out)) (rw same at e))

@@ -60,6 +60,24 @@ module _ (starts : ℕ → ℕ) (t : ℕ) (levels : List ℕ) where
 
 -- a read that ends at t, of cycles that are w long
 module _ (w t : ℕ) (levels : List ℕ) where
+  -- it ends before the last cycle looked at is over
+  pub finds_kept : {read left level next end v u e : ℕ} → UnderWay (cycle_start w) t levels read left level next
+      → next * w ≡ end → t < end → (level ≡ v) × (u + 1 ≡ next) × (end ≡ e)
+      → (read ≡ v) × (left ≡ u) × ((u + 1) * w ≡ e)
+  finds_kept way at_end within (is, last, ends) =
+      (way.done (omega arith) ∙ is, omega (arith, way.kept (omega arith)), rw last (at_end ∙ ends))
+
+  -- it ends with the last cycle looked at
+  pub finds_gone : {read left level next end v u e : ℕ} → cycle_length w ≡ true
+      → UnderWay (cycle_start w) t levels read left level next
+      → next * w ≡ end → t ≡ end → (level ≡ v) × (u ≡ next) × ((u + 1) * w ≡ e)
+      → (read ≡ v) × (left ≡ u) × ((u + 1) * w ≡ e)
+  finds_gone fits way at_end with_it (is, leaves, ends) = (
+    way.done (omega arith) ∙ is,
+    way_gone (cycle_start w) t levels way (omega arith) (omega (arith, cycle_least w fits)) ∙ sym leaves,
+    ends,
+  )
+
   -- it ends by the end of the last cycle looked at
   pub finds_left : {read left level next end v u e : ℕ} → cycle_length w ≡ true
       → UnderWay (cycle_start w) t levels read left level next → next * w ≡ end

@@ -162,8 +162,11 @@ impl<'a> Steady<'a> {
             next: WriterCycles(first.0 + 1),
             start: end,
         };
-        if let Some(looked) = self.ended(one, t) {
-            return looked;
+        if t.0 < end.0 {
+            return one.keep_last();
+        }
+        if t.0 == end.0 {
+            return self.drop_last(one);
         }
         let two = self.look_on(one);
         if let Some(looked) = self.ended(two, t) {

@@ -1,7 +1,8 @@
 // The rows program's lines, put on the front of a lent buffer one at a time.
 #![tactic(auto)]
 
-ghost use Rattle.std.specs.Prelude.{◌≡◌, ◌+◌, ◌/◌, ◌≤◌, ◌<◌, length, take, get_or};
+ghost use Rattle.std.specs.Prelude.{◌≡◌, [], ◌∷◌, ◌+◌, ◌/◌, ◌≤◌, ◌<◌, length, take, get_or};
+ghost use Rattle.std.proofs.Common.{append-nil};
 ghost use Rattle.measure.specs.Refusals.{number_of, place_of, lent};
 ghost use Rattle.board.specs.Rows.{row, broken};
 ghost use Rattle.board.specs.Packed.{unpacked};
@@ -56,8 +57,13 @@ struct RowBits<'a> {
     count: usize,
 }
 
+#[tactic(auto, unfolding(text::specs::Putting::puts))]
 impl<'a> Piece for RowBits<'a> {
     ghost bytes = { λ bits. bits_text (take bits.count (unpacked 8 bits.packed.now)) };
+
+    ghost parts = { λ bits. bits_text (take bits.count (unpacked 8 bits.packed.now)) ∷ [] };
+
+    ghost whole = { λ bits. append-nil (bits_text (take bits.count (unpacked 8 bits.packed.now))) };
 
     fn end(self, at: usize, room: usize) -> Option<usize> {
         end_within(at, held(self.packed, self.count), room)
@@ -74,6 +80,10 @@ impl<'a> Piece for RowBits<'a> {
                 end
             }
         }
+    }
+
+    fn lay(self, out: &mut [u8], at: usize) -> usize {
+        self.put(out, at)
     }
 }
 

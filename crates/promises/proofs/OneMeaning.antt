@@ -47,8 +47,6 @@ use Rattle.capture.specs.declared.Number.{Number}
 use Rattle.capture.specs.declared.Header.{Header}
 use Rattle.capture.specs.Answers.{headed}
 use Rattle.bay_log.specs.Records.{Log}
-use Rattle.bay_log.specs.Lent.{lent, SameReferences}
-use Rattle.bay_log.specs.declared.Log.{Log as Lent}
 use Rattle.siengulot.specs.Surveys.{Found}
 use Rattle.siengulot.specs.Receivers.{Reply, Lent as LentRoom}
 use Rattle.siengulot.specs.Crossing.{numbered}
@@ -71,27 +69,6 @@ leaves : {X Y Z W : Type 0} (said : Said X Y) (place : Z → W) {defined : Y × 
 leaves {Y = Y} {Z = Z} said place h h' = (
   same said (ap (λ (p : Y × Z). p.0) h) (ap (λ (p : Y × Z). p.0) h'),
   ap (λ (p : Y × Z). place p.1) (sym h ∙ h'),
-)
-
--- a log that is lent and was left so: its references are those from before, with the lists that are left behind them
-lent_again : Lent → Log → Lent
-lent_again old log =
-    record old {
-      numbers = record old.numbers { now = log.numbers };
-      bits = record old.bits { now = log.bits };
-      counts = record old.counts { now = log.counts };
-      broken = record old.broken { now = log.broken };
-      free = record old.free { now = log.free };
-      broken_count = record old.broken_count { now = log.broken_count };
-    }
-
-log_left : {X Y W : Type 0} (said : Said X Y) {defined : Y × Log} {x y : X} (old : Lent) {left right : Lent}
-    → SameReferences old left → SameReferences old right → defined ≡ (said.says x, lent left)
-    → defined ≡ (said.says y, lent right) → (place : Lent → W) → (x ≡ y) × (place left ≡ place right)
-unfolding lent_again
-log_left {Y = Y} said old same_left same_right h h' place = (
-  same said (ap (λ (p : Y × Log). p.0) h) (ap (λ (p : Y × Log). p.0) h'),
-  ap place (sym same_left ∙ ap (λ (p : Y × Log). lent_again old p.1) (sym h ∙ h') ∙ same_right),
 )
 
 -- what crosses to C is the result and all that is left
@@ -297,13 +274,11 @@ one_meaning = record {
   reader_advance = record { always = λ κs a. tt; once = λ κs a x y left right h h'. (h ∙ sym h', refl) };
   log_event_says = record {
     always = λ κs a. tt;
-    once = λ κs a x y left right h h'.
-        log_left counts {x = x} {y = y} a.1.0.now h.0 h'.0 h.1 h'.1 (λ l. (tt, (l, tt)));
+    once = λ κs a x y left right h h'. leaves counts (λ l. (tt, (l, tt))) {x = x} {y = y} h h';
   };
   log_clear_says = record {
     always = λ κs a. tt;
-    once = λ κs a x y left right h h'.
-        log_left cleared {x = x} {y = y} a.1.0.now h.0 h'.0 h.1 h'.1 (λ l. (tt, (l, tt)));
+    once = λ κs a x y left right h h'. leaves cleared (λ l. (tt, (l, tt))) {x = x} {y = y} h h';
   };
   log_list_says = record {
     always = λ κs a. tt;
@@ -553,6 +528,7 @@ one_meaning = record {
         crosses (λ (p : (ℕ × ℕ × ℕ) × List ℕ). p.0.0)
         (λ p. (tt, (tt, (tt, (tt, (tt, (tt, (p.1, (p.0.1, (p.0.2, tt)))))))))) h h';
   };
+  put_line = λ bytes out left right x y h h'. leaves counts (λ l. l) {x = x} {y = y} h h';
   held_new = λ bytes x y h h'. h ∙ sym h';
   held_place = λ reader x y h h'. h ∙ sym h';
   held_next = λ bytes at x y h h'. same numbers {x = x} {y = y} h h';

@@ -25,7 +25,7 @@ use Rattle.board.specs.declared.Receiver.{Receiver}
 use Rattle.board.specs.Answers.{begun, start_says, stepped, stepped_says, listened, listened_says, in_lent, told_says}
 use Rattle.capture.specs.Capture.{header}
 use Rattle.bay_log.specs.Answers.{logged, logged_says, cleared, cleared_says, listed, listed_says}
-use Rattle.bay_log.specs.Lent.{lent as log_lent, SameReferences}
+use Rattle.bay_log.specs.Lent.{lent as log_lent, behind}
 use Rattle.capture.specs.Numbers.{number_at}
 use Rattle.capture.specs.Held.{begun_reader, advanced}
 use Rattle.capture.specs.Answers.{number_says, head_says, checked, read_back, checked_says, written, written_says}
@@ -221,12 +221,11 @@ pub record ByContract : Type 0 where
   -- log
   pub log_event_says : Says LogCalls.log_event.ended Log.log_event.Reads.Post
       λ κs (event, (log, _)) x (_, (log', _)).
-      SameReferences log.now log'
-      × (logged event.number event.bits.now event.count event.broken (log_lent log.now)
-      ≡ (logged_says x, log_lent log'))
+      behind log.now (logged event.number event.bits.now event.count event.broken (log_lent log.now))
+      ≡ (logged_says x, log')
   pub log_clear_says : Says LogCalls.clear.ended Log.clear.Reads.Post
       λ κs (place, (log, _)) x (_, (log', _)).
-      SameReferences log.now log' × (cleared place (log_lent log.now) ≡ (cleared_says x, log_lent log'))
+      behind log.now (cleared place (log_lent log.now)) ≡ (cleared_says x, log')
   pub log_list_says : Says LogCalls.list.ended Log.list.Reads.Post
       λ κs (numbers, (free, (places, _))) x (_, (_, (places', _))).
       listed numbers.now free.now places.now ≡ (listed_says x, places')

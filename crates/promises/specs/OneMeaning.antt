@@ -13,6 +13,7 @@ use Rattle.capture.specs.Numbers.{number_at}
 use Rattle.capture.specs.Held.{begun_reader, advanced}
 use Rattle.capture.specs.Answers.{number_says}
 use Rattle.capture.specs.declared.Number.{Number}
+use Rattle.measure.specs.Refusals.{lent, says}
 use Rattle.measure.specs.declared.Refusal.{Refusal}
 use Rattle.capture.specs.declared.held.CaptureReader.{CaptureReader}
 use Rattle.measure.specs.contracts as MeasureCalls
@@ -137,7 +138,7 @@ pub record OneMeaning : Type 0 where
   pub log_event_says : One LogCalls.log_event.ended Log.log_event.Reads.Asked Log.log_event.Reads.Post
   pub log_clear_says : One LogCalls.clear.ended Log.clear.Reads.Asked Log.clear.Reads.Post
   pub log_list_says : One LogCalls.list.ended Log.list.Reads.Asked Log.list.Reads.Post
-  -- text; `text::put_line` takes any piece, and says of it what these say of theirs
+  -- text
   pub end_within : One TextCalls.end_within.ended Text.end_within.Reads.Asked Text.end_within.Reads.Post
   pub put_text : One TextCalls.put_text.ended Text.put_text.Reads.Asked Text.put_text.Reads.Post
   pub number_size : One TextCalls.number_size.ended Text.number_size.Reads.Asked Text.number_size.Reads.Post
@@ -201,6 +202,10 @@ pub record OneMeaning : Type 0 where
   pub siengulot_survey : One CCalls.siengulot_survey.ended C.siengulot_survey.Reads.Asked C.siengulot_survey.Reads.Post
   pub siengulot_survey_lines :
       One CCalls.siengulot_survey_lines.ended C.siengulot_survey_lines.Reads.Asked C.siengulot_survey_lines.Reads.Post
+  -- the equation of `text::put_line`, which takes any piece, over the definitions alone
+  pub put_line : (bytes out left right : List ℕ) (x y : Result ℕ Refusal)
+      → lent bytes out ≡ (says (λ size. size) x, left) → lent bytes out ≡ (says (λ size. size) y, right)
+      → (x ≡ y) × (left ≡ right)
   -- the held reader's equations, over the definitions alone
   pub held_new : (bytes : Bor (List ℕ)) (x y : CaptureReader) → x ≡ begun_reader bytes → y ≡ begun_reader bytes → x ≡ y
   pub held_place : (reader : CaptureReader) (x y : ℕ) → x ≡ reader.at → y ≡ reader.at → x ≡ y

@@ -22,6 +22,15 @@ fn code_level(before: u8, bit: u8) -> u8
     if bit == 1 { before } else { 1 - before }
 }
 
+// Makes all cycles of a part one level. The slice's own `fill` stores the last one apart, which costs more for each cell.
+fn fill(part: &mut [u8], level: u8)
+    ensures { part.new ≡ replicate (length part.old) level }
+{
+    for cycle in part {
+        *cycle = level;
+    }
+}
+
 // The cycles of a cell: a of its mark, and b of its code.
 #[derive(Clone, Copy)]
 pub struct Cell {
@@ -49,8 +58,6 @@ impl Cell {
 
     // Writes a cell at a place and gives the level that it leaves on the line.
     // Here and below a place is added up: to cut off a part of the output takes the same sum, as the part's length.
-    // It is called and not inlined: where it is, a message takes 264 bytes of stack to send, and C is promised 256.
-    #[inline(never)]
     fn write_one(self, before: u8, bit: u8, out: &mut [u8], at: usize) -> u8
         requires { (before ≤ 1) × (at + self.a.0 + self.b.0 ≤ length out.old) }
         ensures { (result ≡ code_level before bit)
@@ -60,8 +67,8 @@ impl Cell {
         let level = code_level(before, bit);
         let code = at + self.a.0;
         let end = code + self.b.0;
-        out[at..code].fill(1 - before);
-        out[code..end].fill(level);
+        fill(&mut out[at..code], 1 - before);
+        fill(&mut out[code..end], level);
         level
     }
 
@@ -87,7 +94,7 @@ impl Cell {
             × (sets out.old at (wave self.a.0 self.b.0 lead bits.now) ≡ out.new) }
     {
         let first = at + lead;
-        out[at..first].fill(HIGH);
+        fill(&mut out[at..first], HIGH);
         self.write(bits, out, first)
     }
 }

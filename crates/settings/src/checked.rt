@@ -38,11 +38,10 @@ impl Settings {
         ensures err { IfErr result (λ refusal. (refusal ≡ Setting 0)
             × (in_range pair.a.0 pair.b.0 pair.g.0 k.0 (ends_of clocks) ≡ false)) }
     {
-        if pair.fits() & measure::between(SAMPLING_LEAST, SAMPLING_MOST, k.0) & clocks.fit() {
-            Ok(Settings { pair, k, clocks })
-        } else {
-            Err(Refusal::Setting(0))
+        if !(pair.fits() & measure::between(SAMPLING_LEAST, SAMPLING_MOST, k.0) & clocks.fit()) {
+            return Err(Refusal::Setting(0));
         }
+        Ok(Settings { pair, k, clocks })
     }
 
     // Gives M1: the mark subcell against two reads.
@@ -57,7 +56,7 @@ impl Settings {
 
     // Gives M2: the sampling count against the mark subcell.
     #[tactic(auto, using(crate::proofs::Signs::read_back), unfolding(crate::specs::Margins::m2))]
-    fn m2(self) -> i64
+    pub fn m2(self) -> i64
         ensures { result ≡ m2 self.pair.a.0 self.pair.g.0 self.k.0 (ends_of self.clocks) }
     {
         let Pair { a, g, .. } = self.pair;

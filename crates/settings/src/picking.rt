@@ -3,7 +3,7 @@ ghost use Rattle.std.specs.Prelude.{◌≡◌, true, ◌+◌, ◌-◌, ◌/◌, 
 ghost use Rattle.measure.specs.Choose.{choose};
 ghost use Rattle.measure.specs.Ranges.{sampling};
 ghost use Rattle.measure.specs.Refusals.{given, refused};
-ghost use Rattle.settings.specs.Margins.{ends_of, m1, zero_or_more};
+ghost use Rattle.settings.specs.Margins.{ends_of, m1, m2, zero_or_more};
 ghost use Rattle.settings.specs.Pick.{least, Picks, picked_says};
 ghost use Rattle.settings.specs.Turning.{Turning};
 
@@ -41,6 +41,20 @@ fn turning(settings: Settings) -> usize
     let gap1 = (mark - settling) * short_cycle - 2 * long_read + below_zero;
     let gap3 = gap1 + code * short_cycle - long_read;
     SAMPLING_LEAST + steps_below(gap1, gap3, short_read, long_read)
+}
+
+// Gives M2 of a sampling count.
+#[tactic(auto, using(crate::proofs::Signs::read_back))]
+fn second_margin(settings: Settings, k: ReadCycles) -> i64
+    requires { sampling k.0 ≡ true }
+    ensures { result ≡ m2 settings.pair.a.0 settings.pair.g.0 k.0 (ends_of settings.clocks) }
+{
+    let at = Settings {
+        pair: settings.pair,
+        k,
+        clocks: settings.clocks,
+    };
+    at.m2()
 }
 
 // Gives the least margin of a sampling count.
@@ -83,7 +97,7 @@ pub fn pick(pair: Pair, clocks: Clocks) -> Result<ReadCycles, Refusal>
     }
     let last = turning(settings);
     let next = last + 1;
-    let here = least_margin(settings, ReadCycles(last));
+    let here = second_margin(settings, ReadCycles(last));
     let there = least_margin(settings, ReadCycles(next));
     if here < there {
         return offered(ReadCycles(next), there);

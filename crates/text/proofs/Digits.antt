@@ -1,11 +1,11 @@
 -- A number in decimal: its one digit below ten, and otherwise the digits of its tenth before its last. So its digits
 -- can be counted, and stored from the last, one at a time.
-use Rattle.std.proofs.Common.{take, drop, drop_at, append-nil, append_assoc, length-take-le, ◌≡◌, refl, sym, ap, subst, ◌∙◌, List, [], ◌∷◌, ◌++◌, ℕ, zero, suc, ◌+◌, ◌-◌, ◌/◌, ◌%◌, ◌^◌, ◌<◌, ◌≤◌, add-zero, add-suc, suc-add, arith, length, length-append, length-set, set, drop_of_length-le, lt-ltb, le-ltb}
+use Rattle.std.proofs.Common.{take, drop, drop_at, append-nil, append_assoc, length-take-le, ◌≡◌, refl, sym, ap, subst, ◌∙◌, Bool, true, false, List, [], ◌∷◌, ◌++◌, ℕ, zero, suc, ◌+◌, ◌-◌, ◌/◌, ◌%◌, ◌^◌, ◌<◌, ◌≤◌, add-zero, add-suc, suc-add, arith, length, length-append, length-set, set, drop_of_length-le, lt-ltb, le-ltb}
 use Rattle.std.proofs.lemmas.List.Edits.{sets, sets-eq}
 use Rattle.std.proofs.Math.Seq.{set_comm}
 use native.Mathlib.Nat.{pow-succ'}
 use native.Mathlib.Decide.{dec_le}
-use Rattle.text.specs.Decimal.{digit, decimal_in, digits_most, decimal}
+use Rattle.text.specs.Decimal.{digit, decimal_in, digits_most, decimal, minus, numeral}
 
 decimal_one : (digits n : ℕ) → 1 ≤ digits → n < 10 → decimal_in digits n ≡ digit n ∷ []
 unfolding decimal_in
@@ -59,6 +59,31 @@ fewer_one (suc (suc digits)) left q h = record {
   rest = record { some = omega arith; low = omega (arith, q.low, pow-succ' 10 (suc digits)) };
   is = decimal_more (suc digits) left h;
 }
+
+-- digits that are counted: so many, and those of what is left
+pub record Counted (n left size : ℕ) : Type 0 where
+  pub digits : ℕ
+  pub rest : Left digits left
+  pub few : size + digits ≡ digits_most + 1
+  pub whole : size + length (decimal_in digits left) ≡ length (decimal n) + 1
+
+pub counted_none : (n : ℕ) → n < 2 ^ 64 → Counted n n 1
+counted_none n h = record { digits = digits_most; rest = left_all n h; few = omega arith; whole = omega arith }
+
+module _ {n left size : ℕ} (q : Counted n left size) where
+  pub counted_one : 10 ≤ left → Counted n (left / 10) (size + 1)
+  counted_one h =
+      let f = fewer_one q.digits left q.rest h in
+      let others = decimal_in f.fewer (left / 10) in
+      record {
+        digits = f.fewer;
+        rest = f.rest;
+        few = omega (arith, q.few, f.one_more);
+        whole = omega (arith, q.whole, ap length f.is, length-append others (digit (left % 10) ∷ []));
+      }
+
+  pub counted_all : left < 10 → size ≡ length (decimal n)
+  counted_all h = omega (arith, q.whole, ap length (decimal_one q.digits left q.rest.some h))
 
 -- a last entry stored first
 sets_last : (output entries : List ℕ) (at v : ℕ)
@@ -136,10 +161,35 @@ module _ {output : List ℕ} {at n : ℕ} {stored : List ℕ} {left to : ℕ} (q
       let place : to - 1 ≡ at = omega (arith, storing_end h) in
       rw (place, storing_all h) (stored_to_end output (decimal n) at room)
 
--- a list that has room for the longest number and a sign: the digits stand at its end
-pub storing_from_end : (output : List ℕ) (n : ℕ) → n < 2 ^ 64
-    → Storing output (21 - length (decimal n)) n output n 21
-storing_from_end output n h =
-    let end : 21 - length (decimal n) + length (decimal n) ≡ 21 = omega (arith, decimal_most n) in
-    subst (λ (to : ℕ). Storing output (21 - length (decimal n)) n output n to) end
-    (storing_none output (21 - length (decimal n)) n h)
+-- digits that are to stand at the end of a list
+pub storing_to_end : (output : List ℕ) (n : ℕ) → n < 2 ^ 64 → length (decimal n) ≤ length output
+    → Storing output (length output - length (decimal n)) n output n (length output)
+storing_to_end output n h room =
+    let end : length output - length (decimal n) + length (decimal n) ≡ length output = omega arith in
+    subst (λ (to : ℕ). Storing output (length output - length (decimal n)) n output n to) end
+    (storing_none output (length output - length (decimal n)) n h)
+
+pub digits_within : (below : Bool) (n size : ℕ) → size ≡ length (numeral below n) → length (decimal n) ≤ size
+digits_within true n size e = omega (arith, e)
+digits_within false n size e = omega (arith, e)
+
+-- a first entry that is stored
+set_first : (output : List ℕ) (v : ℕ) → 1 ≤ length output → set output 0 v ≡ v ∷ drop 1 output
+set_first [] v h = absurd (omega arith)
+set_first (x ∷ output) v h = refl
+
+-- a list that has room for a number alone, once its first digit is stored, and then its sign where it is below 0
+module _ {output : List ℕ} {n : ℕ} {stored : List ℕ} {left to : ℕ}
+    (q : Storing output (length output - length (decimal n)) n stored left to) (low : left < 10) where
+  pub filled : length output ≡ length (numeral false n) → set stored (to - 1) (digit left) ≡ numeral false n
+  filled h =
+      let place : to - 1 ≡ 0 = omega (arith, storing_end q low, h) in
+      ap (λ (k : ℕ). drop k (set stored (to - 1) (digit left))) (sym place) ∙ storing_text q low (omega (arith, h))
+
+  pub filled_below : length output ≡ length (numeral true n)
+      → set (set stored (to - 1) (digit left)) 0 minus ≡ numeral true n
+  filled_below h =
+      let place : to - 1 ≡ 1 = omega (arith, storing_end q low, h) in
+      set_first (set stored (to - 1) (digit left)) minus (omega (arith, length-set stored (to - 1) (digit left), q.size, h))
+      ∙ ap (λ (k : ℕ). minus ∷ drop k (set stored (to - 1) (digit left))) (sym place)
+      ∙ ap (λ (text : List ℕ). minus ∷ text) (storing_text q low (omega (arith, h)))

@@ -1,7 +1,9 @@
 -- A piece that has room is stored, and the place after it given; so a line is put piece by piece, each where the one
 -- before it ends, and stands whole at the front of the output.
-use Rattle.std.proofs.Common.{◌-◌, refl, rules, tests, Bool, Option, Some, None, ◌≡◌, sym, ap, subst, ◌∙◌, true, false, List, [], ◌++◌, append_assoc, append-nil, ℕ, ◌+◌, ◌≤◌, ◌<◌, arith, lt-ltb, le-ltb, le-leb, leb, length, length-append, drop-drop}
+use Rattle.std.proofs.Common.{◌-◌, refl, rules, tests, Bool, Option, Some, None, ◌≡◌, sym, ap, subst, ◌∙◌, true, false, List, [], ◌∷◌, ◌++◌, append_assoc, append-nil, ℕ, ◌+◌, ◌≤◌, ◌<◌, add-zero, arith, lt-ltb, le-ltb, le-leb, leb, length, length-append, length-take, length-drop, take, drop, drop-drop}
+use Rattle.std.specs.List.{concat}
 use Rattle.std.proofs.lemmas.List.Edits.{sets, sets-eq}
+use Rattle.std.proofs.lemmas.List.Folds.{concat-append}
 use Rattle.std.proofs.Math.Seq.{length-sets}
 use borrow.Author.Tests.{lt-leb}
 use borrow.Rule.Slice.PartMut.{put_mid}
@@ -10,7 +12,7 @@ use Rattle.measure.specs.Lists.{onto}
 use Rattle.measure.specs.Refusals.{given, refused, lent}
 use Rattle.measure.proofs.Laid.{laid_first, sets_joined}
 use Rattle.measure.proofs.Stores.{Stored, stored_none, stored_part, stored_next}
-use Rattle.text.specs.Putting.{put_at, end_within}
+use Rattle.text.specs.Putting.{put_at, puts, end_within}
 
 module _ (piece : List ℕ) (at : ℕ) (output : List ℕ) where
   pub put_whole : leb (at + length piece) (length output) ≡ true
@@ -58,26 +60,68 @@ part_put piece output at end e =
     put_whole piece at output (le-leb (at + length piece) (length output) found.0)
     ∙ rw (place, size, drop-drop (length piece) at output, sets-eq piece output at found.0, append_assoc) refl
 
+-- that part is as long as the piece
+pub part_size : (piece output : List ℕ) (at end : ℕ) → end_within at (length piece) (length output) ≡ Some end
+    → length (take (end - at) (drop at output)) ≡ length piece
+part_size piece output at end e =
+    let found = end_found at (length piece) (length output) end e in
+    omega (arith, found.0, found.1, length-take (end - at) (drop at output), length-drop at output)
+
 pub part_short : (piece output : List ℕ) (at : ℕ) → end_within at (length piece) (length output) ≡ None
     → put_at piece at output ≡ (at, output)
 part_short piece output at e =
     put_short piece at output (lt-leb _ _ (end_missed at (length piece) (length output) e))
 
 -- two pieces that have room together, the second put where the first ends
-pub put_both : (one other output middle left : List ℕ) (at place end room : ℕ)
-    → end_within at (length (one ++ other)) (length output) ≡ Some room
+pub put_both : (one other output middle left : List ℕ) (at place end : ℕ) → at + length (one ++ other) ≤ length output
     → put_at one at output ≡ (place, middle) → put_at other place middle ≡ (end, left)
     → put_at (one ++ other) at output ≡ (end, left)
-put_both one other output middle left at place end room e f g =
-    let found = end_found at (length (one ++ other)) (length output) room e in
+put_both one other output middle left at place end h e f =
     let size = length-append one other in
-    let first = put_gives one at output place middle (omega (arith, found.0, size)) f in
+    let first = put_gives one at output place middle (omega (arith, size)) e in
     let kept : length middle ≡ length output = ap length first.1 ∙ length-sets output at one in
-    let second = put_gives other place middle end left (omega (arith, found.0, size, first.0, kept)) g in
+    let second = put_gives other place middle end left (omega (arith, size, first.0, kept)) f in
     let place_is : at + length (one ++ other) ≡ end = omega (arith, size, first.0, second.0) in
     let stored : sets output at (one ++ other) ≡ left =
     sym (sets_joined output one other at) ∙ rw (← first.0, ← first.1) (sym second.1) in
-    put_whole (one ++ other) at output (le-leb _ _ found.0) ∙ cc (place_is, stored)
+    put_whole (one ++ other) at output (le-leb _ _ h) ∙ cc (place_is, stored)
+
+-- pieces that have room together are put as one
+puts_room : (pieces : List (List ℕ)) (output left : List ℕ) (at end : ℕ) → at + length (concat pieces) ≤ length output
+    → puts pieces at output ≡ (end, left) → put_at (concat pieces) at output ≡ (end, left)
+unfolding puts
+puts_room [] output left at end h e = put_whole [] at output (le-leb _ _ h) ∙ rw add-zero e
+puts_room (piece ∷ pieces) output left at end h e =
+    let size = length-append piece (concat pieces) in
+    let first = put_gives piece at output _ _ (omega (arith, size)) refl in
+    let kept : length (put_at piece at output).1 ≡ length output = ap length first.1 ∙ length-sets output at piece in
+    put_both piece (concat pieces) output _ left at _ end h refl
+    (puts_room pieces _ left _ end (omega (arith, size, first.0, kept)) e)
+
+pub puts_whole : (pieces : List (List ℕ)) (bytes output left : List ℕ) (at end room : ℕ) → concat pieces ≡ bytes
+    → end_within at (length bytes) (length output) ≡ Some room → puts pieces at output ≡ (end, left)
+    → put_at bytes at output ≡ (end, left)
+puts_whole pieces bytes output left at end room joined found laid =
+    let within = end_found at (length bytes) (length output) room found in
+    rw (← joined) (puts_room pieces output left at end (rw joined within.0) laid)
+
+-- what is put in parts: first some, and then the others
+pub puts_append : (some others : List (List ℕ)) (output : List ℕ) (at : ℕ)
+    → puts (some ++ others) at output ≡ puts others (puts some at output).0 (puts some at output).1
+unfolding puts
+puts_append [] others output at = refl
+puts_append (piece ∷ some) others output at = puts_append some others (put_at piece at output).1 (put_at piece at output).0
+
+pub puts_both : (some others : List (List ℕ)) (output middle left : List ℕ) (at place end : ℕ)
+    → puts some at output ≡ (place, middle) → puts others place middle ≡ (end, left)
+    → puts (some ++ others) at output ≡ (end, left)
+puts_both some others output middle left at place end e f =
+    puts_append some others output at ∙ rw e f
+
+-- the parts of two pieces
+pub joined_both : (some others : List (List ℕ)) (one other : List ℕ) → concat some ≡ one → concat others ≡ other
+    → concat (some ++ others) ≡ one ++ other
+joined_both some others one other e f = concat-append some others ∙ rw (e, f) refl
 
 -- of a line that has room, a piece is put, and what follows it is still to come
 module _ {output : List ℕ} {line stored : List ℕ} {at : ℕ} (room : length line ≤ length output) where

@@ -34,6 +34,10 @@ depth (negsuc n) = suc n
 abbrev pub minus : ℕ
 minus = 45
 
+-- a number's digits, with a minus sign before them where it is below 0
+abbrev pub numeral : (below : Bool) → ℕ → List ℕ
+numeral below n = choose below (minus ∷ decimal n) (decimal n)
+
 -- a signed number: one below 0 has a minus sign before how far it lies below 0
 abbrev pub signed_decimal : ℤ → List ℕ
 signed_decimal (pos n) = decimal n

@@ -2,8 +2,8 @@
 // each where the one before it ends; whoever puts it asks first for the sizes, and so knows whether all of it has room.
 #![tactic(auto)]
 
-ghost use Rattle.std.specs.Prelude.{◌≡◌, ◌≤◌, ◌∷◌, drop, length};
-ghost use Rattle.text.specs.Decimal.{decimal, minus, signed_decimal};
+ghost use Rattle.std.specs.Prelude.{◌≡◌, length};
+ghost use Rattle.text.specs.Decimal.{decimal, numeral, signed_decimal};
 ghost use Rattle.text.specs.Putting.{put_at, end_within};
 
 mod line;
@@ -14,12 +14,6 @@ pub use line::{Piece, Text, Then, put_line};
 const ZERO: u8 = b'0';
 
 const MINUS: u8 = b'-';
-
-// The most digits of a number.
-const DIGITS_MOST: usize = 20;
-
-// The most bytes of a signed number.
-const SIGNED_MOST: usize = DIGITS_MOST + 1;
 
 // Gives the place after so many bytes that begin at a place of an output with so much room, and nothing where they have
 // no room there.
@@ -45,67 +39,92 @@ pub fn put_text(out: &mut [u8], at: usize, text: &[u8]) -> usize
     }
 }
 
-// A number as text: its bytes stand at the end of those that the longest takes.
-#[derive(Clone, Copy)]
-struct Numeral {
-    bytes: [u8; SIGNED_MOST],
-    start: usize,
-    ghost within: { start ≤ 21 },
-}
-
-impl Numeral {
-    // Gives a number's digits, with no zero before them: the last is stored first. They are made here and by no crate,
-    // since faults in them are edits of this code (must-fail: highest_digit_last, zero_for_minus).
-    fn of(n: usize) -> Numeral
-        ensures digits { drop result.start result.bytes ≡ decimal n }
-        ensures room { 1 ≤ result.start }
-    {
-        let mut bytes = [ZERO; SIGNED_MOST];
-        let mut start = SIGNED_MOST;
-        let mut left = n;
-        while 10 <= left {
-            let digit = left % 10;
-            start -= 1;
-            bytes[start] = ZERO + digit as u8;
-            left /= 10;
-        }
-        start -= 1;
-        bytes[start] = ZERO + left as u8;
-        Numeral { bytes, start }
-    }
-
-    // Gives the number with a minus sign before it.
-    fn below_zero(self) -> Numeral
-        requires { 1 ≤ self.start }
-        ensures { drop result.start result.bytes ≡ minus ∷ drop self.start self.bytes }
-    {
-        let start = self.start - 1;
-        let mut bytes = self.bytes;
-        bytes[start] = MINUS;
-        Numeral { bytes, start }
-    }
-
-    // Gives a signed number's digits, with a minus sign before them where it is below 0.
-    fn of_signed(v: i64) -> Numeral
-        ensures { drop result.start result.bytes ≡ signed_decimal v }
-    {
-        let digits = Numeral::of(v.unsigned_abs() as usize);
-        if v < 0 { digits.below_zero() } else { digits }
-    }
-
-    // Gives its text.
-    fn text(&self) -> &[u8]
-        ensures { result.now ≡ drop self.now.start self.now.bytes }
-    {
-        &self.bytes[self.start..]
-    }
-}
-
 // Gives how many bytes a number has in decimal.
 pub fn number_size(n: usize) -> usize
     ensures { result ≡ length (decimal n) }
 {
-    Numeral::of(n).text().len()
+    let mut left = n;
+    let mut size = 1;
+    while 10 <= left {
+        left /= 10;
+        size += 1;
+    }
+    size
+}
+
+// A number as text: its digits, and a minus sign before them where it is below 0.
+#[derive(Clone, Copy)]
+struct Numeral {
+    below: bool,
+    digits: usize,
+}
+
+impl Numeral {
+    fn of(n: usize) -> Numeral
+        ensures { numeral result.below result.digits ≡ decimal n }
+    {
+        Numeral {
+            below: false,
+            digits: n,
+        }
+    }
+
+    fn of_signed(v: i64) -> Numeral
+        ensures { numeral result.below result.digits ≡ signed_decimal v }
+    {
+        let digits = v.unsigned_abs() as usize;
+        if v < 0 {
+            Numeral {
+                below: true,
+                digits,
+            }
+        } else {
+            Numeral::of(digits)
+        }
+    }
+
+    // Gives how many bytes it has.
+    fn size(self) -> usize
+        ensures { result ≡ length (numeral self.below self.digits) }
+    {
+        let digits = number_size(self.digits);
+        if self.below { digits + 1 } else { digits }
+    }
+
+    // Fills a part of the output that has as many bytes. The last digit is stored first. They are made here and by no
+    // crate, since faults in them are edits of this code (must-fail: highest_digit_last, zero_for_minus), and no list
+    // of their own holds them first, since a copy of it takes longer than they do.
+    fn fill(self, part: &mut [u8])
+        requires { length part.old ≡ length (numeral self.below self.digits) }
+        ensures { part.new ≡ numeral self.below self.digits }
+    {
+        let mut to = part.len();
+        let mut left = self.digits;
+        while 10 <= left {
+            let digit = left % 10;
+            to -= 1;
+            part[to] = ZERO + digit as u8;
+            left /= 10;
+        }
+        to -= 1;
+        part[to] = ZERO + left as u8;
+        if self.below {
+            part[0] = MINUS;
+        }
+    }
+
+    // Puts it from a place on, and gives the place after it.
+    fn put(self, out: &mut [u8], at: usize) -> usize
+        ensures { put_at (numeral self.below self.digits) at out.old ≡ (result, out.new) }
+    {
+        match end_within(at, self.size(), out.len()) {
+            None => at,
+            Some(end) => {
+                self.fill(&mut out[at..end]);
+                end
+            }
+        }
+    }
 }
 
 // Puts a number in decimal, with no zero before it, from a place on, and gives the place after it. Leaves the output as
@@ -113,14 +132,14 @@ pub fn number_size(n: usize) -> usize
 pub fn put_number(out: &mut [u8], at: usize, n: usize) -> usize
     ensures { put_at (decimal n) at out.old ≡ (result, out.new) }
 {
-    put_text(out, at, Numeral::of(n).text())
+    Numeral::of(n).put(out, at)
 }
 
 // Gives how many bytes a signed number has in decimal: its digits, and a minus sign where it is below 0.
 pub fn signed_size(v: i64) -> usize
     ensures { result ≡ length (signed_decimal v) }
 {
-    Numeral::of_signed(v).text().len()
+    Numeral::of_signed(v).size()
 }
 
 // Puts a signed number in decimal, with a minus sign where it is below 0, from a place on, and gives the place after
@@ -128,5 +147,5 @@ pub fn signed_size(v: i64) -> usize
 pub fn put_signed(out: &mut [u8], at: usize, v: i64) -> usize
     ensures { put_at (signed_decimal v) at out.old ≡ (result, out.new) }
 {
-    put_text(out, at, Numeral::of_signed(v).text())
+    Numeral::of_signed(v).put(out, at)
 }

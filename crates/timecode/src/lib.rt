@@ -122,7 +122,7 @@ impl<'a> Bits<'a> {
         None
     }
 
-    // Gives the place of the first word from `from` on. It is looked for there before the walk.
+    // Gives the place of the first word from `from` on. After another word it is looked for there before the walk.
     fn next_word(self, from: usize) -> Option<usize>
         requires { from ≤ length self.list.now }
         ensures { words_from self.entry.list.now from ≡ words_by self.entry.list.now result }
@@ -130,7 +130,7 @@ impl<'a> Bits<'a> {
         if self.list.len() < from + WORD {
             return None;
         }
-        if self.stands_at(from) {
+        if 0 < from && self.stands_at(from) {
             return Some(from);
         }
         self.walk_to_word(from)

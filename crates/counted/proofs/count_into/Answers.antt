@@ -1,19 +1,19 @@
 -- `count_into` meets its contract: what is written, followed by what is found in the reads left, is all that is found.
 use Rattle.std.proofs.Common.{ap, ◌-◌, arith, drop, length}
-use Rattle.std.proofs.lemmas.List.{length-drop, length-take-le, set-get_or, take_all}
-use Rattle.counted.proofs.Counting.{counting_one, counting_short, counting_all, counted_front}
+use Rattle.std.proofs.lemmas.List.{length-drop, set-get_or, take_all}
+use Rattle.counted.proofs.Counting.{counting_one, counting_short, counting_all, counted_front, front_length}
 use Rattle.counted.proofs.count_into.Goals as goal
 
 pub returns-then-marked-k : goal.returns-then-marked-k
 returns-then-marked-k c =
-    let size = length-take-le c.args.n c.args.out.now c.requires in
+    let size = front_length _ _ c.args.out.now c.loop-i.front c.loop-i.auto.front c.requires (omega arith) in
     let few = ap length c.from_mark-marked.ensures in
     rw set-get_or
-    (counted_front _ _ _ _ _ _ _ c.requires (counting_short c.loop-i.invariant (omega arith) (omega arith) (omega arith)))
+    (counted_front _ _ _ _ _ _ _ _ c.requires (omega arith) (counting_short c.loop-i.invariant (omega arith) (omega arith) (omega arith)))
 
 pub loop-i-preserved : goal.loop-i-preserved
 loop-i-preserved c =
-    let size = length-take-le c.args.n c.args.out.now c.requires in
+    let size = front_length _ _ c.args.out.now c.loop-i.front c.loop-i.auto.front c.requires (omega arith) in
     let k = c.args.k.0 in
     let all = c.from_mark-marked.result.now in
     let marked = c.from_mark-marked.ensures in
@@ -24,5 +24,5 @@ loop-i-preserved c =
 
 pub returns : goal.returns
 returns c =
-    let size = length-take-le c.args.n c.args.out.now c.requires in
-    counted_front _ _ _ _ _ _ _ c.requires (counting_all c.loop-i.invariant (omega arith) (omega arith) (omega arith))
+    let size = front_length _ _ c.args.out.now c.loop-i.front c.loop-i.auto.front c.requires (omega arith) in
+    counted_front _ _ _ _ _ _ _ _ c.requires (omega arith) (counting_all c.loop-i.invariant (omega arith) (omega arith) (omega arith))

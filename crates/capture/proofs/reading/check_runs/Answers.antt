@@ -1,7 +1,6 @@
 -- `check_runs` meets its contract: what is counted and what is still to come give the summary, and a run that is
 -- refused is the refusal.
-use Rattle.std.proofs.Common.{sym, ◌∙◌, arith}
-use Rattle.measure.proofs.Checked.{handed_on}
+use Rattle.std.proofs.Common.{arith}
 use Rattle.capture.proofs.Runs.{run_read}
 use Rattle.capture.proofs.Tally.{tally_none, tally_one, tally_refused, tally_low, tally_some, tally_high}
 use Rattle.capture.proofs.reading.check_runs.Goals as goal
@@ -11,19 +10,19 @@ use Rattle.capture.proofs.reading.check_runs.Goals.{else-head-eq0-via-else-head-
 pub loop-at-init : goal.loop-at-init
 loop-at-init c = tally_none _ _
 
-pub returns-in_err-run : goal.returns-in_err-run
-returns-in_err-run c =
-    tally_refused c.loop-at.invariant _ _ c.loop-at-test.true c.in_err-run.ensures
-    ∙ sym (handed_on _ _ _ c.from_residual.ensures.1)
+pub returns-in_default : goal.returns-in_default
+returns-in_default c =
+    tally_refused c.loop-at.invariant _ _ c.loop-at-test.true
+    (rw c.unwrap_err.ensures at c.fitting_at-read.ensures)
 
 pub overflow_sub-left : goal.overflow_sub-left
-overflow_sub-left c = omega (arith, run_read _ _ _ _ c.in_ok-run.ensures)
+overflow_sub-left c = omega (arith, run_read _ _ _ _ c.in-Ok.ensures)
 
 pub loop-at-smaller : goal.loop-at-smaller
-loop-at-smaller c = omega (arith, run_read _ _ _ _ c.in_ok-run.ensures, c.loop-at-test.true)
+loop-at-smaller c = omega (arith, run_read _ _ _ _ c.in-Ok.ensures, c.loop-at-test.true)
 
 pub loop-at-preserved : goal.loop-at-preserved
-loop-at-preserved c = tally_one c.loop-at.invariant _ c.loop-at-test.true c.in_ok-run.ensures
+loop-at-preserved c = tally_one c.loop-at.invariant _ c.loop-at-test.true c.in-Ok.ensures
 
 pub returns-then-runs-eq0 : goal.returns-then-runs-eq0
 returns-then-runs-eq0 c = tally_low c.loop-at.invariant c.loop-at-test.false c.if-head-eq0.true c.if-runs-eq0.true

@@ -14,10 +14,10 @@ returns c =
     let level = c.code_level-level.result in
     let mark =
     filled args.out.now args.at (args.at + a - args.at) a (opposite args.before) (omega arith) (omega arith)
-    (c.fill.ensures.after (λ y e. e)) in
+    c.fill.ensures in
     let code =
     filled _ (args.at + a) (args.at + a + b - (args.at + a)) b level (omega arith) (rw (mark, length-sets) (omega arith))
-    (c.fill-2.ensures.after (λ y e. e)) in (
+    c.fill-2.ensures in (
       c.code_level-level.ensures,
       placed_next args.out.now _ args.at (args.at + a) (replicate a (opposite args.before))
           (replicate b (code_level args.before args.bit))

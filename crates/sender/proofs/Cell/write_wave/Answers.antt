@@ -11,7 +11,7 @@ returns c =
     let args = c.args in
     let lead =
     filled args.out.now args.at (args.at + args.lead - args.at) args.lead 1 (omega arith) (omega arith)
-    (c.fill.ensures.after (λ y e. e)) in (
+    c.fill.ensures in (
       c.write.ensures.0,
       placed_next args.out.now _ args.at (args.at + args.lead) (pad args.lead)
           (cells args.self.a.0 args.self.b.0 1 args.bits.now)

@@ -1,5 +1,5 @@
 -- `pick` meets its contract: out of range it refuses, M1's sign settles a case of the definition, and the greater of two
--- least margins says which count is the best.
+-- least margins, of which the first is M2, says which count is the best.
 use Rattle.std.proofs.Common.{◌+◌, sym, ◌∙◌, refl, arith}
 use Rattle.measure.proofs.Both.{ends_range}
 use Rattle.settings.specs.Margins.{ends_of}
@@ -27,8 +27,8 @@ pub turning-last-requires : goal.turning-last-requires
 turning-last-requires c =
     rw c.m1.ensures at (not_below_zero c.m1.result (record { sfits = c.m1.type_inv }) c.if-m1-lt0.false)
 
-pub least_margin-here-requires : goal.least_margin-here-requires
-least_margin-here-requires c =
+pub second_margin-here-requires : goal.second_margin-here-requires
+second_margin-here-requires c =
     let turn = c.turning-last in
     ends_range 1 511 turn.result turn.ensures.first (omega (arith, turn.ensures))
 
@@ -41,11 +41,16 @@ pub returns-then-here-there : goal.returns-then-here-there
 returns-then-here-there c =
     let s = c.in_ok-settings.settings in
     let is = c.in_ok-settings.ensures.ok in
-    let here = c.least_margin-here in
+    let here = c.second_margin-here in
     let there = c.least_margin-there in
     let order =
-    rw (read_back here.result here.type_inv, read_back there.result there.type_inv, here.ensures, there.ensures)
-    at c.if-here-there.true in
+    rw (
+      read_back here.result here.type_inv,
+      read_back there.result there.type_inv,
+      here.ensures,
+      there.ensures,
+      ← c.turning-last.ensures.least_here,
+    ) at c.if-here-there.true in
     rw (← is.0, ← is.2, ← rw (read_back there.result there.type_inv, there.ensures) at c.offered.ensures)
     (best_fits _ _ _ _ (pick_fits s) _ (c.turning-last.ensures.next order))
 
@@ -53,10 +58,19 @@ pub returns : goal.returns
 returns c =
     let s = c.in_ok-settings.settings in
     let is = c.in_ok-settings.ensures.ok in
-    let here = c.least_margin-here in
+    let here = c.second_margin-here in
     let there = c.least_margin-there in
     let order =
-    rw (read_back here.result here.type_inv, read_back there.result there.type_inv, here.ensures, there.ensures)
-    at c.if-here-there.false in
-    rw (← is.0, ← is.2, ← rw (read_back here.result here.type_inv, here.ensures) at c.offered-2.ensures)
+    rw (
+      read_back here.result here.type_inv,
+      read_back there.result there.type_inv,
+      here.ensures,
+      there.ensures,
+      ← c.turning-last.ensures.least_here,
+    ) at c.if-here-there.false in
+    rw (
+      ← is.0,
+      ← is.2,
+      ← rw (read_back here.result here.type_inv, here.ensures, ← c.turning-last.ensures.least_here) at c.offered-2.ensures,
+    )
     (best_fits _ _ _ _ (pick_fits s) _ (c.turning-last.ensures.here order))
