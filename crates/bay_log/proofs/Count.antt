@@ -10,7 +10,7 @@ use native.Mathlib.Numerals.{add-one}
 use native.Mathlib.Omega.{arith}
 use lib.ListN.{length, get_or, set}
 use lib.Seq.{get_or-set_same, get_or-set_other}
-use borrow.Author.Tests.{lt-ltb, le-ltb}
+use borrow.Author.Tests.{lt-ltb}
 use Rattle.measure.specs.Choose.{choose}
 use Rattle.measure.specs.Ranges.{log_records}
 use Rattle.bay_log.specs.Records.{marked, adds, broken_among, broken_records}
@@ -21,17 +21,6 @@ adds_most broken free = go (marked broken && not (marked free))
     go : (b : Bool) → choose b 1 0 ≤ 1
     go true = omega arith
     go false = omega arith
-
--- a record in use whose broken mark is set adds 1, and any other adds nothing
-module _ (mark unused : ℕ) where
-  pub adds_one : 0 < mark → unused ≡ 0 → adds mark unused ≡ 1
-  adds_one h e = rw (lt-ltb 0 mark h, e)
-
-  pub adds_whole : mark ≤ 0 → adds mark unused ≡ 0
-  adds_whole h = rw (le-ltb 0 mark h)
-
-  pub adds_free : (unused ≡ 0 → ⊥) → adds mark unused ≡ 0
-  adds_free h = rw (lt-ltb 0 unused (omega (arith, h)), and-false (marked mark))
 
 module _ (broken free : List ℕ) where
   pub among_next : (n : ℕ)

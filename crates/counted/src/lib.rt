@@ -43,11 +43,10 @@ fn in_range(k: ReadCycles, n: usize, level: u8) -> bool
 fn from_mark(reads: &[u8], level: u8) -> &[u8]
     ensures { result.now ≡ from_mark level reads.now }
 {
-    let mark = reads
-        .iter()
-        .position(|read| *read != level)
-        .unwrap_or(reads.len());
-    &reads[mark..]
+    match reads.iter().position(|read| *read != level) {
+        Some(mark) => &reads[mark..],
+        None => &reads[reads.len()..],
+    }
 }
 
 // Gives the bit that a mark and its sample stand for.

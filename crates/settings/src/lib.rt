@@ -148,7 +148,10 @@ impl<M: Copy> Verdict<M> {
 pub fn judge(pair: Pair, k: ReadCycles, clocks: Clocks) -> Result<Verdict<Margins>, Refusal>
     ensures { judgement pair.a.0 pair.b.0 pair.g.0 k.0 (ends_of clocks) ≡ judged_says result }
 {
-    let settings = Settings::checked(pair, k, clocks)?;
+    // The refusal is named here, not handed on, so a fault in it strikes this judge alone (must-fail: judge_refusal).
+    let Ok(settings) = Settings::checked(pair, k, clocks) else {
+        return Err(Refusal::Setting(0));
+    };
     let margins = settings.margins();
     Ok(Verdict::on(margins, margins.accepted()))
 }

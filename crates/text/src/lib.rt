@@ -60,6 +60,7 @@ struct Numeral {
 }
 
 impl Numeral {
+    // Gives a number's numeral.
     fn of(n: usize) -> Numeral
         ensures { numeral result.below result.digits ≡ decimal n }
     {
@@ -69,6 +70,7 @@ impl Numeral {
         }
     }
 
+    // Gives a signed number's numeral.
     fn of_signed(v: i64) -> Numeral
         ensures { numeral result.below result.digits ≡ signed_decimal v }
     {
@@ -91,8 +93,8 @@ impl Numeral {
         if self.below { digits + 1 } else { digits }
     }
 
-    // Fills a part of the output that has as many bytes. The last digit is stored first. They are made here and by no
-    // crate, since faults in them are edits of this code (must-fail: highest_digit_last, zero_for_minus), and no list
+    // Fills a part of the output that has as many bytes. The last digit is stored first. The digits are made here and by
+    // no crate, since faults in them are edits of this code (must-fail: highest_digit_last, zero_for_minus), and no list
     // of their own holds them first, since a copy of it takes longer than they do.
     fn fill(self, part: &mut [u8])
         requires { length part.old ≡ length (numeral self.below self.digits) }

@@ -31,7 +31,7 @@ pub trait Piece: Copy {
         ensures { put_at (bytes self) at out.old ≡ (result, out.new) };
 
     // Puts the parts of the piece one after another, each of them as `put_text` does, and gives the place after the
-    // last. Its caller asks for the room of the whole first: once, and not again at each piece of a piece.
+    // last. Its caller asks for the room of the whole first, once; each part then asks for its own alone.
     fn lay(self, out: &mut [u8], at: usize) -> usize
         ensures { puts (parts self) at out.old ≡ (result, out.new) };
 

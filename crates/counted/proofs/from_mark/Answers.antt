@@ -1,5 +1,5 @@
 -- `from_mark` meets its contract: the first read that is unlike the level is the mark.
-use Rattle.std.proofs.Common.{◌≡◌, ◌≢◌, ℕ, List, ◌∷◌, ◌+◌, ◌-◌, ◌∙◌, length, drop, sym, arith, rules, tests, refl}
+use Rattle.std.proofs.Common.{◌≡◌, ◌≢◌, ℕ, List, ◌∷◌, ◌+◌, ◌-◌, length, take, drop, sym, arith, rules, tests, refl}
 use Rattle.std.proofs.lemmas.List.{take_all, length-drop}
 use Rattle.std.proofs.lemmas.Iterator.{IsFirst-from_position, YieldsList-from_slice, index_from_first}
 use borrow.Author.Tests.{eq-eqb, ne_eqb}
@@ -19,14 +19,28 @@ before_more : (level read : ℕ) (reads : List ℕ) → read ≡ level → befor
 unfolding from_mark
 before_more level read reads same = rw (eq-eqb read level same) (omega (arith, marked_few level reads))
 
-pub returns : goal.returns
+-- the mark, as the search found it
+marked_at : (level : ℕ) (reads : List ℕ) (mark size : ℕ) → mark ≡ before level reads → size ≡ length reads - mark
+    → take size (drop mark reads) ≡ from_mark level reads
+marked_at level reads mark size place room =
+    let rest = drop (before level reads) reads in
+    rw (room, place, take_all (length reads - before level reads) rest (omega (arith, length-drop (before level reads) reads)))
+    (sym (mark_dropped level reads))
+
+pub returns-in-Some : goal.returns-in-Some
 unfolding from_mark
-returns c =
+returns-in-Some c =
     let level = c.args.level in
     let reads = c.args.reads.now in
     let first = IsFirst-from_position _ _ _ (λ x. x ≢ level) (λ x. x ≡ level) c.position.ensures.ran (YieldsList-from_slice reads cc) (λ x q k. search (rules, tests)) (λ x q k. search (rules, tests)) in
     let found = index_from_first (before level) (λ x. x ≢ level) (λ x. x ≡ level) refl (before_mark level) (before_more level) reads c.position.result first in
-    let place = c.unwrap_or-mark.ensures ∙ sym found in
-    let rest = drop (before level reads) reads in
-    rw (place, take_all (length reads - before level reads) rest (omega (arith, length-drop (before level reads) reads)))
-    (sym (mark_dropped level reads))
+    marked_at level reads _ _ (omega (arith, rw c.in-Some.is at found)) (omega arith)
+
+pub returns-in-None : goal.returns-in-None
+unfolding from_mark
+returns-in-None c =
+    let level = c.args.level in
+    let reads = c.args.reads.now in
+    let first = IsFirst-from_position _ _ _ (λ x. x ≢ level) (λ x. x ≡ level) c.position.ensures.ran (YieldsList-from_slice reads cc) (λ x q k. search (rules, tests)) (λ x q k. search (rules, tests)) in
+    let found = index_from_first (before level) (λ x. x ≢ level) (λ x. x ≡ level) refl (before_mark level) (before_more level) reads c.position.result first in
+    marked_at level reads _ _ (sym (rw c.in-None.is at found)) refl

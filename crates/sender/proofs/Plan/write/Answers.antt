@@ -1,5 +1,6 @@
 -- `Plan::write` meets its contract: the waves of the rows left are still to be stored.
 use Rattle.std.proofs.Common.{◌≡◌, sym, ◌∙◌, arith, length, inl, inr}
+use Rattle.std.proofs.lemmas.List.{take_all}
 use Rattle.std.specs.Iterator.Adapters.{zip_first, zip_second}
 use Rattle.std.specs.Slice.Iter.{iter_rest, chunks_exact_rest}
 use Rattle.measure.proofs.Stores.{stored_none, stored_part, stored_all, stored_next}
@@ -28,7 +29,7 @@ write_wave-at-requires c =
     let next =
     plan_next a b c.args.self.n lead row _ _ _ _ turn.0 turn.1.1.0 (turn.1.1.1 ∙ loop.invariant.0) loop.invariant.2 in
     let room = stored_next (wave a b lead row) _ next (omega arith) in
-    omega (arith, length_wave a b lead row, room)
+    grind (arith, length_wave a b lead row, room, take_all)
 
 pub loop-lead-preserved : goal.loop-lead-preserved
 loop-lead-preserved c =
@@ -43,8 +44,8 @@ loop-lead-preserved c =
     let next = plan_next a b c.args.self.n lead row _ _ _ _ turn.0 turn.1.1.0 long loop.invariant.2 in (
       turn.1.0 ∙ loop.invariant.0,
       bits_next c.args.self.n lead row _ _ _ _ turn.0 turn.1.1.0 long loop.invariant.1,
-      stored_part (wave a b lead row) written.new.out written.result next (sym written.ensures.1)
-          (omega (arith, length_wave a b lead row)),
+      stored_part (wave a b lead row) written.new.out written.result next (grind (arith, written.ensures.1, take_all))
+          (grind (arith, length_wave a b lead row, take_all)),
     )
 
 pub returns : goal.returns
