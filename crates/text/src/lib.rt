@@ -93,9 +93,9 @@ impl Numeral {
         if self.below { digits + 1 } else { digits }
     }
 
-    // Fills a part of the output that has as many bytes. The last digit is stored first. The digits are made here and by
-    // no crate, since faults in them are edits of this code (must-fail: highest_digit_last, zero_for_minus), and no list
-    // of their own holds them first, since a copy of it takes longer than they do.
+    // Fills a part of the output that has as many bytes, the last digit first. The digits are made here and not by the
+    // library, since faults in them are edits of this code (must-fail: highest_digit_last, zero_for_minus). They are
+    // stored where they go, since to copy them from a list of their own takes longer than to make them.
     fn fill(self, part: &mut [u8])
         requires { length part.old ≡ length (numeral self.below self.digits) }
         ensures { part.new ≡ numeral self.below self.digits }

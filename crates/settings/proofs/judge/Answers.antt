@@ -1,12 +1,12 @@
 -- `judge` meets its contract: out of range it refuses, and otherwise the margins and their signs are the definition's.
-use Rattle.std.proofs.Common.{arith, refl}
+use Rattle.std.proofs.Common.{arith}
 use Rattle.settings.specs.Answers.{judgement}
 use Rattle.settings.proofs.Judging.{judged}
 use Rattle.settings.proofs.judge.Goals as goal
 
 pub returns-in_default : goal.returns-in_default
 unfolding judgement
-returns-in_default c = rw c.in_default.ensures.err.1 (grind (arith, refl))
+returns-in_default c = grind (arith, c.in_default.ensures.err.1)
 
 pub returns : goal.returns
 returns c =

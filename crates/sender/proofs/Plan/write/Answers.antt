@@ -18,6 +18,7 @@ loop-lead-init c =
     let bits : chunks_exact_rest (zip_second c.into_iter-lead-iterator.result) ≡ plan.bits.now = cc in
     (cc, rw (leads, bits) ok.bits_fit, rw (leads, bits) (stored_none _ _ _))
 
+-- `take_all` lets the row be got in another way, so that the fault plan_first_row_again breaks the loop alone
 pub write_wave-at-requires : goal.write_wave-at-requires
 write_wave-at-requires c =
     let turn = c.in-Some.ensures.steps in
